@@ -1,0 +1,9 @@
+pub mod Instruction
+pub mod State
+pub mod Translation
+pub mod Declaration
+pub mod Bounds
+pub mod Step
+pub mod Call
+pub mod Events
+pub mod Settling
