@@ -7,3 +7,4 @@ pub mod Step
 pub mod Call
 pub mod Events
 pub mod Settling
+pub mod AtPlace

@@ -16,7 +16,7 @@ use crate::plain::{
     Access, Context, Decl, Event, Flags, FlatThread, Frame, GroupRights, Machine, Reason, Row,
     SpaceNo, Status, ThreadNo, Vpn,
 };
-use crate::thread::{complete_call, is_ready, is_trapped, take_instruction};
+use crate::thread::{complete_at, end_thread, is_in_call, next_fetch, take_word};
 
 const NO_RIGHTS: [GroupRights; 16] = [GroupRights {
     read: false,
@@ -157,27 +157,22 @@ impl Flat {
         ensures { self.new ≡ unwrap_or (after_step self.old no.0) self.old }
     {
         let at = no.0 as usize;
-        let Some(thread) = self.threads.get_mut(at) else {
+        let Some((space, va)) = next_fetch(&self.threads, at) else {
             return;
         };
-        if !is_ready(thread.status) {
-            return;
-        }
-        let va = thread.context.pc;
-        let place = row_place(&self.rows, thread.space, Vpn(va / 4096));
+        let place = row_place(&self.rows, space, Vpn(va / 4096));
         let row = row_at(&self.rows, place);
         match fetch_through(&self.kernels, &self.spaces, row) {
             Err(kind) => {
                 let access = Access::Fetch;
-                thread.status = Status::Ended(Reason::Fault { kind, access, va });
+                let reason = Reason::Fault { kind, access, va };
+                end_thread(&mut self.threads, at, reason);
             }
             Ok(row) => {
-                let word = word_at(
-                    &self.memory,
-                    4096 * row.frame.0 as usize + (va % 4096) as usize,
-                );
+                let place_of_word = 4096 * row.frame.0 as usize + (va % 4096) as usize;
+                let word = word_at(&self.memory, place_of_word);
                 mark(&mut self.rows, place, row);
-                take_instruction(thread, word);
+                take_word(&mut self.threads, at, word);
             }
         }
     }
@@ -186,12 +181,10 @@ impl Flat {
         ensures ok { OnOk result (self.new ≡ unwrap_or (after_completion self.old no.0) self.old) }
         ensures err { OnErr result (self.new ≡ self.old) }
     {
-        let Some(thread) = self.threads.get_mut(no.0 as usize) else {
-            return Ok(());
-        };
-        if !is_trapped(thread.status) {
+        let at = no.0 as usize;
+        if !is_in_call(&self.threads, at) {
             return Ok(());
         }
-        complete_call(thread)
+        complete_at(&mut self.threads, at)
     }
 }

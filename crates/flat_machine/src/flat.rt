@@ -10,7 +10,7 @@ use crate::fetch::row_place;
 use crate::plain::{
     FlatThread, GroupRights, KernelNo, Machine, Row, Settled, SpaceNo, ThreadNo, Vpn,
 };
-use crate::thread::{is_ended, is_trapped};
+use crate::thread::{all_ended, any_trapped};
 use std::alloc::Global;
 use std::marker::Model;
 
@@ -93,11 +93,10 @@ impl Flat {
     pub fn settled(&self, steps: u64, limit: u64) -> Settled
         ensures { result ≡ settled_of self.now steps limit }
     {
-        if self.threads.iter().all(|t| is_ended(t.status)) {
+        if all_ended(&self.threads) {
             return Settled::Done;
         }
-        let in_call = self.threads.iter().any(|t| is_trapped(t.status));
-        if !in_call && steps == limit {
+        if !any_trapped(&self.threads) && steps == limit {
             return Settled::Spent;
         }
         Settled::Running
