@@ -1,6 +1,23 @@
 -- What is told of many reads and of many writes.
-use Rattle.std.specs.Prelude.{◌<◌, ℕ, List, Option, length, take}
+use Rattle.std.specs.Prelude.{◌<◌, ℕ, List, Option, Result, Err, ⊤, length, take}
 use Rattle.std.specs.Io.KnownBytes.{Appends, Consumes}
+use Rattle.byte_ports.specs.declared.whole.ReadError.{ReadError}
+use Rattle.byte_ports.specs.declared.whole.ReadError.TheVariants.{TooLong, Failed}
+
+-- P where the answer is that the source was too long
+abbrev pub OnTooLong : {X : Type 0} → Result X ReadError → Type 0 → Type 0
+OnTooLong (Err TooLong) P = P
+OnTooLong _ P = ⊤
+
+-- P where the answer is that a read failed
+abbrev pub OnFailed : {X : Type 0} → Result X ReadError → Type 0 → Type 0
+OnFailed (Err Failed) P = P
+OnFailed _ P = ⊤
+
+-- P where the answer isn't that a read failed
+abbrev pub UnlessFailed : {X : Type 0} → Result X ReadError → Type 0 → Type 0
+UnlessFailed (Err Failed) P = ⊤
+UnlessFailed _ P = P
 
 -- more than `limit` bytes were taken
 abbrev pub TakesMore : Option (List ℕ) → Option (List ℕ) → ℕ → Type 0

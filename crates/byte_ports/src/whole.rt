@@ -1,8 +1,8 @@
 // Whole texts from a source and to a sink.
-ghost use Rattle.std.specs.Prelude.{◌≡◌, ◌<◌, ◌≤◌, ◌↔◌, ℕ, List, Option, IfOk, OnOk, OnErr, IsErrOf, IfSome, length, take, vec_len};
-ghost use Rattle.std.specs.Io.KnownBytes.{Appends, Consumes, IsAtEnd, Keeps};
-ghost use Rattle.byte_ports.specs.Faults.{last_count, HasRisen};
-ghost use Rattle.byte_ports.specs.Whole.{TakesMore, AppendsFront};
+ghost use Rattle.std.specs.Prelude.{◌≡◌, ◌<◌, ◌≤◌, IfOk, OnOk, OnErr, IfSome, length, vec_len};
+ghost use Rattle.std.specs.Io.KnownBytes.{Appends, IsAtEnd};
+ghost use Rattle.byte_ports.specs.Faults.{HasRisen};
+ghost use Rattle.byte_ports.specs.Whole.{OnTooLong, OnFailed, UnlessFailed, TakesMore, AppendsFront};
 
 use crate::ports::{Failed, Sink, Source};
 use std::alloc::Global;
@@ -30,11 +30,11 @@ pub fn read_to_end<S: Source>(
     ensures within { IfOk result (λ bytes. vec_len bytes ≤ limit) }
     ensures whole { IfOk result (λ bytes. IfSome (S.bytes_left source.old) (λ left. bytes.items ≡ left)) }
     ensures end { OnOk result (IsAtEnd (S.bytes_left source.new)) }
-    ensures too_long { IsErrOf result ReadError.TooLong → IfSome (S.bytes_left source.old) (λ left. limit < length left) }
-    ensures taken { IsErrOf result ReadError.TooLong →
-        TakesMore (S.bytes_left source.old) (S.bytes_left source.new) limit }
-    ensures failed { IsErrOf result ReadError.Failed → HasRisen (S.faults source.old) (S.faults source.new) }
-    ensures faultless { ¬ IsErrOf result ReadError.Failed → S.faults source.new ≡ S.faults source.old }
+    ensures too_long { OnTooLong result (IfSome (S.bytes_left source.old) (λ left. limit < length left)) }
+    ensures taken { OnTooLong result
+        (TakesMore (S.bytes_left source.old) (S.bytes_left source.new) limit) }
+    ensures fault { OnFailed result (HasRisen (S.faults source.old) (S.faults source.new)) }
+    ensures faultless { UnlessFailed result (S.faults source.new ≡ S.faults source.old) }
 {
     let mut bytes = Vec::new(alloc);
     let mut piece = [0; PIECE];
