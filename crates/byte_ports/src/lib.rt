@@ -2,8 +2,12 @@
 //! less than was asked for, and may fail.
 #![tactic(auto)]
 
+mod memory;
 mod ports;
+mod streams;
 mod whole;
 
+pub use memory::{MemSink, MemSource};
 pub use ports::{Failed, NoMemory, Sink, Source};
+pub use streams::{FromRead, ToWrite};
 pub use whole::{ReadError, read_to_end, write_all};
