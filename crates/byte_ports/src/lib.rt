@@ -11,3 +11,6 @@ pub use memory::{MemSink, MemSource};
 pub use ports::{Failed, NoMemory, Sink, Source};
 pub use streams::{FromRead, ToWrite};
 pub use whole::{ReadError, read_to_end, write_all};
+
+#[cfg(test)]
+mod tests;
