@@ -1,0 +1,4 @@
+pub mod Faults
+pub mod Whole
+pub mod MemSource
+pub mod MemSink

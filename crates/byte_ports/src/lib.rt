@@ -1,0 +1,16 @@
+//! Where the program's bytes come from and where they go: sources and sinks that may give and take
+//! less than was asked for, and may fail.
+#![tactic(auto)]
+
+mod memory;
+mod ports;
+mod streams;
+mod whole;
+
+pub use memory::{MemSink, MemSource};
+pub use ports::{Failed, NoMemory, Sink, Source};
+pub use streams::{FromRead, ToWrite};
+pub use whole::{ReadError, read_to_end, write_all};
+
+#[cfg(test)]
+mod tests;
