@@ -2,14 +2,13 @@
 
 ghost use Rattle.std.specs.Prelude.{◌≡◌, ◌+◌, ◌*◌, ◌≤◌, None, Some, OnOk, OnErr, unwrap_or, length, replicate, option_copied};
 ghost use Rattle.std.specs.Int.{w32, to_le_bytes};
-ghost use Rattle.flat_machine.specs.Translation.{row_at as row_at_lem};
 ghost use Rattle.flat_machine.specs.Declaration.{broken_rule, declared, with_bytes, new_thread as new_thread_lem, new_row as new_row_lem};
 ghost use Rattle.flat_machine.specs.Step.{after_step, with_mark};
 ghost use Rattle.flat_machine.specs.Call.{after_completion};
 ghost use Rattle.flat_machine.specs.Events.{applied};
 
 use crate::NoMemory;
-use crate::fetch::{fetch_through, row_place, word_at};
+use crate::fetch::{fetch_through, row_at, row_place, word_at};
 use crate::flat::Flat;
 use crate::output::Output;
 use crate::plain::{
@@ -57,12 +56,6 @@ fn store_word(memory: &mut [u8], at: usize, value: u32)
     memory[at + 1] = bytes[1];
     memory[at + 2] = bytes[2];
     memory[at + 3] = bytes[3];
-}
-
-fn row_at(rows: &[Row], place: Option<usize>) -> Option<Row>
-    ensures { result ≡ row_at_lem rows.now place }
-{
-    rows.get(place?).copied()
 }
 
 // Marks the row at that place, whose content is given, as gone through.

@@ -1,7 +1,7 @@
 //! How the address of an instruction translates.
 
 ghost use Rattle.std.specs.Prelude.{◌≡◌, ◌<◌, ◌^◌, slice_index};
-ghost use Rattle.flat_machine.specs.Translation.{row_place as row_place_lem, allows as allows_lem, is_fit as is_fit_lem, fetch_through as fetch_through_lem};
+ghost use Rattle.flat_machine.specs.Translation.{row_place as row_place_lem, row_at as row_at_lem, allows as allows_lem, is_fit as is_fit_lem, fetch_through as fetch_through_lem};
 ghost use Rattle.flat_machine.specs.Step.{word_at as word_at_lem};
 
 use crate::plain::{FaultKind, Flags, GroupRights, KernelNo, Row, SpaceNo, Vpn};
@@ -18,6 +18,13 @@ fn allows(right: GroupRights, flags: Flags) -> bool
     ensures { result ≡ allows_lem right flags }
 {
     (right.read || !(flags.r || flags.x)) && (right.write || !flags.w)
+}
+
+/// The row at a place, if there is a place.
+pub fn row_at(rows: &[Row], place: Option<usize>) -> Option<Row>
+    ensures { result ≡ row_at_lem rows.now place }
+{
+    rows.get(place?).copied()
 }
 
 /// Whether the rights of the row's kernel cover its flags on its frame.

@@ -3,10 +3,11 @@
 ghost use Rattle.std.specs.Prelude.{◌≡◌, length, slice_get};
 ghost use Rattle.std.specs.Option.{option_copied};
 ghost use Rattle.flat_machine.specs.State.{nothing_declared};
-ghost use Rattle.flat_machine.specs.Translation.{row_place as row_place_lem, row_at};
+ghost use Rattle.flat_machine.specs.Translation.{row_place as row_place_lem, row_at as row_at_lem};
+ghost use Rattle.flat_machine.specs.Step.{faults as faults_lem};
 ghost use Rattle.flat_machine.specs.Settling.{settled_of};
 
-use crate::fetch::row_place;
+use crate::fetch::{fetch_through, row_at, row_place};
 use crate::plain::{
     FlatThread, GroupRights, KernelNo, Machine, Row, Settled, SpaceNo, ThreadNo, Vpn,
 };
@@ -83,10 +84,22 @@ impl Flat {
 
     /// The first row of that page, and none where there is none. It looks through the rows.
     pub fn row(&self, space: SpaceNo, vpn: Vpn) -> Option<&Row>
-        ensures { option_copied result ≡ row_at self.now.rows (row_place_lem self.now.rows space.0 vpn.0) }
+        ensures { option_copied result ≡ row_at_lem self.now.rows (row_place_lem self.now.rows space.0 vpn.0) }
     {
         let place = row_place(&self.rows, space, vpn)?;
         self.rows.get(place)
+    }
+
+    /// Whether the address of the thread's next instruction doesn't translate. It looks through the rows.
+    pub fn faults(&self, no: ThreadNo) -> bool
+        ensures { result ≡ faults_lem self.now no.0 }
+    {
+        let Some(thread) = self.threads.get(no.0 as usize) else {
+            return false;
+        };
+        let page = Vpn(thread.context.pc / 4096);
+        let row = row_at(&self.rows, row_place(&self.rows, thread.space, page));
+        fetch_through(&self.kernels, &self.spaces, row).is_err()
     }
 
     /// Whether a run of so many steps is over, at that limit. It looks through the threads.
