@@ -1,0 +1,90 @@
+-- Journals that grow.
+use Rattle.std.proofs.Common.{◌≡◌, ◌≢◌, ℕ, ◌+◌, Bool, true, false, cond, subst, List, [], ◌∷◌, ◌++◌, Option, Some, None, refl, sym, ap, ◌∙◌, append_assoc, arith}
+use Rattle.std.specs.Prelude.{map, count_by}
+use Rattle.std.proofs.lemmas.List.{append-nil}
+use Rattle.std.proofs.lemmas.List.Sums.{sum_by-append}
+use Rattle.flat_machine.specs.declared.plain.Decl.{Decl}
+use Rattle.flat_machine.specs.declared.plain.Event.TheVariants.{Declare}
+use Rattle.flat_machine.specs.declared.plain.Settled.{Settled}
+use Rattle.flat_machine.specs.declared.plain.Settled.TheVariants.{Running}
+use Rattle.flat_machine.specs.State.{FlatState, nothing_declared}
+use Rattle.flat_machine.specs.Declaration.{broken_rule, declared}
+use Rattle.flat_machine.specs.Events.{AllFit, applied, after_events, after_declarations, flat}
+use Rattle.flat_machine.specs.Settling.{settled_of}
+use Rattle.proc_run.specs.declared.journal.Entry.{Entry}
+use Rattle.proc_run.specs.declared.journal.Entry.TheVariants.{Declared, Sealed, Ran, Ended, Completed}
+use Rattle.proc_run.specs.Journals.{events_of, erase, is_step, steps_in, opening}
+use Rattle.proc_run.specs.Legality.{EntryIsLegal, AreLegal, IsLegal}
+use Rattle.proc_run.specs.Running.{Extends, IsRun}
+use Rattle.proc_run.proofs.Steps.{after_events-append}
+
+pub erase-append : (j k : List Entry) → erase (j ++ k) ≡ erase j ++ erase k
+erase-append [] k = refl
+erase-append (e ∷ j) k = ap (λ es. events_of e ++ es) (erase-append j k) ∙ sym (append_assoc (events_of e) (erase j) (erase k))
+
+-- behind the seal, legal entries after legal entries are legal
+pub legal-append : (s : FlatState) (j k : List Entry) → AreLegal s true j → AreLegal (after_events s (erase j)) true k → AreLegal s true (j ++ k)
+legal-append s [] k first second = second
+legal-append s (e ∷ j) k first second =
+    let later : AreLegal (after_events (after_events s (events_of e)) (erase j)) true k = subst (λ (x : FlatState). AreLegal x true k) (after_events-append s (events_of e) (erase j)) second in
+    (first.0, legal-append (after_events s (events_of e)) j k first.1 later)
+
+-- nothing happens
+pub extends_none : (s : FlatState) (j : List Entry) → Extends s j s j 0
+extends_none s j = record { rest = []; grown = sym (append-nil j); legal = tt; state = refl; count = refl }
+
+-- one legal entry
+pub extends_one : (s : FlatState) (j : List Entry) (e : Entry) → EntryIsLegal s true e → Extends s j (after_events s (events_of e)) (j ++ e ∷ []) (count_by is_step (events_of e))
+extends_one s j e legal = record {
+  rest = e ∷ [];
+  grown = refl;
+  legal = (legal, tt);
+  state = ap (after_events s) (sym (append-nil (events_of e)));
+  count = ap (count_by is_step) (sym (append-nil (events_of e)));
+}
+
+steps_in-append : (j k : List Entry) → steps_in (j ++ k) ≡ steps_in j + steps_in k
+steps_in-append j k = ap (count_by is_step) (erase-append j k) ∙ sum_by-append (λ e. cond (is_step e) 1 0) (erase j) (erase k)
+
+after_erased-append : (s : FlatState) (j k : List Entry) → after_events s (erase (j ++ k)) ≡ after_events (after_events s (erase j)) (erase k)
+after_erased-append s j k = ap (after_events s) (erase-append j k) ∙ after_events-append s (erase j) (erase k)
+
+pub extends_then : (s t u : FlatState) (j k l : List Entry) (m n : ℕ) → Extends s j t k m → Extends t k u l n → Extends s j u l (m + n)
+extends_then s t u j k l m n first second = record {
+  rest = first.rest ++ second.rest;
+  grown = second.grown ∙ ap (λ (x : List Entry). x ++ second.rest) first.grown ∙ append_assoc j first.rest second.rest;
+  legal = legal-append s first.rest second.rest first.legal (subst (λ (x : FlatState). AreLegal x true second.rest) first.state second.legal);
+  state = second.state ∙ ap (λ (x : FlatState). after_events x (erase second.rest)) first.state ∙ sym (after_erased-append s first.rest second.rest);
+  count = omega (arith, first.count, second.count, steps_in-append first.rest second.rest);
+}
+
+-- a declaration that breaks no rule is made
+pub declared_is : (s : FlatState) (d : Decl) → broken_rule s d ≡ None → applied s (Declare d) ≡ declared s d
+declared_is s d fit = rw fit refl
+
+-- declarations that fit, the seal, and legal entries behind it are a legal journal
+pub legal_opening : (s : FlatState) (ds : List Decl) (rest : List Entry) → AllFit s ds → AreLegal (after_declarations s ds) true rest → AreLegal s false (opening ds ++ rest)
+legal_opening s [] rest fit legal = (refl, legal)
+legal_opening s (d ∷ ds) rest fit legal =
+    ((refl, fit.0), subst (λ (x : FlatState). AreLegal x false (opening ds ++ rest)) (sym (declared_is s d fit.0)) (legal_opening (declared s d) ds rest fit.1 legal))
+
+pub erased_opening : (s : FlatState) (ds : List Decl) → AllFit s ds → after_events s (erase (opening ds)) ≡ after_declarations s ds
+erased_opening s [] fit = refl
+erased_opening s (d ∷ ds) fit = ap (λ (x : FlatState). after_events x (erase (opening ds))) (declared_is s d fit.0) ∙ erased_opening (declared s d) ds fit.1
+
+no_steps : (ds : List Decl) → steps_in (opening ds) ≡ 0
+no_steps [] = refl
+no_steps (d ∷ ds) = no_steps ds
+
+-- a run goes on from the seal to its end
+pub is_run : (ds : List Decl) (j : List Entry) (s : FlatState) (settled : Settled) (steps limit : ℕ) → AllFit nothing_declared ds
+    → Extends (after_declarations nothing_declared ds) (opening ds) s j steps → settled ≡ settled_of s steps limit → settled ≢ Running → IsRun ds j s settled steps limit
+is_run ds j s settled steps limit fit extends status over = record {
+  rest = extends.rest;
+  begins = extends.grown;
+  legal = subst IsLegal (sym extends.grown) (legal_opening nothing_declared ds extends.rest fit extends.legal);
+  state = extends.state ∙ ap (λ (x : FlatState). after_events x (erase extends.rest)) (sym (erased_opening nothing_declared ds fit)) ∙ sym (after_erased-append nothing_declared (opening ds) extends.rest) ∙ ap (λ (x : List Entry). flat (erase x)) (sym extends.grown);
+  count = omega (arith, extends.count, no_steps ds, steps_in-append (opening ds) extends.rest, ap steps_in extends.grown);
+  status = status;
+  over = over;
+}

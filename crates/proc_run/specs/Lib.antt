@@ -1,0 +1,4 @@
+pub mod Journals
+pub mod Legality
+pub mod Reports
+pub mod Running

@@ -1,0 +1,94 @@
+-- The report of a machine.
+use Rattle.std.specs.Prelude.{ℕ, ◌+◌, ◌/◌, ◌%◌, nat_lt, Bool, ◌&&◌, ◌==◌, if◌then◌else◌, List, [], ◌∷◌, ◌++◌, length, count_by, codes, slice_index}
+use Rattle.std.specs.Fmt.{decimal}
+use Rattle.std.specs.List.{flat_map}
+use Rattle.flat_machine.specs.declared.plain.KernelNo.{KernelNo}
+use Rattle.flat_machine.specs.declared.plain.Row.{Row}
+use Rattle.flat_machine.specs.declared.plain.Access.{Access}
+use Rattle.flat_machine.specs.declared.plain.Access.TheVariants as accesses
+use Rattle.flat_machine.specs.declared.plain.FaultKind.{FaultKind}
+use Rattle.flat_machine.specs.declared.plain.FaultKind.TheVariants as kinds
+use Rattle.flat_machine.specs.declared.plain.Reason.{Reason}
+use Rattle.flat_machine.specs.declared.plain.Reason.TheVariants.{Exited, Fault, Illegal, BadCall}
+use Rattle.flat_machine.specs.declared.plain.Status.{Status}
+use Rattle.flat_machine.specs.declared.plain.Status.TheVariants.{Ready, Trapped, Ended}
+use Rattle.flat_machine.specs.declared.plain.FlatThread.{FlatThread}
+use Rattle.flat_machine.specs.declared.plain.Settled.{Settled}
+use Rattle.flat_machine.specs.declared.plain.Settled.TheVariants.{Done, Spent, Running}
+use Rattle.flat_machine.specs.State.{FlatState}
+
+-- a hexadecimal digit, in lower case
+abbrev pub hex_digit : ℕ → ℕ
+hex_digit d = if nat_lt d 10 then 48 + d else 87 + d
+
+-- the eight hexadecimal digits of a word, behind 0x
+unfoldable pub word_text : ℕ → List ℕ
+word_text word =
+    codes "0x" ++ hex_digit (word / 268435456 % 16) ∷ hex_digit (word / 16777216 % 16) ∷ hex_digit (word / 1048576 % 16) ∷ hex_digit (word / 65536 % 16)
+    ∷ hex_digit (word / 4096 % 16) ∷ hex_digit (word / 256 % 16) ∷ hex_digit (word / 16 % 16) ∷ hex_digit (word % 16) ∷ []
+
+abbrev pub settled_text : Settled → List ℕ
+settled_text Done = codes "done"
+settled_text Spent = codes "spent"
+settled_text Running = codes "running"
+
+abbrev pub kind_text : FaultKind → List ℕ
+kind_text kinds.Page = codes "page"
+kind_text kinds.Flags = codes "flags"
+kind_text kinds.Rights = codes "rights"
+
+abbrev pub access_text : Access → List ℕ
+access_text accesses.Fetch = codes "fetch"
+access_text accesses.Read = codes "read"
+access_text accesses.Write = codes "write"
+
+abbrev pub reason_text : Reason → List ℕ
+reason_text (Exited code) = codes "exit " ++ decimal code
+reason_text (Fault kind access va) = codes "fault " ++ kind_text kind ++ codes " " ++ access_text access ++ codes " " ++ word_text va
+reason_text (Illegal word) = codes "illegal " ++ word_text word
+reason_text (BadCall number) = codes "badcall " ++ decimal number
+
+-- where a thread stands. The number of a call is in a7, which is x17
+abbrev pub state_text : Status → List ℕ → List ℕ
+state_text Ready regs = codes "ready"
+state_text Trapped regs = codes "call " ++ decimal (slice_index regs 17)
+state_text (Ended reason) regs = reason_text reason
+
+-- what was put out, and a line feed, where it is anything
+abbrev pub output_text : List ℕ → List ℕ
+output_text [] = []
+output_text (b ∷ bs) = (b ∷ bs) ++ codes "\n"
+
+unfoldable pub thread_text : FlatThread → List ℕ
+thread_text t =
+    codes "thread " ++ decimal t.no.0 ++ codes " " ++ state_text t.status t.context.regs ++ codes " out " ++ decimal (length t.output) ++ codes "\n" ++ output_text t.output
+
+abbrev pub is_of : ℕ → Row → Bool
+is_of space row = row.space.0 == space
+
+abbrev pub is_referenced_of : ℕ → Row → Bool
+is_referenced_of space row = is_of space row && row.referenced
+
+abbrev pub is_modified_of : ℕ → Row → Bool
+is_modified_of space row = is_of space row && row.modified
+
+-- how many rows there are of something, and which
+unfoldable pub count_text : List ℕ → ℕ → List ℕ
+count_text what count = codes " " ++ what ++ codes " " ++ decimal count
+
+-- how many rows a space has, and how many of them have each bit
+unfoldable pub space_text : List Row → ℕ → List ℕ
+space_text rows space =
+    codes "space " ++ decimal space ++ count_text (codes "rows") (count_by (is_of space) rows)
+    ++ count_text (codes "referenced") (count_by (is_referenced_of space) rows)
+    ++ count_text (codes "modified") (count_by (is_modified_of space) rows) ++ codes "\n"
+
+-- a line for each space from a number on
+abbrev pub spaces_text : List Row → ℕ → List KernelNo → List ℕ
+spaces_text rows from [] = []
+spaces_text rows from (kernel ∷ kernels) = space_text rows from ++ spaces_text rows (from + 1) kernels
+
+-- the lines on the run, its spaces and its threads
+abbrev pub report : FlatState → Settled → ℕ → List ℕ
+report s settled steps =
+    codes "status " ++ settled_text settled ++ codes "\nsteps " ++ decimal steps ++ codes "\n" ++ spaces_text s.rows 0 s.spaces ++ flat_map thread_text s.threads

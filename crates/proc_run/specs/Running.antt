@@ -1,0 +1,43 @@
+-- What a part of a run does to the machine and to the journal.
+use Rattle.std.specs.Prelude.{◌≡◌, ◌≢◌, ℕ, ◌+◌, ◌*◌, ◌≤◌, Bool, true, false, List, [], ◌∷◌, ◌++◌, Option, Some, None, count_by}
+use Rattle.flat_machine.specs.declared.plain.Decl.{Decl}
+use Rattle.flat_machine.specs.declared.plain.Status.{Status}
+use Rattle.flat_machine.specs.declared.plain.FlatThread.{FlatThread}
+use Rattle.flat_machine.specs.declared.plain.Settled.{Settled}
+use Rattle.flat_machine.specs.declared.plain.Settled.TheVariants.{Running}
+use Rattle.flat_machine.specs.State.{FlatState}
+use Rattle.flat_machine.specs.Call.{is_trapped}
+use Rattle.flat_machine.specs.Events.{after_events, flat}
+use Rattle.flat_machine.specs.Settling.{settled_of}
+use Rattle.proc_run.specs.declared.journal.Entry.{Entry}
+use Rattle.proc_run.specs.Journals.{erase, steps_in, opening}
+use Rattle.proc_run.specs.Legality.{AreLegal, IsLegal}
+
+-- is there a thread, and does its status pass a test?
+abbrev pub stands_so : (Status → Bool) → Option FlatThread → Bool
+stands_so test None = false
+stands_so test (Some t) = test t.status
+
+-- how many threads are in a call
+abbrev pub trapped_count : FlatState → ℕ
+trapped_count s = count_by (λ t. is_trapped t.status) s.threads
+
+-- The journal grew by legal entries with so many steps, and the machine is the one that they make.
+pub record Extends (old : FlatState) (before : List Entry) (new : FlatState) (after : List Entry) (steps : ℕ) : Type 0 where
+  pub rest : List Entry
+  pub grown : after ≡ before ++ rest
+  pub legal : AreLegal old true rest
+  pub state : new ≡ after_events old (erase rest)
+  pub count : steps ≡ steps_in rest
+
+-- The journal of a run of these declarations to its end, at a limit of steps, with the machine that it leaves.
+pub record IsRun (ds : List Decl) (j : List Entry) (s : FlatState) (settled : Settled) (steps limit : ℕ) : Type 0 where
+  -- it begins with the declarations and the seal
+  pub rest : List Entry
+  pub begins : j ≡ opening ds ++ rest
+  pub legal : IsLegal j
+  -- the machine is the one with unlimited tables on what is left of the journal
+  pub state : s ≡ flat (erase j)
+  pub count : steps ≡ steps_in j
+  pub status : settled ≡ settled_of s steps limit
+  pub over : settled ≢ Running

@@ -1,0 +1,201 @@
+//! How a machine runs, and how the journal comes along.
+
+ghost use Rattle.std.specs.Prelude.{◌≡◌, ◌≢◌, ◌<◌, ◌≤◌, ◌+◌, ◌*◌, ◌++◌, true, false, IfSome, IfNone, OnOk, IfOk, map, slice_get};
+ghost use Rattle.std.specs.List.{list_any};
+ghost use Rattle.flat_machine.specs.State.{nothing_declared};
+ghost use Rattle.flat_machine.specs.Step.{is_ready as is_ready_lem, faults};
+ghost use Rattle.flat_machine.specs.Call.{is_trapped as is_trapped_lem};
+ghost use Rattle.flat_machine.specs.Events.{AllFit, after_declarations};
+ghost use Rattle.flat_machine.specs.Settling.{settled_of};
+ghost use Rattle.proc_run.specs.declared.journal.Entry.TheVariants.{Declared};
+ghost use Rattle.proc_run.specs.Legality.{TakesSteps, after_steps};
+ghost use Rattle.proc_run.specs.Running.{stands_so, trapped_count, Extends, IsRun};
+
+use crate::journal::{Entry, Journal};
+use flat_machine::{Decl, Event, Flat, NoMemory, Settled, Status, ThreadNo};
+use std::alloc::Global;
+
+/// How many steps one entry stands for at most.
+const QUANTUM: u64 = 256;
+
+/// A machine whose run is over, with its journal.
+#[derive(Drop)]
+pub struct Finished {
+    pub flat: Flat,
+    pub journal: Journal,
+    pub settled: Settled,
+    pub steps: u64,
+}
+
+fn is_ready(flat: &Flat, no: ThreadNo) -> bool
+    ensures { result ≡ stands_so is_ready_lem (slice_get flat.now.threads no.0) }
+{
+    match flat.thread(no) {
+        Some(thread) => matches!(thread.status, Status::Ready),
+        None => false,
+    }
+}
+
+fn is_trapped(flat: &Flat, no: ThreadNo) -> bool
+    ensures { result ≡ stands_so is_trapped_lem (slice_get flat.now.threads no.0) }
+{
+    match flat.thread(no) {
+        Some(thread) => matches!(thread.status, Status::Trapped),
+        None => false,
+    }
+}
+
+// The first thread that is in a call.
+fn first_trapped(flat: &Flat) -> Option<ThreadNo>
+    ensures some { IfSome result (λ no. stands_so is_trapped_lem (slice_get flat.now.threads no.0) ≡ true) }
+    ensures none { IfNone result (list_any (λ t. is_trapped_lem t.status) flat.now.threads ≡ false) }
+{
+    let count = flat.threads();
+    for no in 0..count {
+        if is_trapped(flat, ThreadNo(no)) {
+            return Some(ThreadNo(no));
+        }
+    }
+    None
+}
+
+// The first thread that is ready.
+fn first_ready(flat: &Flat) -> Option<ThreadNo>
+    ensures some { IfSome result (λ no. stands_so is_ready_lem (slice_get flat.now.threads no.0) ≡ true) }
+    ensures none { IfNone result (list_any (λ t. is_ready_lem t.status) flat.now.threads ≡ false) }
+{
+    let count = flat.threads();
+    for no in 0..count {
+        if is_ready(flat, ThreadNo(no)) {
+            return Some(ThreadNo(no));
+        }
+    }
+    None
+}
+
+// Takes steps of a thread while it is ready and they don't fault, so many at most, and answers how many.
+fn run_ahead(flat: &mut Flat, no: ThreadNo, most: u32) -> Result<u32, NoMemory>
+    ensures within { IfOk result (λ n. n ≤ most) }
+    ensures taken { IfOk result (λ n. TakesSteps flat.old no n) }
+    ensures state { IfOk result (λ n. flat.new ≡ after_steps flat.old no n) }
+    ensures trapped { IfOk result (λ n. trapped_count flat.new ≤ trapped_count flat.old + n) }
+    ensures none { IfOk result (λ n. n ≡ 0 → 0 < most → stands_so is_ready_lem (slice_get flat.old.threads no.0) ≡ true → faults flat.old no.0 ≡ true) }
+{
+    let mut n = 0;
+    while n < most && is_ready(flat, no) && !flat.faults(no) {
+        flat.apply(&Event::Step(no))?;
+        n += 1;
+    }
+    Ok(n)
+}
+
+// Completes the call of a thread.
+fn complete(flat: &mut Flat, journal: &mut Journal, no: ThreadNo) -> Result<(), NoMemory>
+    requires { stands_so is_trapped_lem (slice_get flat.old.threads no.0) ≡ true }
+    ensures extends { OnOk result (Extends flat.old journal.old flat.new journal.new 0) }
+    ensures trapped { OnOk result (trapped_count flat.new + 1 ≤ trapped_count flat.old) }
+{
+    flat.apply(&Event::Complete(no))?;
+    journal.push(Entry::Completed { thread: no, cpu: 0 })
+}
+
+// Takes the step of a thread that faults.
+fn end(flat: &mut Flat, journal: &mut Journal, no: ThreadNo) -> Result<(), NoMemory>
+    requires ready { stands_so is_ready_lem (slice_get flat.old.threads no.0) ≡ true }
+    requires faults { faults flat.old no.0 ≡ true }
+    ensures extends { OnOk result (Extends flat.old journal.old flat.new journal.new 1) }
+    ensures trapped { OnOk result (trapped_count flat.new ≤ trapped_count flat.old + 1) }
+{
+    flat.apply(&Event::Step(no))?;
+    journal.push(Entry::Ended { thread: no, cpu: 0 })
+}
+
+// Takes at least one step of a ready thread, and so many at most, and answers how many.
+fn turn(flat: &mut Flat, journal: &mut Journal, no: ThreadNo, most: u32) -> Result<u32, NoMemory>
+    requires ready { stands_so is_ready_lem (slice_get flat.old.threads no.0) ≡ true }
+    requires some { 0 < most }
+    requires few { most ≤ 256 }
+    ensures extends { IfOk result (λ n. Extends flat.old journal.old flat.new journal.new n) }
+    ensures some { IfOk result (λ n. 0 < n) }
+    ensures within { IfOk result (λ n. n ≤ most) }
+    ensures trapped { IfOk result (λ n. trapped_count flat.new ≤ trapped_count flat.old + n) }
+{
+    let steps = run_ahead(flat, no, most)?;
+    if steps == 0 {
+        end(flat, journal, no)?;
+        return Ok(1);
+    }
+    journal.push(Entry::Ran {
+        thread: no,
+        steps,
+        cpu: 0,
+    })?;
+    Ok(steps)
+}
+
+// Completes a call, or else takes steps of a ready thread, and answers how many steps were taken.
+fn advance(flat: &mut Flat, journal: &mut Journal, steps: u64, limit: u64) -> Result<u64, NoMemory>
+    requires running { settled_of flat.old steps limit ≡ Settled.Running }
+    requires within { steps ≤ limit }
+    ensures extends { IfOk result (λ n. Extends flat.old journal.old flat.new journal.new n) }
+    ensures within { IfOk result (λ n. steps + n ≤ limit) }
+    ensures closer { IfOk result (λ n. trapped_count flat.new < trapped_count flat.old + 2 * n) }
+{
+    if let Some(no) = first_trapped(flat) {
+        complete(flat, journal, no)?;
+        return Ok(0);
+    }
+    let Some(no) = first_ready(flat) else {
+        unreachable!();
+    };
+    let most = (limit - steps).min(QUANTUM) as u32;
+    let taken = turn(flat, journal, no, most)?;
+    Ok(u64::from(taken))
+}
+
+// Runs until the run is over at the limit, and answers how, and after how many steps.
+fn run_on(flat: &mut Flat, journal: &mut Journal, limit: u64) -> Result<(Settled, u64), NoMemory>
+    ensures extends { IfOk result (λ end. Extends flat.old journal.old flat.new journal.new end.1) }
+    ensures settled { IfOk result (λ end. end.0 ≡ settled_of flat.new end.1 limit) }
+    ensures over { IfOk result (λ end. end.0 ≢ Settled.Running) }
+{
+    let mut steps = 0;
+    loop {
+        let settled = flat.settled(steps, limit);
+        if !matches!(settled, Settled::Running) {
+            return Ok((settled, steps));
+        }
+        steps += advance(flat, journal, steps, limit)?;
+    }
+}
+
+// Makes the declarations, one after another.
+fn declare_all(flat: &mut Flat, journal: &mut Journal, decls: &[Decl]) -> Result<(), NoMemory>
+    requires { AllFit flat.old decls.now }
+    ensures state { OnOk result (flat.new ≡ after_declarations flat.old decls.now) }
+    ensures journal { OnOk result (journal.new ≡ journal.old ++ map (λ d. Declared d) decls.now) }
+{
+    for decl in decls {
+        flat.apply(&Event::Declare(*decl))?;
+        journal.push(Entry::Declared { decl: *decl })?;
+    }
+    Ok(())
+}
+
+/// Runs the machine of these declarations until all its threads have ended or it has taken `limit` steps.
+pub fn run(alloc: Global, decls: &[Decl], limit: u64) -> Result<Finished, NoMemory>
+    requires { AllFit nothing_declared decls.now }
+    ensures { IfOk result (λ f. IsRun decls.now f.journal f.flat f.settled f.steps limit) }
+{
+    let mut flat = Flat::new(alloc);
+    let mut journal = Journal::new(alloc);
+    declare_all(&mut flat, &mut journal, decls)?;
+    journal.push(Entry::Sealed)?;
+    let (settled, steps) = run_on(&mut flat, &mut journal, limit)?;
+    Ok(Finished {
+        flat,
+        journal,
+        settled,
+        steps,
+    })
+}
