@@ -2,3 +2,4 @@ pub mod Texts
 pub mod Steps
 pub mod Trapped
 pub mod Journeys
+pub mod Answered

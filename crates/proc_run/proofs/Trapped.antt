@@ -33,8 +33,8 @@ count_at : (ts : List FlatThread) (n : ℕ) (old new : FlatThread) → slice_get
 count_at ts n old new e =
     let f : FlatThread → ℕ = λ t. cond (in_call t) 1 0 in
     subst (λ (y : FlatThread). count_by in_call (slice_set ts n new) + f y ≡ count_by in_call ts + f new)
-        (get_or_from_slice_get ts n old old e)
-        (sum_by-set f ts n new old (slice_get_within ts n old e))
+    (get_or_from_slice_get ts n old old e)
+    (sum_by-set f ts n new old (slice_get_within ts n old e))
 
 at_most_one : (b : Bool) → cond b 1 0 ≤ 1
 at_most_one true = omega arith
@@ -126,7 +126,7 @@ pub any_more : (p : Status → Bool) (ts : List FlatThread) (i : ℕ) → i < le
 any_more p ts i lt so_far here =
     elim (slice_get_cases ts i).1 [
       | inl h ↦
-        let last : p h.0.status ≡ false = sym (ap (stands_so p) h.2) ∙ here in
-        list_any_more (λ t. p t.status) ts i h.0 h.1 ∙ rw (so_far, h.3, last) refl
+          let last : p h.0.status ≡ false = sym (ap (stands_so p) h.2) ∙ here in
+          list_any_more (λ t. p t.status) ts i h.0 h.1 ∙ rw (so_far, h.3, last) refl
       | inr h ↦ absurd (omega arith)
     ]

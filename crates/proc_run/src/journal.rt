@@ -10,7 +10,9 @@ use std::marker::Model;
 #[derive(Clone, Copy)]
 pub enum Entry {
     /// A declaration was made.
-    Declared { decl: Decl },
+    Declared {
+        decl: Decl,
+    },
     /// No declaration follows.
     Sealed,
     /// The thread took so many steps, none of which faulted, on that processor.
@@ -20,9 +22,15 @@ pub enum Entry {
         cpu: u32,
     },
     /// The thread took one step, which faulted, on that processor.
-    Ended { thread: ThreadNo, cpu: u32 },
+    Ended {
+        thread: ThreadNo,
+        cpu: u32,
+    },
     /// The call that the thread was in was completed, by that processor.
-    Completed { thread: ThreadNo, cpu: u32 },
+    Completed {
+        thread: ThreadNo,
+        cpu: u32,
+    },
 }
 
 /// A list of entries that only grows.

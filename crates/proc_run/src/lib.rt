@@ -2,7 +2,13 @@
 #![tactic(auto)]
 
 mod journal;
+mod machine;
+mod outcome;
 mod report;
 mod run;
+mod words;
 
 pub use journal::{Entry, Journal};
+pub use machine::run_machine;
+pub use outcome::{Kept, Outcome, RunStatus};
+pub use words::Words;

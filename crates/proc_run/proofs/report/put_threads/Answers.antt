@@ -9,11 +9,11 @@ pub loop-no-preserved : goal.loop-no-preserved
 loop-no-preserved c =
     elim c.match-thread.branch [
       | in-Some+in_ok-put_thread w ↦
-        let ts = c.args.flat.now.threads in
-        let t = w.in-Some.thread.now in
-        let found : slice_get ts c.loop-no.no ≡ Some t = sym w.in-Some.ensures in
-        rw (w.out-is, w.in_ok-put_thread.ensures) (threads_more c.loop-no.out.items ts c.loop-no.no t (slice_get_within ts c.loop-no.no t found) (get_or_from_slice_get ts c.loop-no.no t t found) ∙ c.loop-no.invariant)
+          let ts = c.args.flat.now.threads in
+          let t = w.in-Some.thread.now in
+          let found : slice_get ts c.loop-no.no ≡ Some t = sym w.in-Some.ensures in
+          rw (w.out-is, w.in_ok-put_thread.ensures) (threads_more c.loop-no.out.items ts c.loop-no.no t (slice_get_within ts c.loop-no.no t found) (get_or_from_slice_get ts c.loop-no.no t t found) ∙ c.loop-no.invariant)
       | in_default w ↦
-        let past : length c.args.flat.now.threads ≤ c.loop-no.no = none_is_past c.args.flat.now.threads c.loop-no.no (sym w.in_default.ensures) in
-        absurd (omega arith)
+          let past : length c.args.flat.now.threads ≤ c.loop-no.no = none_is_past c.args.flat.now.threads c.loop-no.no (sym w.in_default.ensures) in
+          absurd (omega arith)
     ]

@@ -1,0 +1,16 @@
+use Rattle.std.proofs.Common.{◌∙◌, List, sym}
+use Rattle.flat_machine.specs.declared.plain.Decl.{Decl}
+use Rattle.scenario_text.specs.Spelling.{IsBuilt}
+use Rattle.proc_run.specs.Outcomes.{IsNotBuilt}
+use Rattle.proc_run.proofs.Answered.{not_built_told, two_faults}
+use Rattle.proc_run.proofs.machine.due_for.Goals as goal
+
+pub returns-in_ok-unbuilt-in-Err-Unbuilt-clause-due : goal.returns-in_ok-unbuilt-in-Err-Unbuilt-clause-due
+returns-in_ok-unbuilt-in-Err-Unbuilt-clause-due c words bytes left told at_end =
+    let made = c.in_ok-unbuilt-in-Err-Unbuilt.ensures in
+    let refused : IsNotBuilt c.args.bytes.now = λ ds built. two_faults c.in-Err-Unbuilt.line (sym c.in-Err-Unbuilt.field-0-is ∙ c.in-Err-Unbuilt.ensures.only ds built) in
+    rw (made.status, made.kept) (at_end, not_built_told c.args.bytes.now bytes told c.requires refused, made.text)
+
+pub returns-in_ok-unbuilt-in-Err-Unbuilt-clause-ran : goal.returns-in_ok-unbuilt-in-Err-Unbuilt-clause-ran
+returns-in_ok-unbuilt-in-Err-Unbuilt-clause-ran c ds built =
+    absurd (two_faults c.in-Err-Unbuilt.line (sym c.in-Err-Unbuilt.field-0-is ∙ c.in-Err-Unbuilt.ensures.only ds built))

@@ -1,0 +1,116 @@
+-- What is due to be written, and what each answer of the whole run says.
+use Rattle.std.specs.Prelude.{◌≡◌, ◌≢◌, ℕ, ◌<◌, ◌≤◌, List, [], ◌∷◌, ◌++◌, length, codes, Option, IfSome}
+use Rattle.std.specs.Fmt.{decimal}
+use Rattle.std.specs.Io.KnownBytes.{Appends, IsAtEnd, Keeps}
+use Rattle.byte_ports.specs.Faults.{HasRisen}
+use Rattle.byte_ports.specs.Whole.{TakesMore, AppendsFront}
+use Rattle.flat_machine.specs.declared.plain.Decl.{Decl}
+use Rattle.flat_machine.specs.declared.plain.Settled.{Settled}
+use Rattle.flat_machine.specs.declared.plain.Settled.TheVariants as settled
+use Rattle.flat_machine.specs.Events.{flat}
+use Rattle.flat_machine.specs.Settling.{settled_of}
+use Rattle.scenario_text.specs.Spelling.{IsBuilt}
+use Rattle.proc_run.specs.declared.journal.Entry.{Entry}
+use Rattle.proc_run.specs.declared.outcome.RunStatus.{RunStatus}
+use Rattle.proc_run.specs.declared.outcome.RunStatus.TheVariants.{Done, Spent, ReadFault, WriteFault, NoMemory, Usage, TooLong, Unbuilt}
+use Rattle.proc_run.specs.declared.outcome.Kept.{Kept}
+use Rattle.proc_run.specs.declared.outcome.Kept.TheVariants as kept
+use Rattle.proc_run.specs.Journals.{erase, steps_in, opening}
+use Rattle.proc_run.specs.Legality.{IsLegal}
+use Rattle.proc_run.specs.Reports.{report}
+
+-- how many bytes a scenario may have
+abbrev pub most_bytes : ℕ
+most_bytes = 4194304
+
+-- how many steps a run may take
+abbrev pub step_limit : ℕ
+step_limit = 1000000
+
+abbrev pub usage_line : List ℕ
+usage_line = codes "usage: v_run [--mode run|journal|gen] [--cpus N] [--steps N] [--seed N]\n"
+
+abbrev pub too_long_line : List ℕ
+too_long_line = codes "too long\n"
+
+abbrev pub unbuilt_line : ℕ → List ℕ
+unbuilt_line line = codes "unbuilt line " ++ decimal line ++ codes "\n"
+
+abbrev pub exit_status : RunStatus → ℕ
+exit_status Done = 0
+exit_status Spent = 2
+exit_status ReadFault = 3
+exit_status WriteFault = 4
+exit_status NoMemory = 6
+exit_status Usage = 7
+exit_status TooLong = 8
+exit_status (Unbuilt line) = 9
+
+-- The bytes, where they were told, are a built scenario. The journal begins with its declarations and the seal, and
+-- is legal. The run is settled so, as the machine with unlimited tables is on what is left of the journal, and the
+-- text is the report of that machine.
+pub record IsRunOf (bytes : Option (List ℕ)) (how : Settled) (j : List Entry) (text : List ℕ) : Type 0 where
+  pub decls : List Decl
+  pub built : IfSome bytes (λ bs. IsBuilt bs decls)
+  pub rest : List Entry
+  pub begins : j ≡ opening decls ++ rest
+  pub legal : IsLegal j
+  pub settled_so : how ≡ settled_of (flat (erase j)) (steps_in j) step_limit
+  pub reported : text ≡ report (flat (erase j)) how (steps_in j)
+
+-- what isn't a built scenario
+abbrev pub IsNotBuilt : List ℕ → Type 0
+IsNotBuilt bytes = (ds : List Decl) → IsBuilt bytes ds → ⊥
+
+-- This text is due with this status, and this is kept: from the words, the bytes that the source had, and those that
+-- it has left.
+abbrev pub IsDue : List (List ℕ) → Option (List ℕ) → Option (List ℕ) → RunStatus → Kept → List ℕ → Type 0
+IsDue words bytes left Done (kept.Journal j) text = IsAtEnd left × IsRunOf bytes settled.Done j text
+IsDue words bytes left Spent (kept.Journal j) text = IsAtEnd left × IsRunOf bytes settled.Spent j text
+IsDue words bytes left Usage kept.Nothing text = (words ≢ []) × Keeps bytes left × (text ≡ usage_line)
+IsDue words bytes left TooLong kept.Nothing text =
+    IfSome bytes (λ bs. most_bytes < length bs) × TakesMore bytes left most_bytes × (text ≡ too_long_line)
+IsDue words bytes left (Unbuilt line) kept.Nothing text =
+    IsAtEnd left × IfSome bytes (λ bs. (length bs ≤ most_bytes) × IsNotBuilt bs) × (text ≡ unbuilt_line line)
+-- nothing else is due
+IsDue words bytes left status k text = ⊥
+
+-- P where a text was written whole
+abbrev pub OnWritten : RunStatus → Type 0 → Type 0
+OnWritten ReadFault P = Unit {0}
+OnWritten WriteFault P = Unit {0}
+OnWritten NoMemory P = Unit {0}
+OnWritten _ P = P
+
+abbrev pub OnWriteFault : RunStatus → Type 0 → Type 0
+OnWriteFault WriteFault P = P
+OnWriteFault _ P = Unit {0}
+
+abbrev pub OnReadFault : RunStatus → Type 0 → Type 0
+OnReadFault ReadFault P = P
+OnReadFault _ P = Unit {0}
+
+-- P where no text was due
+abbrev pub OnNothingDue : RunStatus → Type 0 → Type 0
+OnNothingDue ReadFault P = P
+OnNothingDue NoMemory P = P
+OnNothingDue _ P = Unit {0}
+
+abbrev pub UnlessReadFault : RunStatus → Type 0 → Type 0
+UnlessReadFault ReadFault P = Unit {0}
+UnlessReadFault _ P = P
+
+abbrev pub UnlessWriteFault : RunStatus → Type 0 → Type 0
+UnlessWriteFault WriteFault P = Unit {0}
+UnlessWriteFault _ P = P
+
+-- the run of a machine came to its end
+abbrev pub IsRan : RunStatus → Type 0
+IsRan Done = Unit {0}
+IsRan Spent = Unit {0}
+IsRan _ = ⊥
+
+-- the same, or memory ran out
+abbrev pub IsRanOrNoMemory : RunStatus → Type 0
+IsRanOrNoMemory NoMemory = Unit {0}
+IsRanOrNoMemory status = IsRan status

@@ -1,0 +1,197 @@
+//! The whole run.
+
+ghost use Rattle.std.specs.Prelude.{◌≡◌, ◌≢◌, ◌≤◌, [], List, ℕ, IfOk, OnOk, Some, length};
+ghost use Rattle.std.specs.Io.KnownBytes.{Appends, Keeps};
+ghost use Rattle.byte_ports.specs.Faults.{HasRisen};
+ghost use Rattle.byte_ports.specs.Whole.{AppendsFront};
+ghost use Rattle.flat_machine.specs.declared.plain.Decl.{Decl as DeclLem};
+ghost use Rattle.flat_machine.specs.State.{nothing_declared};
+ghost use Rattle.flat_machine.specs.Events.{AllFit};
+ghost use Rattle.scenario_text.specs.Spelling.{IsBuilt};
+ghost use Rattle.proc_run.specs.declared.outcome.RunStatus.{RunStatus as RunStatusLem};
+ghost use Rattle.proc_run.specs.declared.outcome.Kept.TheVariants.{Nothing};
+ghost use Rattle.proc_run.specs.declared.machine.NoText.TheVariants.{NoMemory as NoMemoryLem};
+ghost use Rattle.proc_run.specs.Outcomes.{IsDue, OnWritten, OnWriteFault, OnReadFault, OnNothingDue, UnlessReadFault, UnlessWriteFault, IsRan, IsRanOrNoMemory, most_bytes, usage_line, too_long_line, unbuilt_line};
+ghost use Rattle.proc_run.specs.Dues.{OnFailed, UnlessFailed, IsDueFor, IsDueOf, status_of as status_of_lem};
+
+use crate::outcome::{Kept, Outcome, RunStatus};
+use crate::report::report;
+use crate::run::{Finished, run};
+use crate::words::Words;
+use byte_ports::{ReadError, Sink, Source, read_to_end, write_all};
+use flat_machine::{Decl, NoMemory, Settled};
+use scenario_text::{ScenarioFault, read};
+use std::alloc::{AllocError, Global};
+
+/// How many bytes a scenario may have.
+const MOST_BYTES: usize = 4_194_304;
+
+/// How many steps a run may take.
+const STEP_LIMIT: u64 = 1_000_000;
+
+const USAGE: &[u8] = b"usage: v_run [--mode run|journal|gen] [--cpus N] [--steps N] [--seed N]\n";
+
+// A text that is due, with its status and what is kept.
+#[derive(Drop)]
+struct DueText {
+    status: RunStatus,
+    kept: Kept,
+    text: Vec<u8>,
+}
+
+// Why no text is due.
+#[derive(Clone, Copy)]
+enum NoText {
+    ReadFault,
+    NoMemory,
+}
+
+impl From<AllocError> for NoText {
+    ghost from_gives = { λ _ e. e ≡ NoMemoryLem };
+
+    fn from(_e: AllocError) -> NoText {
+        NoText::NoMemory
+    }
+}
+
+fn status_of(settled: Settled) -> RunStatus
+    requires { settled ≢ Settled.Running }
+    ensures { result ≡ status_of_lem settled }
+{
+    match settled {
+        Settled::Done => RunStatus::Done,
+        Settled::Spent => RunStatus::Spent,
+        Settled::Running => unreachable!(),
+    }
+}
+
+// A line that is due alone.
+fn line(alloc: Global, status: RunStatus, text: &[u8]) -> Result<DueText, AllocError>
+    ensures status { IfOk result (λ d. d.status ≡ status) }
+    ensures kept { IfOk result (λ d. d.kept ≡ Nothing) }
+    ensures text { IfOk result (λ d. d.text.items ≡ text.now) }
+{
+    let text = Vec::from_slice(alloc, text)?;
+    Ok(DueText {
+        status,
+        kept: Kept::Nothing,
+        text,
+    })
+}
+
+fn unbuilt(alloc: Global, number: u64) -> Result<DueText, AllocError>
+    ensures status { IfOk result (λ d. d.status ≡ RunStatus.Unbuilt number) }
+    ensures kept { IfOk result (λ d. d.kept ≡ Nothing) }
+    ensures text { IfOk result (λ d. d.text.items ≡ unbuilt_line number) }
+{
+    let text = format!(in alloc; "unbuilt line {number}\n")?;
+    line(alloc, RunStatus::Unbuilt { line: number }, text.as_bytes())
+}
+
+// The report of the run of a scenario.
+fn answered(alloc: Global, decls: &[Decl]) -> Result<DueText, NoMemory>
+    requires { AllFit nothing_declared decls.now }
+    ensures due { IfOk result (λ d. IsDueFor decls.now d.status d.kept d.text.items) }
+    ensures ran { IfOk result (λ d. IsRan d.status) }
+{
+    let finished = run(alloc, decls, STEP_LIMIT)?;
+    let Finished {
+        flat,
+        journal,
+        settled,
+        steps,
+    } = finished;
+    let text = report(alloc, &flat, settled, steps)?;
+    Ok(DueText {
+        status: status_of(settled),
+        kept: Kept::Journal(journal),
+        text,
+    })
+}
+
+// What is due for the bytes of a scenario, read to their end.
+fn due_for(alloc: Global, bytes: &[u8]) -> Result<DueText, NoText>
+    requires { length bytes.now ≤ most_bytes }
+    ensures due { IfOk result (λ d. IsDueOf bytes.now d.status d.kept d.text.items) }
+    ensures ran { (ds : List DeclLem) → IsBuilt bytes.now ds → IfOk result (λ d. IsRan d.status) }
+    ensures unfailed { OnFailed result ⊥ }
+{
+    match read(alloc, bytes) {
+        Ok(scenario) => Ok(answered(alloc, scenario.decls())?),
+        Err(ScenarioFault::Unbuilt { line }) => Ok(unbuilt(alloc, line)?),
+        Err(ScenarioFault::NoMemory) => Err(NoText::NoMemory),
+    }
+}
+
+// Reads the source, and says what is to be written.
+fn due<S: Source>(alloc: Global, words: &Words, source: &mut S) -> Result<DueText, NoText>
+    ensures due { IfOk result (λ d. IsDue words.now (S.bytes_left source.old) (S.bytes_left source.new) d.status d.kept d.text.items) }
+    ensures ran { words.now ≡ [] → (bytes : List ℕ) (ds : List DeclLem) → S.bytes_left source.old ≡ Some bytes → length bytes ≤ most_bytes → IsBuilt bytes ds → IfOk result (λ d. IsRan d.status) }
+    ensures fault { OnFailed result (HasRisen (S.faults source.old) (S.faults source.new)) }
+    ensures faultless { UnlessFailed result (S.faults source.new ≡ S.faults source.old) }
+{
+    if !words.is_empty() {
+        return Ok(line(alloc, RunStatus::Usage, USAGE)?);
+    }
+    match read_to_end(alloc, source, MOST_BYTES) {
+        Ok(bytes) => due_for(alloc, &bytes),
+        Err(ReadError::TooLong) => Ok(line(alloc, RunStatus::TooLong, b"too long\n")?),
+        Err(ReadError::Failed) => Err(NoText::ReadFault),
+        Err(ReadError::NoMemory) => Err(NoText::NoMemory),
+    }
+}
+
+/// Reads a scenario from the source to its end, runs it on the machine with unlimited tables until all its threads
+/// have ended or 1,000,000 steps are taken, and writes the report to the sink. No words are accepted. All text is
+/// made before the first write.
+///
+/// It costs the steps, each of them a look through the rows, and memory for the scenario, the machine, one entry for
+/// every 256 steps and each thread call, and the report.
+pub fn run_machine<S: Source, W: Sink>(
+    alloc: Global,
+    words: &Words,
+    source: &mut S,
+    sink: &mut W,
+) -> Outcome
+    // What was written is the text that is due.
+    ensures written { OnWritten result.status ((text : List ℕ)
+        × IsDue words.now (S.bytes_left source.old) (S.bytes_left source.new) result.status result.kept text
+        × Appends (W.bytes_held sink.old) (W.bytes_held sink.new) text) }
+
+    // After a write fault it is the beginning of such a text.
+    ensures write_fault { OnWriteFault result.status (HasRisen (W.faults sink.old) (W.faults sink.new)
+        × ((status : RunStatusLem) × (text : List ℕ)
+        × IsDue words.now (S.bytes_left source.old) (S.bytes_left source.new) status result.kept text
+        × AppendsFront (W.bytes_held sink.old) (W.bytes_held sink.new) text)) }
+    ensures read_fault { OnReadFault result.status (HasRisen (S.faults source.old) (S.faults source.new)) }
+    ensures nothing_due { OnNothingDue result.status ((result.kept ≡ Nothing)
+        × Keeps (W.bytes_held sink.old) (W.bytes_held sink.new)) }
+    ensures source_faults { UnlessReadFault result.status (S.faults source.new ≡ S.faults source.old) }
+    ensures sink_faults { UnlessWriteFault result.status (W.faults sink.new ≡ W.faults sink.old) }
+
+    // Without words, a built scenario runs to its end, unless an end fails or memory runs out.
+    ensures complete { words.now ≡ [] → (bytes : List ℕ) (ds : List DeclLem) → S.bytes_left source.old ≡ Some bytes
+        → length bytes ≤ most_bytes → IsBuilt bytes ds → (HasRisen (S.faults source.old) (S.faults source.new) → ⊥)
+        → (HasRisen (W.faults sink.old) (W.faults sink.new) → ⊥) → IsRanOrNoMemory result.status }
+{
+    match due(alloc, words, source) {
+        Err(NoText::ReadFault) => Outcome {
+            status: RunStatus::ReadFault,
+            kept: Kept::Nothing,
+        },
+        Err(NoText::NoMemory) => Outcome {
+            status: RunStatus::NoMemory,
+            kept: Kept::Nothing,
+        },
+        Ok(due) => {
+            let DueText { status, kept, text } = due;
+            match write_all(sink, &text) {
+                Ok(()) => Outcome { status, kept },
+                Err(_) => Outcome {
+                    status: RunStatus::WriteFault,
+                    kept,
+                },
+            }
+        }
+    }
+}

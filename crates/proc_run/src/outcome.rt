@@ -1,0 +1,60 @@
+//! How the whole run came out.
+
+ghost use Rattle.std.specs.Prelude.{◌≡◌};
+ghost use Rattle.proc_run.specs.Outcomes.{exit_status as exit_status_lem};
+
+use crate::journal::Journal;
+
+/// How the whole run came out.
+#[derive(Clone, Copy)]
+pub enum RunStatus {
+    /// All threads have ended.
+    Done,
+    /// The step limit is reached, and no thread is in a call.
+    Spent,
+    /// The source failed. Nothing was written.
+    ReadFault,
+    /// The sink failed. What was written is the beginning of the text that was due.
+    WriteFault,
+    /// Memory ran out. Nothing was written.
+    NoMemory,
+    /// There were words, and none is accepted.
+    Usage,
+    /// More than 4,194,304 bytes came.
+    TooLong,
+    /// The bytes are no built scenario: that line, counted from 1, is the first that isn't built.
+    Unbuilt { line: u64 },
+}
+
+impl RunStatus {
+    /// The status with which the program ends.
+    pub fn exit_status(self) -> u8
+        ensures { result ≡ exit_status_lem self }
+    {
+        match self {
+            RunStatus::Done => 0,
+            RunStatus::Spent => 2,
+            RunStatus::ReadFault => 3,
+            RunStatus::WriteFault => 4,
+            RunStatus::NoMemory => 6,
+            RunStatus::Usage => 7,
+            RunStatus::TooLong => 8,
+            RunStatus::Unbuilt { .. } => 9,
+        }
+    }
+}
+
+/// What is kept of a run.
+#[derive(Drop)]
+pub enum Kept {
+    Nothing,
+    Journal(Journal),
+}
+
+/// How a run came out, and what is kept of it: for `Done` and `Spent`, and for a `WriteFault` in place of them,
+/// the journal.
+#[derive(Drop)]
+pub struct Outcome {
+    pub status: RunStatus,
+    pub kept: Kept,
+}
