@@ -20,3 +20,6 @@ pub use plain::{
 
 /// The one free answer: memory ran out. What was called is then as it was before.
 pub use std::alloc::AllocError as NoMemory;
+
+#[cfg(test)]
+mod tests;

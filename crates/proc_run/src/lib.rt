@@ -12,3 +12,9 @@ pub use journal::{Entry, Journal};
 pub use machine::run_machine;
 pub use outcome::{Kept, Outcome, RunStatus};
 pub use words::Words;
+
+/// Memory ran out, and what was called is as it was before.
+pub use flat_machine::NoMemory;
+
+#[cfg(test)]
+mod tests;

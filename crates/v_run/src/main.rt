@@ -1,0 +1,34 @@
+//! Runs the scenario on standard input and writes its report to standard output.
+#![tactic(auto)]
+
+use byte_ports::{FromRead, ToWrite};
+use proc_run::{NoMemory, RunStatus, Words, run_machine};
+use std::env;
+use std::io::ErrorKind;
+use std::process::ExitCode;
+use std::rt::Env;
+
+// The words behind the program's name. One that is no text stands as a question mark.
+fn words_of<R: Env + AllocGlobal>(rt: &R) -> Result<Words, NoMemory> {
+    let mut words = Words::new(rt.alloc());
+    match env::args(rt) {
+        Ok(args) => {
+            for word in args.skip(1) {
+                words.push(&word)?;
+            }
+        }
+        Err(error) if error.kind() == ErrorKind::InvalidData => words.push("?")?,
+        Err(_) => return Err(NoMemory),
+    }
+    Ok(words)
+}
+
+fn main(rt: HostRuntime) -> ExitCode {
+    let Ok(words) = words_of(&rt) else {
+        return ExitCode::from(RunStatus::NoMemory.exit_status());
+    };
+    let mut source = FromRead::new(rt.stdin());
+    let mut sink = ToWrite::new(rt.stdout());
+    let outcome = run_machine(rt.alloc(), &words, &mut source, &mut sink);
+    ExitCode::from(outcome.status.exit_status())
+}
