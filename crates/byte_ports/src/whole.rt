@@ -21,7 +21,8 @@ pub enum ReadError {
     NoMemory,
 }
 
-/// Reads a source to its end, in pieces of some KiB. Where that isn't done, what was read is lost.
+/// Reads a source to its end, unless it gives more than `limit` bytes, at a cost linear in what it
+/// gives. On a refusal what was read so far is lost.
 pub fn read_to_end<S: Source>(
     alloc: Global,
     source: &mut S,
