@@ -8,9 +8,12 @@ mod streams;
 mod whole;
 
 pub use memory::{MemSink, MemSource};
-pub use ports::{Failed, NoMemory, Sink, Source};
+pub use ports::{Failed, Sink, Source};
 pub use streams::{FromRead, ToWrite};
 pub use whole::{ReadError, read_to_end, write_all};
+
+/// There was no memory, and what was called is as it was before.
+pub use std::alloc::AllocError as NoMemory;
 
 #[cfg(test)]
 mod tests;

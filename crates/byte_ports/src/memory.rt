@@ -4,7 +4,8 @@ ghost use Rattle.byte_ports.specs.Faults.{last_count, next_count, HasRisen};
 ghost use Rattle.byte_ports.specs.MemSource.{new_supply, given_count};
 ghost use Rattle.byte_ports.specs.MemSink.{new_hold, taken_count, Refuses};
 
-use crate::ports::{Failed, NoMemory, Sink, Source};
+use crate::NoMemory;
+use crate::ports::{Failed, Sink, Source};
 use std::alloc::Global;
 use std::marker::Model;
 
@@ -43,9 +44,8 @@ impl MemSource {
         requires { 1 ≤ step }
         ensures { IfOk result (λ source. source ≡ new_supply bytes.now step fail.now) }
     {
-        let (Ok(bytes), Ok(fail)) = (bytes.to_vec(alloc), fail.to_vec(alloc)) else {
-            return Err(NoMemory);
-        };
+        let bytes = bytes.to_vec(alloc)?;
+        let fail = fail.to_vec(alloc)?;
         Ok(MemSource {
             bytes,
             at: 0,
@@ -127,9 +127,8 @@ impl MemSink {
         requires { 1 ≤ step }
         ensures { IfOk result (λ sink. sink ≡ new_hold room step fail.now) }
     {
-        let (Ok(bytes), Ok(fail)) = (Vec::with_capacity(alloc, room), fail.to_vec(alloc)) else {
-            return Err(NoMemory);
-        };
+        let bytes = Vec::with_capacity(alloc, room)?;
+        let fail = fail.to_vec(alloc)?;
         Ok(MemSink {
             bytes,
             room,

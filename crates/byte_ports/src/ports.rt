@@ -7,10 +7,6 @@ ghost use Rattle.byte_ports.specs.Faults.{last_count, HasRisen};
 #[derive(Clone, Copy, Debug, PartialEq, Eq)]
 pub struct Failed;
 
-/// There was no memory.
-#[derive(Clone, Copy, Debug, PartialEq, Eq)]
-pub struct NoMemory;
-
 /// Where bytes come from.
 pub trait Source {
     // The bytes that reads have yet to give, where the source tells them.
