@@ -1,5 +1,5 @@
 -- The text of parts in range is read to the end, and declares what they declare.
-use Rattle.std.proofs.Common.{◌≡◌, ℕ, zero, suc, ◌+◌, ◌*◌, ◌^◌, ◌<◌, false, List, [], ◌∷◌, ◌++◌, length, map, Some, refl, sym, ap, subst, append_assoc, arith}
+use Rattle.std.proofs.Common.{None, ◌≡◌, ℕ, zero, suc, ◌+◌, ◌*◌, ◌^◌, ◌<◌, false, List, [], ◌∷◌, ◌++◌, length, map, Some, refl, sym, ap, subst, append_assoc, arith}
 use Rattle.std.specs.Prelude.{codes, option_to_list}
 use Rattle.std.specs.Fmt.{decimal}
 use Rattle.std.specs.List.{flat_map, AllByRecursion}
@@ -9,7 +9,7 @@ use Rattle.scenario_text.specs.declared.lines.Place.{Place}
 use Rattle.scenario_text.specs.declared.lines.Place.TheVariants as places
 use Rattle.scenario_text.specs.Spelling.{RowLine, WordLine, Parts, right_text, row_text, spaced, word_text, text, IsNumber, IsRowLine, IsWord, IsWordLine, InRange, machine_decl, kernel_decl, right_decl, space_decl, thread_decl, row_decl, word_decl, word_value, word_decls_from, word_decls, declarations}
 use Rattle.scenario_text.specs.Reading.{begins, Step, next, is_end, reads, all_of}
-use Rattle.scenario_text.proofs.LineLaws.{step_to, head_step, machine_text, thread_text, machine_again, kernel_again, right_again, space_again, thread_again, row_again, word_line_again, next_word_again-more, next_word_again-last}
+use Rattle.scenario_text.proofs.LineLaws.{step_to, head_step, machine_text, thread_text, machine_again, kernel_again, right_again, space_again, thread_again, row_again, word_line_again, next_word_again-more, next_word_again-last, end_line_again}
 use Rattle.scenario_text.proofs.Taken.{words_from, text_from, text_regrouped, word_regroup}
 
 -- enough goes read it: one more than there are bytes
@@ -26,10 +26,13 @@ longer text rest some = omega (arith, length-append text rest)
 
 -- ---- words
 
-end_again : IsReadAs places.Words (codes "end\n") []
+nothing_again : IsReadAs places.End [] []
 unfolding reads
-end_again zero lt = absurd (omega arith)
-end_again (suc n) lt = refl
+nothing_again zero lt = absurd (omega arith)
+nothing_again (suc n) lt = refl
+
+end_again : IsReadAs places.Words (codes "end\n") []
+end_again = step_again places.Words (codes "end\n") (record { decl = None; place = places.End; rest = [] }) [] refl (end_line_again []) (omega arith) nothing_again
 
 words_again-in_line : (frame offset : ℕ) (digits : List ℕ) (others : List (List ℕ)) (tail : List ℕ) (ds : List Decl) → IsWord digits → AllByRecursion IsWord others → offset + 4 * length (digits ∷ others) < 2 ^ 32 → IsReadAs places.Words tail ds → IsReadAs (places.Word frame offset) (flat_map spaced (digits ∷ others) ++ (codes "\n" ++ tail)) (word_decls_from frame offset (digits ∷ others) ++ ds)
 words_again-in_line frame offset digits [] tail ds is_word each ends behind =

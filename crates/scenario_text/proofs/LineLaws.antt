@@ -8,7 +8,7 @@ use Rattle.flat_machine.specs.declared.plain.Decl.{Decl}
 use Rattle.scenario_text.specs.declared.lines.Place.{Place}
 use Rattle.scenario_text.specs.declared.lines.Place.TheVariants as places
 use Rattle.scenario_text.specs.Spelling.{RowLine, flags_text, right_text, row_text, spaced, IsNumber, IsRowLine, IsWord, machine_decl, kernel_decl, right_decl, space_decl, thread_decl, row_decl, word_decl, word_value}
-use Rattle.scenario_text.specs.Reading.{◌>>=◌, begins, after, number_at, flags_at, word_at, Step, declares, machine_line, kernel_line, right_line, space_line, thread_line, row_line, word_line, next_offset, next_word}
+use Rattle.scenario_text.specs.Reading.{◌>>=◌, begins, after, number_at, flags_at, word_at, Step, declares, machine_line, kernel_line, right_line, space_line, thread_line, row_line, word_line, next_offset, next_word, end_line}
 use Rattle.scenario_text.proofs.FieldLaws.{bind_some, chosen, after_takes, after_again, EndsNumber, number_again, number_takes, flags_again, flags_takes, word_again, word_takes}
 
 abbrev pub step_to : Decl → Place → List ℕ → Step
@@ -229,3 +229,16 @@ unfolding next_word
 next_word_again-last frame offset digits rest is_word ends =
     let fits : ltb (offset + 4) (2 ^ 32) ≡ true = lt-ltb _ _ ends in
     rw (after_again (codes " ") (digits ++ (codes "\n" ++ rest)), word_again digits (codes "\n" ++ rest) is_word, fits, after_again (codes "\n") rest) refl
+
+-- ---- the last line
+
+pub end_line_takes : (bytes : List ℕ) (s : Step) → end_line bytes ≡ Some s → (rest : List ℕ) × (bytes ≡ codes "end\n" ++ rest) × (s ≡ record { decl = None; place = places.End; rest = rest })
+unfolding end_line
+end_line_takes bytes s e =
+    let made : List ℕ → Step = λ rest. record { decl = None; place = places.End; rest = rest } in
+    let r = bind_some (after (codes "end\n") bytes) (λ rest. Some (made rest)) s e in
+    (r.0, after_takes (codes "end\n") bytes r.0 r.1, sym (same_Some _ _ r.2))
+
+pub end_line_again : (rest : List ℕ) → end_line (codes "end\n" ++ rest) ≡ Some (record { decl = None; place = places.End; rest = rest })
+unfolding end_line
+end_line_again rest = rw (after_again (codes "end\n") rest) refl

@@ -1,19 +1,18 @@
 -- What is read to the end is the text of parts in range, and declares what they declare.
-use Rattle.std.proofs.Common.{◌≡◌, ℕ, zero, suc, ◌+◌, ◌*◌, ◌^◌, ◌<◌, true, List, [], ◌∷◌, ◌++◌, length, map, Option, Some, refl, sym, ap, subst, ◌∙◌, append_assoc, arith, inl, inr}
+use Rattle.std.proofs.Common.{None, ◌≡◌, ℕ, zero, suc, ◌+◌, ◌*◌, ◌^◌, ◌<◌, true, List, [], ◌∷◌, ◌++◌, length, map, Option, Some, refl, sym, ap, subst, ◌∙◌, append_assoc, arith, inl, inr}
 use Rattle.std.specs.Prelude.{codes, option_to_list}
-use Rattle.std.specs.Str.{bytes_eq}
 use Rattle.std.specs.Fmt.{decimal}
 use Rattle.std.specs.List.{flat_map, AllByRecursion}
-use Rattle.std.proofs.lemmas.List.{append-nil}
-use Rattle.std.proofs.lemmas.Option.{same_Some}
-use Rattle.std.proofs.lemmas.Slice.Eq.{bytes_eq-Decides}
+use Rattle.std.proofs.lemmas.Bool.{eqb-true}
+use Rattle.std.proofs.lemmas.List.{append-nil, nil_from_length}
+use Rattle.std.proofs.lemmas.Option.{same_Some, none-some}
 use Rattle.flat_machine.specs.declared.plain.Decl.{Decl}
 use Rattle.scenario_text.specs.declared.lines.Place.{Place}
 use Rattle.scenario_text.specs.declared.lines.Place.TheVariants as places
 use Rattle.scenario_text.specs.Spelling.{RowLine, WordLine, Parts, right_text, row_text, spaced, word_text, text, IsNumber, IsRowLine, IsWord, IsWordLine, InRange, machine_decl, kernel_decl, right_decl, space_decl, thread_decl, row_decl, word_decl, word_value, word_decls_from, word_decls, declarations}
-use Rattle.scenario_text.specs.Reading.{◌>>=◌, begins, Step, right_line, space_line, row_line, word_line, next, is_end, reads, all_of}
+use Rattle.scenario_text.specs.Reading.{◌>>=◌, begins, Step, right_line, space_line, row_line, word_line, end_line, words_or_end, next, is_end, reads, all_of}
 use Rattle.scenario_text.proofs.FieldLaws.{bind_some, chosen}
-use Rattle.scenario_text.proofs.LineLaws.{step_to, head_step, machine_text, thread_text, machine_takes, kernel_takes, right_takes, space_takes, thread_takes, row_takes, word_line_takes, next_word_takes}
+use Rattle.scenario_text.proofs.LineLaws.{step_to, head_step, machine_text, thread_text, machine_takes, kernel_takes, right_takes, space_takes, thread_takes, row_takes, word_line_takes, next_word_takes, end_line_takes}
 
 pub word_regroup : (a b c d e f rest : List ℕ) → (a ++ b ++ c ++ d ++ e ++ f) ++ rest ≡ a ++ (b ++ (c ++ (d ++ (e ++ (f ++ rest)))))
 word_regroup a b c d e f rest = simp append_assoc
@@ -95,6 +94,7 @@ Spells places.Thread bytes ds = SpellsThread bytes ds
 Spells places.Rows bytes ds = SpellsRows bytes ds
 Spells places.Words bytes ds = SpellsWords bytes ds
 Spells (places.Word frame offset) bytes ds = SpellsWord frame offset bytes ds
+Spells places.End bytes ds = (bytes ≡ []) × (ds ≡ [])
 
 -- ---- one step back from there
 
@@ -182,6 +182,19 @@ back_word_line place bytes ds g e =
     let f = from_step place bytes ds g (head_step t.frame t.offset t.rest) t.is_made in
     word_line_spelt bytes ds t.frame t.offset t.rest t.frame_fits t.parts (subst (λ (x : List Decl). SpellsWord t.frame t.offset t.rest x) (sym f.joined) f.behind)
 
+back_end_line : (place : Place) (bytes : List ℕ) (ds : List Decl) (g : Goes place bytes ds) → end_line bytes ≡ Some g.step → SpellsWords bytes ds
+back_end_line place bytes ds g e =
+    let t = end_line_takes bytes g.step e in
+    let f = from_step place bytes ds g (record { decl = None; place = places.End; rest = t.0 }) t.2 in
+    record { words = []; fits = tt; spelt = t.1 ∙ ap (λ (x : List ℕ). codes "end\n" ++ x) f.behind.0; declared = f.joined ∙ f.behind.1 }
+
+back_words : (place : Place) (bytes : List ℕ) (ds : List Decl) (g : Goes place bytes ds) → words_or_end bytes ≡ Some g.step → SpellsWords bytes ds
+back_words place bytes ds g e =
+    elim (chosen (begins 101 bytes) (end_line bytes) (word_line bytes) (Some g.step) e) [
+      | inl last ↦ back_end_line place bytes ds g last.1
+      | inr more ↦ back_word_line place bytes ds g more.1
+    ]
+
 back_row : (bytes : List ℕ) (ds : List Decl) (g : Goes places.Rows bytes ds) → row_line bytes ≡ Some g.step → SpellsRows bytes ds
 back_row bytes ds g e =
     let t = row_takes bytes g.step e in
@@ -202,9 +215,9 @@ no_rows bytes ds w = record { rows = []; tail = bytes; more = ds; fits = tt; spe
 
 back_rows : (bytes : List ℕ) (ds : List Decl) → Goes places.Rows bytes ds → SpellsRows bytes ds
 back_rows bytes ds g =
-    elim (chosen (begins 109 bytes) (row_line bytes) (word_line bytes) (Some g.step) g.was_next) [
+    elim (chosen (begins 109 bytes) (row_line bytes) (words_or_end bytes) (Some g.step) g.was_next) [
       | inl e ↦ back_row bytes ds g e.1
-      | inr e ↦ no_rows bytes ds (back_word_line places.Rows bytes ds g e.1)
+      | inr e ↦ no_rows bytes ds (back_words places.Rows bytes ds g e.1)
     ]
 
 back_word : (frame offset : ℕ) (bytes : List ℕ) (ds : List Decl) → Goes (places.Word frame offset) bytes ds → SpellsWord frame offset bytes ds
@@ -249,22 +262,21 @@ back places.Kernel bytes ds g = back_kernel bytes ds g
 back places.Rights bytes ds g = back_rights bytes ds g
 back places.Thread bytes ds g = back_thread bytes ds g
 back places.Rows bytes ds g = back_rows bytes ds g
-back places.Words bytes ds g = back_word_line places.Words bytes ds g g.was_next
+back places.Words bytes ds g = back_words places.Words bytes ds g g.was_next
 back (places.Word frame offset) bytes ds g = back_word frame offset bytes ds g
+back places.End bytes ds g = absurd (none-some g.step g.was_next)
 
 -- ---- the end
-
-end_words : (bytes : List ℕ) (ds : List Decl) → bytes_eq bytes (codes "end\n") ≡ true → [] ≡ ds → SpellsWords bytes ds
-end_words bytes ds e none = record { words = []; fits = tt; spelt = (bytes_eq-Decides bytes (codes "end\n")).0 e; declared = sym none }
 
 at_end : (place : Place) (bytes : List ℕ) (ds : List Decl) → is_end place bytes ≡ true → [] ≡ ds → Spells place bytes ds
 at_end places.Machine bytes ds e none = absurd cc
 at_end places.Kernel bytes ds e none = absurd cc
 at_end places.Rights bytes ds e none = absurd cc
 at_end places.Thread bytes ds e none = absurd cc
-at_end places.Rows bytes ds e none = no_rows bytes ds (end_words bytes ds e none)
-at_end places.Words bytes ds e none = end_words bytes ds e none
+at_end places.Rows bytes ds e none = absurd cc
+at_end places.Words bytes ds e none = absurd cc
 at_end (places.Word frame offset) bytes ds e none = absurd cc
+at_end places.End bytes ds e none = (nil_from_length bytes (eqb-true _ _ e), sym none)
 
 reads_takes : (n : ℕ) (place : Place) (bytes : List ℕ) (ds : List Decl) → reads n place bytes ≡ Some ds → Spells place bytes ds
 unfolding reads

@@ -133,27 +133,34 @@ next_word frame offset bytes = do
   next ← next_offset offset
   if begins 32 word.1 then declares (word_decl frame offset word.0) (places.Word frame next) word.1 else (after (codes "\n") word.1 >>= λ rest. declares (word_decl frame offset word.0) places.Words rest)
 
+unfoldable pub end_line : List ℕ → Option Step
+end_line bytes = do
+  rest ← after (codes "end\n") bytes
+  Some (record { decl = None; place = places.End; rest = rest })
+
+abbrev pub words_or_end : List ℕ → Option Step
+words_or_end bytes = if begins 101 bytes then end_line bytes else word_line bytes
+
 abbrev pub next : Place → List ℕ → Option Step
 next places.Machine bytes = machine_line bytes
 next places.Kernel bytes = kernel_line bytes
 next places.Rights bytes = if begins 114 bytes then right_line bytes else space_line bytes
 next places.Thread bytes = thread_line bytes
-next places.Rows bytes = if begins 109 bytes then row_line bytes else word_line bytes
-next places.Words bytes = word_line bytes
+next places.Rows bytes = if begins 109 bytes then row_line bytes else words_or_end bytes
+next places.Words bytes = words_or_end bytes
 next (places.Word frame offset) bytes = next_word frame offset bytes
+next places.End bytes = None
 
-abbrev pub may_end : Place → Bool
-may_end places.Machine = false
-may_end places.Kernel = false
-may_end places.Rights = false
-may_end places.Thread = false
-may_end places.Rows = true
-may_end places.Words = true
-may_end (places.Word frame offset) = false
-
--- the last line, and nothing after it
+-- is the last line read, and nothing left?
 abbrev pub is_end : Place → List ℕ → Bool
-is_end place bytes = may_end place && bytes_eq bytes (codes "end\n")
+is_end places.Machine bytes = false
+is_end places.Kernel bytes = false
+is_end places.Rights bytes = false
+is_end places.Thread bytes = false
+is_end places.Rows bytes = false
+is_end places.Words bytes = false
+is_end (places.Word frame offset) bytes = false
+is_end places.End bytes = length bytes == 0
 
 -- what the rest declares, read in at most so many goes
 unfoldable pub reads : ℕ → Place → List ℕ → Option (List Decl)

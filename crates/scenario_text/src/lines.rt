@@ -1,7 +1,7 @@
 //! The lines of a scenario, in their order.
 
 ghost use Rattle.std.specs.Prelude.{◌≡◌};
-ghost use Rattle.scenario_text.specs.Reading.{Gives, part, next as next_lem, is_end as is_end_lem, machine_line as machine_line_lem, kernel_line as kernel_line_lem, right_line as right_line_lem, space_line as space_line_lem, thread_line as thread_line_lem, row_line as row_line_lem, word_line as word_line_lem, next_word as next_word_lem};
+ghost use Rattle.scenario_text.specs.Reading.{Gives, part, next as next_lem, is_end as is_end_lem, machine_line as machine_line_lem, kernel_line as kernel_line_lem, right_line as right_line_lem, space_line as space_line_lem, thread_line as thread_line_lem, row_line as row_line_lem, word_line as word_line_lem, next_word as next_word_lem, end_line as end_line_lem, words_or_end as words_or_end_lem};
 
 use crate::fields::{begins, flags, number, skip, word};
 use flat_machine::{Decl, Frame, KernelNo, Machine, SpaceNo, ThreadNo, Vpn};
@@ -20,6 +20,8 @@ pub(crate) enum Place {
     Words,
     /// Before the word at that offset.
     Word { frame: u32, offset: u32 },
+    /// Behind the last line.
+    End,
 }
 
 /// What was read next: what it declares, where the reader then stands, and the bytes that are left.
@@ -177,7 +179,29 @@ fn next_word(frame: u32, offset: u32, bytes: &[u8]) -> Option<Part<'_>>
     })
 }
 
-/// What stands at that place of the order.
+#[tactic(auto, unfolding(crate::specs::Reading::end_line))]
+fn end_line(bytes: &[u8]) -> Option<Part<'_>>
+    ensures { Gives part result (end_line_lem bytes.now) }
+{
+    let rest = skip(bytes, b"end\n")?;
+    Some(Part {
+        decl: None,
+        place: Place::End,
+        rest,
+    })
+}
+
+fn words_or_end(bytes: &[u8]) -> Option<Part<'_>>
+    ensures { Gives part result (words_or_end_lem bytes.now) }
+{
+    if begins(bytes, b'e') {
+        end_line(bytes)
+    } else {
+        word_line(bytes)
+    }
+}
+
+/// What stands at that place of the order. Behind the last line nothing does.
 pub(crate) fn next(place: Place, bytes: &[u8]) -> Option<Part<'_>>
     ensures { Gives part result (next_lem place bytes.now) }
 {
@@ -196,20 +220,21 @@ pub(crate) fn next(place: Place, bytes: &[u8]) -> Option<Part<'_>>
             if begins(bytes, b'm') {
                 row_line(bytes)
             } else {
-                word_line(bytes)
+                words_or_end(bytes)
             }
         }
-        Place::Words => word_line(bytes),
+        Place::Words => words_or_end(bytes),
         Place::Word { frame, offset } => next_word(frame, offset, bytes),
+        Place::End => None,
     }
 }
 
-/// Whether the last line stands at that place, and nothing follows it.
+/// Whether the last line is read, and nothing follows it.
 pub(crate) fn is_end(place: Place, bytes: &[u8]) -> bool
     ensures { result ≡ is_end_lem place bytes.now }
 {
     match place {
-        Place::Rows | Place::Words => bytes == b"end\n".as_slice(),
+        Place::End => bytes.is_empty(),
         _ => false,
     }
 }

@@ -40,8 +40,9 @@ impl Scenario {
     }
 }
 
-/// The scenario that the bytes spell. It takes memory for the declarations and for a machine on which each
-/// is tried, and looks through the bytes once.
+/// The scenario that the bytes spell. It goes through the bytes once, and makes each declaration on a machine
+/// of its own, which is let go at the end: that costs the memory of the machine, and for each row what the
+/// machine takes to find out whether the page has one.
 pub fn read(alloc: Global, bytes: &[u8]) -> Result<Scenario, ScenarioFault>
     // What is read is a built scenario, and these are its declarations.
     ensures found { IfOk result (λ s. IsBuilt bytes.now s) }
@@ -76,7 +77,7 @@ fn unbuilt(bytes: &[u8], rest: &[u8]) -> ScenarioFault {
     }
 }
 
-// The whole text, in goes of one byte or more.
+// The whole text in goes, each of them over one byte or more.
 fn all(alloc: Global, bytes: &[u8]) -> Result<Scenario, ScenarioFault>
     ensures { Answers bytes.now result }
 {
