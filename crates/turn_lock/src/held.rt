@@ -8,6 +8,7 @@ use crate::pass::Pass;
 use crate::rule::{PassOn, RecordLength, View};
 use crate::turn::{LENGTH, SERVING, Turn, VALUE};
 use atomic_table::Seat;
+use std::snapshot::Snapshot;
 
 // The slot that the value was taken out of, and the seat that took it.
 pub(crate) struct Slot<'a, V: History> {
@@ -24,10 +25,14 @@ pub(crate) struct Slot<'a, V: History> {
 /// It can't be dropped, since then the lock would stay taken for ever.
 pub struct Held<'a, V: History> {
     pub(crate) value: V,
+    // The value as it was found. It has no bytes. A proof follows the borrow that `value_mut` gives only where the
+    // struct has such a field of its own.
+    pub(crate) found: Snapshot<V>,
     pub(crate) slot: Slot<'a, V>,
 }
 
 impl<'a, V: History> Held<'a, V> {
+    ghost use Rattle.turn_lock.specs.Lending.{LendsValue};
     ghost use Rattle.turn_lock.specs.Lists.{IsContinuedBy};
     ghost use Rattle.turn_lock.specs.Passes.{value_of, found_by, holder_first, holder_end, held_lock, pass_lock, first_of, end_of, seen_of};
 
@@ -35,6 +40,14 @@ impl<'a, V: History> Held<'a, V> {
         ensures { result.now ≡ value_of self.now }
     {
         &self.value
+    }
+
+    /// The value, to be changed. What is added to its history is judged by `release`.
+    pub fn value_mut(&mut self) -> &mut V
+        ensures* writes_back { sem 𝓛 (LendsValue V.row V.Entry.row V.History self.entry result) }
+        ensures value { result.now ≡ value_of self.old }
+    {
+        &mut self.value
     }
 
     /// Gives the value back and lets the next thread have it.
@@ -46,7 +59,11 @@ impl<'a, V: History> Held<'a, V> {
         ensures range { (first_of result ≡ holder_first self.entry) × (end_of result ≡ holder_end self.entry) }
         ensures seen { seen_of result ≡ V.entries (value_of self.entry) }
     {
-        let Held { value, slot } = self;
+        let Held {
+            value,
+            found: _,
+            slot,
+        } = self;
         let Slot {
             lock,
             mut seat,

@@ -135,6 +135,7 @@ impl<V: History> Turn<V> {
         self.wait_for_turn(rt, &mut seat, ticket);
         match self.table.shared.exchange(&mut seat, VALUE, None) {
             Some(value) => Held {
+                found: Snapshot::of(&value),
                 value,
                 slot: Slot {
                     lock: self,
