@@ -56,6 +56,9 @@ module _ {X E : Type 0} {g : Ghosts X E} where
   abbrev pub IsPassOf : Turn X E → Pass X E g → Type 0
   IsPassOf t p = pass_lock p ≡ lock_of t
 
+  abbrev pub HasSameRange : Pass X E g → Pass X E g → Type 0
+  HasSameRange p q = (first_of q ≡ first_of p) × (end_of q ≡ end_of p)
+
   abbrev pub AreNeighbours : Pass X E g → Pass X E g → Type 0
   AreNeighbours p q = (end_of p ≡ first_of q) ⊎ (end_of q ≡ first_of p)
 

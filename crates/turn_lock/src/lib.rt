@@ -9,6 +9,8 @@ mod held;
 mod history;
 mod pass;
 mod rule;
+#[cfg(test)]
+mod tests;
 mod turn;
 
 pub use held::Held;
