@@ -1,19 +1,18 @@
 -- What the calls of the lock need of their steps, and what they learn from them.
-use Rattle.std.proofs.Common.{◌≡◌, ◌≢◌, ◌⊎◌, ◌&&◌, ℕ, ◌+◌, ◌<◌, ◌≤◌, ltb, leb, Bool, true, false, List, [], ◌∷◌, ◌++◌, length, cond, refl, sym, ◌∙◌, ap, subst, ⊎_elim, arith}
+use Rattle.std.proofs.Common.{◌≡◌, ◌&&◌, ℕ, ◌<◌, ltb, leb, Bool, true, false, List, [], ◌∷◌, ◌++◌, length, cond, refl, sym, ◌∙◌, ap, subst, arith}
 use Rattle.std.proofs.lemmas.List.Elements.{filter-append}
 use Rattle.std.proofs.lemmas.Bool.Decides.{nat_tests}
 use mathlib.Core.Option.{none, some, some-injective}
 use lib.ListN.{get_elem?}
-use Rattle.std.specs.Prelude.{Option, Some, None, IsSome}
-use Rattle.std.specs.List.{filter}
-use Rattle.atomic_table.specs.Table.{State, Me, step, Allows, Final, Seen}
+use Rattle.std.specs.Prelude.{Option, Some}
+use Rattle.atomic_table.specs.Table.{Me, step, Allows}
 use Rattle.turn_lock.specs.declared.rule.View.{View}
 use Rattle.turn_lock.specs.declared.rule.Stage.{Stage}
 use Rattle.turn_lock.specs.declared.rule.Stage.TheVariants.{Idle, Waits, Holds, Leaves, Joined}
-use Rattle.turn_lock.specs.Lists.{numbers, IsWithin, NoneWithin, IsContinuedBy, entries_within}
+use Rattle.turn_lock.specs.Lists.{IsWithin, NoneWithin, IsContinuedBy, entries_within}
 use Rattle.turn_lock.specs.Rule.{IsInTurn}
 use Rattle.turn_lock.specs.Seats.{has_turn}
-use Rattle.turn_lock.specs.Steps.{at_stage, having_seen, TakesTurn, records, passes_on}
+use Rattle.turn_lock.specs.Steps.{at_stage, having_seen, TakesTurn, records}
 use Rattle.turn_lock.proofs.Lists.{append_nothing}
 use Rattle.turn_lock.proofs.Leaving.{records_length}
 

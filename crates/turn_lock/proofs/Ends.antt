@@ -1,17 +1,16 @@
 -- The rule holds of a lock that was just made, and tells what is in the slot when the lock is closed.
-use Rattle.std.proofs.Common.{◌≡◌, ◌≢◌, ◌⊎◌, ℕ, zero, suc, ◌+◌, ◌<◌, ◌≤◌, List, [], ◌∷◌, ◌++◌, length, refl, sym, ◌∙◌, ap, subst, inl, inr, ⊎_elim, arith, le_refl, lit<}
+use Rattle.std.proofs.Common.{◌≡◌, ℕ, zero, suc, ◌<◌, ◌≤◌, List, [], ◌∷◌, ◌++◌, length, refl, sym, ◌∙◌, ap, subst, inl, ⊎_elim, arith, le_refl, lit<}
 use mathlib.Core.Logic.{dite}
-use mathlib.Core.Option.{none, some, some-injective, some-ne-none}
+use mathlib.Core.Option.{some, some-injective, some-ne-none}
 use native.Mathlib.Decide.{ℕ_discrete}
 use lib.ListN.{get_elem?}
 use Rattle.std.specs.Prelude.{Option, Some}
 use Rattle.std.specs.List.{AllByRecursion}
 use Rattle.atomic_table.specs.Table.{State, opening, Final, Seen}
 use Rattle.turn_lock.specs.declared.rule.View.{View}
-use Rattle.turn_lock.specs.declared.rule.Stage.{Stage}
-use Rattle.turn_lock.specs.declared.rule.Stage.TheVariants.{Idle, Waits, Holds, Leaves, Joined}
-use Rattle.turn_lock.specs.Lists.{numbers, IsWithin, NoneWithin, AllMadeBelow}
-use Rattle.turn_lock.specs.Rule.{HasTicket, HasTurn, BeginsWithJoined, EachSeat, SomeSeat, EachTwoSeats, HaveNoTicketInCommon, HaveNoNumberInCommon, HoldsDrawnTicket, KnowsItsOwn, EntersWhenServed, HasSeenAllInTurn, IsHome, IsOut, opening_view, IsInTurn}
+use Rattle.turn_lock.specs.declared.rule.Stage.TheVariants.{Idle}
+use Rattle.turn_lock.specs.Lists.{numbers, IsWithin, AllMadeBelow}
+use Rattle.turn_lock.specs.Rule.{HasTurn, BeginsWithJoined, EachSeat, EachTwoSeats, HaveNoTicketInCommon, HaveNoNumberInCommon, HoldsDrawnTicket, KnowsItsOwn, EntersWhenServed, HasSeenAllInTurn, IsHome, IsOut, opening_view, IsInTurn}
 use Rattle.turn_lock.proofs.Lists.{append_nothing, all_behind, all_both, none_left}
 use Rattle.turn_lock.proofs.Entering.{turn_is_served}
 
@@ -53,7 +52,7 @@ module _ {X E : Type 0} (entries : X → List E) (maker : E → ℕ) where
   sees_all : (history : List E) (v : View E) → v.first ≡ 0 → v.end ≡ numbers → AllMadeBelow maker numbers history → KnowsItsOwn maker history v → v.seen ≡ history
   sees_all history v low high small k = let P : E → Type 0 = λ e. IsWithin v.first v.end (maker e) → ⊥ in let Q : E → Type 0 = λ e. maker e < numbers in
       let rest : k.0 ≡ [] = none_left (λ e. P e × Q e) k.0 (λ e both. let below : maker e < numbers = both.1 in both.0 (omega arith, omega arith))
-          (all_both P Q k.0 k.2 (all_behind Q v.seen k.0 (subst (AllByRecursion Q) (sym k.1) small))) in
+      (all_both P Q k.0 k.2 (all_behind Q v.seen k.0 (subst (AllByRecursion Q) (sym k.1) small))) in
       sym (append_nothing v.seen) ∙ ap (λ (z : List E). v.seen ++ z) (sym rest) ∙ k.1
 
   -- where one seat has all numbers and is on no way through the lock, the value is at home

@@ -1,5 +1,5 @@
 -- The steps by which a seat comes to the value keep the rule: it draws a ticket, and looks until that ticket is served.
-use Rattle.std.proofs.Common.{◌≡◌, ◌≢◌, ◌⊎◌, ℕ, zero, suc, ◌+◌, ◌<◌, ◌≤◌, ◌^◌, eqb, List, [], ◌∷◌, ◌++◌, length, get_or, set, refl, sym, ◌∙◌, ap, subst, inl, inr, ⊎_elim, arith}
+use Rattle.std.proofs.Common.{◌≡◌, ℕ, ◌+◌, ◌<◌, ◌≤◌, ◌^◌, eqb, List, [], ◌∷◌, length, get_or, set, refl, sym, ◌∙◌, ap, subst, inl, inr, ⊎_elim, arith}
 use mathlib.Core.Logic.{dite}
 use mathlib.Core.Option.{none, some, some-injective}
 use native.Mathlib.Decide.{ℕ_discrete}
@@ -13,8 +13,8 @@ use Rattle.turn_lock.specs.declared.rule.View.{View}
 use Rattle.turn_lock.specs.declared.rule.Stage.{Stage}
 use Rattle.turn_lock.specs.declared.rule.Stage.TheVariants.{Idle, Waits, Holds, Leaves, Joined}
 use Rattle.turn_lock.specs.Lists.{numbers, IsWithin}
-use Rattle.turn_lock.specs.Rule.{HasTicket, HasEntered, HasTurn, BeginsWithJoined, EachSeat, SomeSeat, EachTwoSeats, HaveNoTicketInCommon, HaveNoNumberInCommon, HoldsDrawnTicket, KnowsItsOwn, EntersWhenServed, HasSeenAllInTurn, IsHome, IsOut, IsInTurn}
-use Rattle.turn_lock.specs.Steps.{at_stage, having_seen, draws, TakesTurn, looks}
+use Rattle.turn_lock.specs.Rule.{HasTicket, HasEntered, HasTurn, BeginsWithJoined, HaveNoTicketInCommon, HaveNoNumberInCommon, HoldsDrawnTicket, KnowsItsOwn, EntersWhenServed, HasSeenAllInTurn, IsHome, IsOut, IsInTurn}
+use Rattle.turn_lock.specs.Steps.{at_stage, having_seen, draws, looks}
 use Rattle.turn_lock.proofs.Lists.{append_nothing}
 use Rattle.turn_lock.proofs.Seats.{each_after, some_here, some_after, two_after}
 
@@ -99,8 +99,13 @@ module _ {X E : Type 0} (entries : X → List E) (maker : E → ℕ) where
       → Allows Rule n id me 0 (λ y. either (eqb y old) (old + 1) y) (draws (step n 0 old (old + 1) none) me)
   draws_ticket n id me old fits idle range s r wide at _ = let y : ℕ = get_or s.words 0 0 in let told = draws (step n 0 old (old + 1) none) me in
       exchanged y old (old + 1) (Goes s 0 id me told)
-      (λ hit. (at_stage me.0 (Waits old), keeps, tt, draws_one s r id me old (sym (ap (λ (ws : List ℕ). get_or ws 0 0) r.words_are) ∙ hit) fits idle range at,
-      ((λ _. ap (λ (t : ℕ). (at_stage me.0 (Waits t), me.1)) (sym hit)), λ miss. absurd (miss hit))))
+      (λ hit. (
+        at_stage me.0 (Waits old),
+        keeps,
+        tt,
+        draws_one s r id me old (sym (ap (λ (ws : List ℕ). get_or ws 0 0) r.words_are) ∙ hit) fits idle range at,
+        ((λ _. ap (λ (t : ℕ). (at_stage me.0 (Waits t), me.1)) (sym hit)), λ miss. absurd (miss hit)),
+      ))
       (λ miss. stays s 0 id me told r at ((λ hit. absurd (miss hit)), λ _. refl))
 
   -- where the seat's ticket is served, nobody has the value out

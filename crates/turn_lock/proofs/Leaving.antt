@@ -1,15 +1,13 @@
 -- The steps by which a seat leaves keep the rule: it records the length and gives the value back, and it passes on.
-use Rattle.std.proofs.Common.{◌≡◌, ◌≢◌, ◌⊎◌, ℕ, zero, suc, ◌+◌, ◌%◌, ◌<◌, ◌≤◌, ◌^◌, List, [], ◌∷◌, ◌++◌, length, get_or, set, refl, sym, ◌∙◌, ap, subst, inl, inr, ⊎_elim, arith, append_assoc, mod-eq_of_lt, le_refl}
+use Rattle.std.proofs.Common.{◌≡◌, ◌≢◌, ℕ, ◌+◌, ◌%◌, ◌<◌, ◌≤◌, ◌^◌, List, [], ◌∷◌, ◌++◌, length, get_or, set, refl, sym, ◌∙◌, ap, subst, inl, inr, ⊎_elim, arith, append_assoc, mod-eq_of_lt, le_refl}
 use mathlib.Core.Option.{none, some}
 use lib.ListN.{get_elem?}
-use Rattle.std.specs.Prelude.{Option, Some, None}
-use Rattle.std.specs.List.{AllByRecursion}
+use Rattle.std.specs.Prelude.{Option, Some}
 use Rattle.atomic_table.specs.Table.{State, Me, step, keeps, gives, put_back, rest, stepped, Allows}
 use Rattle.turn_lock.specs.declared.rule.View.{View}
-use Rattle.turn_lock.specs.declared.rule.Stage.{Stage}
-use Rattle.turn_lock.specs.declared.rule.Stage.TheVariants.{Idle, Waits, Holds, Leaves, Joined}
-use Rattle.turn_lock.specs.Lists.{numbers, IsWithin, NoneWithin, AllMadeBelow, AllMadeBy}
-use Rattle.turn_lock.specs.Rule.{HasTicket, HasEntered, HasTurn, BeginsWithJoined, EachSeat, HaveNoTicketInCommon, HaveNoNumberInCommon, HoldsDrawnTicket, KnowsItsOwn, EntersWhenServed, HasSeenAllInTurn, IsHome, IsOut, IsInTurn}
+use Rattle.turn_lock.specs.declared.rule.Stage.TheVariants.{Idle, Holds, Leaves}
+use Rattle.turn_lock.specs.Lists.{numbers, IsWithin, AllMadeBelow, AllMadeBy}
+use Rattle.turn_lock.specs.Rule.{HasTicket, HasEntered, HasTurn, BeginsWithJoined, HaveNoTicketInCommon, HaveNoNumberInCommon, HoldsDrawnTicket, KnowsItsOwn, EntersWhenServed, HasSeenAllInTurn, IsHome, IsOut, IsInTurn}
 use Rattle.turn_lock.specs.Steps.{at_stage, having_seen, records, passes_on}
 use Rattle.turn_lock.proofs.Lists.{append_nothing, all_append, all_weaker}
 use Rattle.turn_lock.proofs.Seats.{each_after, some_here, some_after, two_after}

@@ -1,23 +1,22 @@
 -- Cutting a seat in two, joining two, and the look by which a joined seat learns that one list begins the other, keep the rule.
-use Rattle.std.proofs.Common.{◌≡◌, ◌≢◌, ◌⊎◌, ℕ, zero, suc, ◌+◌, ◌<◌, ◌≤◌, min, max, List, [], ◌∷◌, ◌++◌, length, get_or, set, refl, sym, ◌∙◌, ap, subst, inl, inr, ⊎_elim, arith}
+use Rattle.std.proofs.Common.{◌≡◌, ◌≢◌, ◌⊎◌, ℕ, ◌<◌, ◌≤◌, min, max, List, [], ◌∷◌, ◌++◌, length, get_or, set, refl, sym, ◌∙◌, ap, subst, inl, inr, ⊎_elim, arith}
 use mathlib.Core.Logic.{dite}
 use mathlib.Core.List.{IsPrefix}
 use mathlib.Core.Option.{none, some}
-use native.Mathlib.Decide.{ℕ_discrete, dec_le}
+use native.Mathlib.Decide.{dec_le}
 use lib.ListN.{get_elem?}
 use lib.Seq.{set-get_or}
 use Rattle.std.specs.Prelude.{Option}
 use Rattle.std.specs.List.{AllByRecursion}
-use Rattle.atomic_table.specs.Table.{State, Me, step, keeps, stepped, Allows, Splits, Joins}
+use Rattle.atomic_table.specs.Table.{State, Me, step, keeps, Allows, Splits, Joins}
 use Rattle.atomic_table.proofs.Lists.{set_else}
 use Rattle.turn_lock.specs.declared.rule.View.{View}
-use Rattle.turn_lock.specs.declared.rule.Stage.{Stage}
-use Rattle.turn_lock.specs.declared.rule.Stage.TheVariants.{Idle, Waits, Holds, Leaves, Joined}
-use Rattle.turn_lock.specs.Lists.{numbers, IsWithin, NoneWithin, longer, shorter}
-use Rattle.turn_lock.specs.Rule.{HasTicket, HasEntered, HasTurn, BeginsWithJoined, EachSeat, SomeSeat, EachTwoSeats, HaveNoTicketInCommon, HaveNoNumberInCommon, HoldsDrawnTicket, KnowsItsOwn, EntersWhenServed, HasSeenAllInTurn, IsHome, IsOut, IsInTurn}
+use Rattle.turn_lock.specs.declared.rule.Stage.TheVariants.{Idle, Joined}
+use Rattle.turn_lock.specs.Lists.{numbers, IsWithin, NoneWithin, longer}
+use Rattle.turn_lock.specs.Rule.{HasTicket, HasTurn, BeginsWithJoined, EachSeat, SomeSeat, HaveNoTicketInCommon, HaveNoNumberInCommon, HoldsDrawnTicket, KnowsItsOwn, EntersWhenServed, HasSeenAllInTurn, IsOut, IsInTurn}
 use Rattle.turn_lock.specs.Steps.{at_stage, below, above, both, spent, compares}
-use Rattle.turn_lock.proofs.Lists.{shorter_begins, whole_beginning, all_weaker, all_both, all_further, longer_shorter, here}
-use Rattle.turn_lock.proofs.Seats.{each_after, some_here, some_after, two_after, each_longer, some_longer, some_last, two_longer, joined_seats, each_joined, some_joined, two_joined}
+use Rattle.turn_lock.proofs.Lists.{shorter_begins, whole_beginning, all_weaker, all_both, all_further, longer_shorter}
+use Rattle.turn_lock.proofs.Seats.{each_after, some_after, two_after, each_longer, some_longer, some_last, two_longer, joined_seats, each_joined, some_joined, two_joined}
 use Rattle.turn_lock.proofs.Entering.{swap_tickets, swap_numbers}
 
 module _ {X E : Type 0} (entries : X → List E) (maker : E → ℕ) where
@@ -89,7 +88,7 @@ module _ {X E : Type 0} (entries : X → List E) (maker : E → ℕ) where
   knows_both : (history : List E) (v w : View E) → v.first < v.end → w.first < w.end → (v.end ≡ w.first) ⊎ (w.end ≡ v.first) → KnowsItsOwn maker history v → KnowsItsOwn maker history w → KnowsItsOwn maker history (both v w)
   knows_both history v w a b beside kv kw = let P : View E → E → Type 0 = λ u e. IsWithin u.first u.end (maker e) → ⊥ in let N : E → Type 0 = λ e. IsWithin (min v.first w.first) (max v.end w.end) (maker e) → ⊥ in
       let neither : (rest : List E) → AllByRecursion (P v) rest → AllByRecursion (P w) rest → AllByRecursion N rest = λ rest x y.
-          all_weaker (λ e. P v e × P w e) N (λ e no' within. ⊎_elim no'.0 no'.1 (in_one v w (maker e) a b beside within)) rest (all_both (P v) (P w) rest x y) in
+      all_weaker (λ e. P v e × P w e) N (λ e no' within. ⊎_elim no'.0 no'.1 (in_one v w (maker e) a b beside within)) rest (all_both (P v) (P w) rest x y) in
       longer_shorter (λ long short. (rest : List E) × (long ++ rest ≡ history) × NoneWithin maker (min v.first w.first) (max v.end w.end) rest) v.seen w.seen
       (λ less. (kw.0, kw.1, neither kw.0 (all_further (P v) v.seen w.seen kv.0 kw.0 (kv.1 ∙ sym kw.1) (omega arith) kv.2) kw.2))
       (λ more. (kv.0, kv.1, neither kv.0 kv.2 (all_further (P w) w.seen v.seen kw.0 kv.0 (kw.1 ∙ sym kv.1) more kw.2)))

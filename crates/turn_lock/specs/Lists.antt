@@ -1,7 +1,6 @@
 -- Lists of entries, and the numbers of those who made them.
-use Rattle.std.specs.Prelude.{ℕ, ◌<◌, ◌≤◌, ◌≡◌, ◌&&◌, ltb, leb, List, [], ◌∷◌, ◌++◌, length, if◌then◌else◌, Bool}
+use Rattle.std.specs.Prelude.{ℕ, ◌<◌, ◌≤◌, ◌≡◌, ◌&&◌, ltb, leb, List, ◌++◌, length, if◌then◌else◌}
 use Rattle.std.specs.List.{filter, AllByRecursion}
-use mathlib.Core.List.{IsPrefix}
 
 -- how many numbers there are to sign with
 abbrev pub numbers : ℕ

@@ -22,10 +22,13 @@ impl<V: History> Turn<V> {
     {
         let Pass { mut seat, number } = pass;
         let rest = self.table.shared.split_seat::<CutRange<C>>(&mut seat);
-        (Pass { seat, number }, Pass {
-            seat: rest,
-            number: at,
-        })
+        (
+            Pass { seat, number },
+            Pass {
+                seat: rest,
+                number: at,
+            },
+        )
     }
 
     /// Divides the numbers at `at`, which is strictly inside the range. Both passes have seen the same.

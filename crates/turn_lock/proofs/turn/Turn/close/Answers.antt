@@ -1,5 +1,5 @@
-use Rattle.std.proofs.Common.{◌≡◌, refl, sym, ap, ◌∙◌, subst}
-use Rattle.std.specs.Prelude.{Some, IsSome}
+use Rattle.std.proofs.Common.{refl, sym, ap, ◌∙◌, subst}
+use Rattle.std.specs.Prelude.{IsSome}
 use Rattle.turn_lock.proofs.Calls.{there}
 use Rattle.turn_lock.proofs.Ends.{closes}
 use Rattle.turn_lock.proofs.turn.Turn.close.Goals as goal

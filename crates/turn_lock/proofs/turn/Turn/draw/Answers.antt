@@ -1,4 +1,4 @@
-use Rattle.std.proofs.Common.{rules, arith, ◌≡◌, ◌<◌, refl, sym, ap, ◌∙◌, subst}
+use Rattle.std.proofs.Common.{rules, arith, ◌<◌, sym, ap, ◌∙◌, subst}
 use Rattle.turn_lock.proofs.Entering.{draws_ticket}
 use Rattle.turn_lock.proofs.turn.Turn.draw.Goals as goal
 

@@ -1,4 +1,4 @@
-use Rattle.std.proofs.Common.{rules, arith, ◌≡◌, ◌<◌, ap}
+use Rattle.std.proofs.Common.{rules, arith, ◌<◌, ap}
 use Rattle.turn_lock.proofs.Passes.{joins_ranges, compares_lists}
 use Rattle.turn_lock.proofs.turn.Turn.join.Goals as goal
 

@@ -1,5 +1,3 @@
-use Rattle.std.proofs.Common.{rules, ◌≡◌, List, [], ◌∷◌, sym, ap, ◌∙◌, subst}
-use Rattle.std.specs.Prelude.{Some}
 use Rattle.turn_lock.proofs.Ends.{opens}
 use Rattle.turn_lock.proofs.turn.Turn.new.Goals as goal
 

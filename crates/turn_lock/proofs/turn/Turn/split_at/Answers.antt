@@ -1,4 +1,4 @@
-use Rattle.std.proofs.Common.{rules, arith, ◌≡◌, ℕ, ◌<◌, sym, subst}
+use Rattle.std.proofs.Common.{rules, ℕ, ◌<◌, subst}
 use Rattle.turn_lock.proofs.Passes.{splits_range}
 use Rattle.turn_lock.proofs.turn.Turn.split_at.Goals as goal
 

@@ -1,4 +1,4 @@
-use Rattle.std.proofs.Common.{rules, arith, ◌≡◌, ◌<◌, refl, sym, ap, ◌∙◌, subst}
+use Rattle.std.proofs.Common.{rules, ap, ◌∙◌}
 use Rattle.turn_lock.proofs.Entering.{looks_for_turn}
 use Rattle.turn_lock.proofs.turn.Turn.wait_for_turn.Goals as goal
 
