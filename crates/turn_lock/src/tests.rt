@@ -222,6 +222,17 @@ fn eight_threads_join_in_either_order(rt: HostRuntime) -> Result<(), Fail> {
     Ok(())
 }
 
+#[test]
+fn three_parts_make_the_whole(rt: HostRuntime) -> Result<(), Fail> {
+    let (lock, pass) = opened(rt.alloc())?;
+    let (low, rest) = lock.split(pass, 1);
+    let (middle, high) = lock.split(rest, 2);
+    assert_eq!(rt; (low.number(), middle.number(), high.number()), (0, 1, 2));
+    let pass = lock.join(lock.join(middle, high), low);
+    assert!(rt; lock.close(pass).entries.is_empty());
+    Ok(())
+}
+
 // A value without entries, of which the number of copies can be told.
 #[derive(Drop)]
 struct Counted {
