@@ -1,5 +1,5 @@
 //! The lock itself: how it is made, taken and closed.
-ghost use Rattle.std.specs.Prelude.{◌≡◌, ◌+◌, ◌<◌, ◌^◌, [], IfOk, IfErr};
+ghost use Rattle.std.specs.Prelude.{◌≡◌, ◌<◌, IfOk, IfErr};
 ghost use mathlib.Core.List.{IsPrefix};
 ghost use Rattle.turn_lock.specs.declared.rule.Stage.TheVariants.{Idle, Waits};
 ghost use Rattle.turn_lock.specs.Lists.{numbers, entries_within, AllMadeBelow};
@@ -27,9 +27,6 @@ pub(crate) const LENGTH: usize = 2;
 
 // The slot where the value is while nobody has it.
 pub(crate) const VALUE: usize = 0;
-
-// A pass with all numbers has those below this one.
-const NUMBERS: u64 = u32::MAX as u64;
 
 /// A value that threads take in turn, in the order in which they drew their tickets.
 #[derive(Drop)]
@@ -78,6 +75,7 @@ impl<V: History> Turn<V> {
         ensures ticket { seat.new.me ≡ (at_stage seat.old.me.0 (Waits result), seat.old.me.1) }
     {
         let backoff = Backoff::new();
+        // The first try finds the word, unless nobody has drawn yet.
         let mut next = 0;
         for _ in rt.forever() {
             if next < u64::MAX {
