@@ -9,3 +9,6 @@ mod writing;
 pub use forms::Instr;
 pub use reading::decode;
 pub use writing::{encode, reencode};
+
+#[cfg(test)]
+mod tests;
