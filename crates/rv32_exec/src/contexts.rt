@@ -1,7 +1,7 @@
 // A thread's registers.
 
 ghost use Rattle.std.specs.Prelude.{◌≡◌, ◌<◌};
-ghost use Rattle.std.specs.Int.{w32, cast_unsigned};
+ghost use Rattle.std.specs.Int.{w32, cast_signed, cast_unsigned};
 ghost use Rattle.rv32_exec.specs.Registers.{register_of, with_register, sum_of};
 
 /// A thread's registers, x0 to x31, and the address of its next instruction.
@@ -15,7 +15,7 @@ pub struct Context {
 
 impl Context {
     /// What a register holds.
-    pub fn register(&self, number: u32) -> u32
+    pub fn x(&self, number: u32) -> u32
         requires { number < 32 }
         ensures { result ≡ register_of self.now number }
     {
@@ -26,12 +26,20 @@ impl Context {
         }
     }
 
+    /// What a register holds, as an integer in two's complement.
+    pub fn signed(&self, number: u32) -> i32
+        requires { number < 32 }
+        ensures { result ≡ cast_signed w32 (register_of self.now number) }
+    {
+        self.x(number).cast_signed()
+    }
+
     /// The sum of a register and an immediate, as an address or a value.
     pub fn offset(&self, number: u32, imm: i32) -> u32
         requires { number < 32 }
         ensures { result ≡ sum_of (register_of self.now number) (cast_unsigned w32 imm) }
     {
-        self.register(number).wrapping_add(imm.cast_unsigned())
+        self.x(number).wrapping_add(imm.cast_unsigned())
     }
 
     /// Puts a value into a register; x0 stays.
