@@ -32,6 +32,13 @@ pub record IsAfter (context : Context) (pages : List Page) (answer : Stepped) (a
   pub pages_are : pages ≡ after.pages
   pub answer_is : answer ≡ after.answer
 
+-- a fact where a step is missed
+abbrev pub OnMiss : Stepped → Type 0 → Type 0
+OnMiss (Miss va access) P = P
+OnMiss Next P = Unit {0}
+OnMiss Call P = Unit {0}
+OnMiss (Stop reason) P = Unit {0}
+
 -- Nothing happens: the space has no translation for an access.
 abbrev pub missed : Context → List Page → ℕ → Access → After
 missed c ps va access = record { context = c; pages = ps; answer = Miss va access }

@@ -3,7 +3,7 @@
 ghost use Rattle.std.specs.Prelude.{◌≡◌, ◌%◌, ◌<◌, IsTrue};
 ghost use Rattle.rv32_exec.specs.Pages.{Page, translates};
 ghost use Rattle.rv32_exec.specs.Actions.{HasRegister};
-ghost use Rattle.rv32_exec.specs.Steps.{IsAfter, after_action, after_step, after_jump, after_load, after_store, after_atomic, ended, extended};
+ghost use Rattle.rv32_exec.specs.Steps.{IsAfter, OnMiss, after_action, after_step, after_jump, after_load, after_store, after_atomic, ended, extended};
 
 use crate::actions::{Action, action_for};
 use crate::contexts::Context;
@@ -28,8 +28,18 @@ pub enum Stepped {
 /// Takes one step.
 ///
 /// A few comparisons and the accesses of the instruction; no memory.
-#[tactic(auto, using(crate::proofs::Translations::translations), unfolding(crate::specs::Steps::after_step))]
 pub fn step<S: Space>(context: &mut Context, space: &mut S) -> Stepped
+    requires { context.old.pc % 4 ≡ 0 }
+    ensures aligned { context.new.pc % 4 ≡ 0 }
+    ensures after { IsAfter context.new (S.pages space.new) result (after_step context.old (S.pages space.old)) }
+    ensures missed { OnMiss result ((context.new ≡ context.old) × (S.pages space.new ≡ S.pages space.old)) }
+{
+    fetch(context, space)
+}
+
+/// Fetches the word at pc, and does the instruction that it is.
+#[tactic(auto, using(crate::proofs::Translations::translations), unfolding(crate::specs::Steps::after_step))]
+fn fetch<S: Space>(context: &mut Context, space: &mut S) -> Stepped
     requires { context.old.pc % 4 ≡ 0 }
     ensures aligned { context.new.pc % 4 ≡ 0 }
     ensures after { IsAfter context.new (S.pages space.new) result (after_step context.old (S.pages space.old)) }
