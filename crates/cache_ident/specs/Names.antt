@@ -6,6 +6,10 @@ use Rattle.cache_ident.specs.declared.names.Caps.{Caps}
 use Rattle.cache_ident.specs.declared.idents.Kind.{Kind}
 use Rattle.cache_ident.specs.declared.idents.Kind.TheVariants as kind
 
+-- the name of the first kernel
+abbrev pub first_name : Name
+first_name = name.Kernel (record { 0 = 0 })
+
 -- the kind of what has the name
 abbrev pub kind_of : Name → Kind
 kind_of (name.Kernel kernel) = kind.Kernel

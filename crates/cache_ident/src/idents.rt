@@ -6,8 +6,9 @@ ghost use Rattle.cache_ident.specs.Idents.{letter_of, ident_text, cause_text};
 use std::fmt;
 
 /// The four kinds of descriptor, each with a cache of its own.
-#[derive(Clone, Copy, PartialEq, Eq, PartialOrd, Ord, Hash, Debug)]
+#[derive(Clone, Copy, PartialEq, Eq, PartialOrd, Ord, Hash, Debug, Default)]
 pub enum Kind {
+    #[default]
     Kernel,
     Space,
     Thread,
@@ -32,7 +33,7 @@ impl Kind {
 ///
 /// A slot is used again after a displacement, but a serial never is, so an old identifier can be told
 /// from the one that holds its slot now.
-#[derive(Clone, Copy, PartialEq, Eq, PartialOrd, Ord, Hash, Debug)]
+#[derive(Clone, Copy, PartialEq, Eq, PartialOrd, Ord, Hash, Debug, Default)]
 pub struct Ident {
     pub kind: Kind,
     /// The place in the cache of its kind, counted from 0.

@@ -1,29 +1,29 @@
 //! The plain numbers, and the name under which a descriptor is declared.
 
 ghost use Rattle.std.specs.Prelude.{◌≡◌, Some};
-ghost use Rattle.cache_ident.specs.Names.{kind_of, amount_of, name_text};
+ghost use Rattle.cache_ident.specs.Names.{kind_of, amount_of, first_name, name_text};
 
 use super::idents::Kind;
 use std::fmt;
 
 /// The number of a kernel, counted from 0 in declared order.
-#[derive(Clone, Copy, PartialEq, Eq, PartialOrd, Ord, Hash, Debug)]
+#[derive(Clone, Copy, PartialEq, Eq, PartialOrd, Ord, Hash, Debug, Default)]
 pub struct KernelNo(pub u32);
 
 /// The number of a space, counted from 0 in declared order.
-#[derive(Clone, Copy, PartialEq, Eq, PartialOrd, Ord, Hash, Debug)]
+#[derive(Clone, Copy, PartialEq, Eq, PartialOrd, Ord, Hash, Debug, Default)]
 pub struct SpaceNo(pub u32);
 
 /// The number of a thread, counted from 0 in declared order.
-#[derive(Clone, Copy, PartialEq, Eq, PartialOrd, Ord, Hash, Debug)]
+#[derive(Clone, Copy, PartialEq, Eq, PartialOrd, Ord, Hash, Debug, Default)]
 pub struct ThreadNo(pub u32);
 
 /// The number of a virtual page: an address divided by 4,096.
-#[derive(Clone, Copy, PartialEq, Eq, PartialOrd, Ord, Hash, Debug)]
+#[derive(Clone, Copy, PartialEq, Eq, PartialOrd, Ord, Hash, Debug, Default)]
 pub struct Vpn(pub u32);
 
 /// The number of a frame of memory: a place divided by 4,096.
-#[derive(Clone, Copy, PartialEq, Eq, PartialOrd, Ord, Hash, Debug)]
+#[derive(Clone, Copy, PartialEq, Eq, PartialOrd, Ord, Hash, Debug, Default)]
 pub struct Frame(pub u32);
 
 /// What a descriptor is declared as. It is never given to another one, and stays while the descriptor
@@ -48,6 +48,15 @@ impl Name {
             Name::Thread(_) => Kind::Thread,
             Name::Mapping(_, _) => Kind::Mapping,
         }
+    }
+}
+
+/// The first kernel's name, so that a vector of fixed capacity can hold names.
+impl Default for Name {
+    ghost is_default = { λ name. name ≡ first_name };
+
+    fn default() -> Name {
+        Name::Kernel(KernelNo(0))
     }
 }
 

@@ -1,10 +1,10 @@
 -- A page of memory, read out and written over.
-use Rattle.std.proofs.Common.{◌≡◌, ◌≢◌, ℕ, ◌+◌, ◌-◌, ◌*◌, ◌<◌, ◌≤◌, ◌⊎◌, List, [], ◌∷◌, ◌++◌, length, take, drop, get_or, set, refl, sym, subst, ap, inl, inr, arith, append_assoc, length-append, length-drop, length-take}
-use Rattle.std.proofs.lemmas.List.{drop-append-le, drop-drop, drop-take, drop_at, get_or-drop, get_or-take, length-set, length-take-le, take-append-drop, take-append-le, take-take, take_at}
+use Rattle.std.proofs.Common.{◌≡◌, ◌≢◌, ℕ, ◌+◌, ◌-◌, ◌*◌, ◌≤◌, List, ◌++◌, length, take, drop, refl, subst, inl, inr, arith, append_assoc, length-append, length-drop}
+use Rattle.std.proofs.lemmas.List.{drop-append-le, drop-drop, drop-take, drop_at, length-take-le, take-append-drop, take-append-le, take-take, take_at}
 use Rattle.std.proofs.lemmas.Bool.{cases_lt}
 use Rattle.std.proofs.lemmas.Slice.{drop-append-drop}
 use Rattle.cache_ident.specs.declared.names.Frame.{Frame}
-use Rattle.phys_groups.specs.Memory.{HasFrame, page_at, with_page, word_at, written}
+use Rattle.phys_groups.specs.Memory.{HasFrame, page_at, with_page}
 
 module _ (a n : ℕ) (xs : List ℕ) (within : a + n ≤ length xs) where
   -- the part of n from place a on has n elements

@@ -181,6 +181,7 @@ mod tests {
 
     fn test_words(rt: &impl Abort, memory: &mut Memory)
         requires { 524288 ≤ length memory.old }
+        ensures { length memory.new ≡ length memory.old }
     {
         memory.store_word(0, 0x0010_0893);
         memory.store_half(4, 0x0201);
@@ -202,7 +203,7 @@ mod tests {
         assert!(rt; memory.equals(Frame(127), page));
         assert_eq!(rt; memory.byte(LAST_BYTE), 5);
         memory.copy_out(Frame(126), page);
-        assert_eq!(rt; page[4_095], 0);
+        assert_eq!(rt; page.last().copied(), Some(0));
     }
 
     #[test]

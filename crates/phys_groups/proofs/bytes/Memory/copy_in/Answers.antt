@@ -1,4 +1,4 @@
-use Rattle.std.proofs.Common.{◌≡◌, rules, refl, sym, arith}
+use Rattle.std.proofs.Common.{arith}
 use Rattle.std.proofs.lemmas.Grind.{common_steps}
 use Rattle.phys_groups.proofs.Pages.{page_at-with_page, page_at-with_page_other, with_page-page_at}
 use Rattle.phys_groups.proofs.bytes.Memory.copy_in.Goals as goal
