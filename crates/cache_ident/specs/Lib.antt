@@ -1,0 +1,3 @@
+pub mod Idents
+pub mod Names
+pub mod Rolls

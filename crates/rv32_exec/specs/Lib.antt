@@ -1,0 +1,4 @@
+pub mod Pages
+pub mod Registers
+pub mod Actions
+pub mod Steps

@@ -1,0 +1,19 @@
+//! One step of a user thread: what an instruction does to a context and to an address space.
+#![tactic(auto)]
+
+mod actions;
+mod contexts;
+mod outputs;
+mod spaces;
+mod statuses;
+mod steps;
+
+pub use actions::{Action, action_for};
+pub use contexts::Context;
+pub use outputs::{NoMemory, Output};
+pub use spaces::{Hole, Space, Width};
+pub use statuses::{Access, FaultKind, Misaligned, Reason, Status};
+pub use steps::{Stepped, step};
+
+#[cfg(test)]
+mod tests;
