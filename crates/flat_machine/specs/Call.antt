@@ -1,7 +1,6 @@
 -- The thread calls. The number is in a7, which is x17, and the argument in a0, which is x10.
-use Rattle.std.specs.Prelude.{ℕ, ◌%◌, Bool, true, false, ◌==◌, if◌then◌else◌, List, [], ◌∷◌, ◌++◌, Option, Some, None, slice_get, slice_set, slice_index}
+use Rattle.std.specs.Prelude.{ℕ, ◌%◌, Bool, true, false, ◌==◌, if◌then◌else◌, [], ◌∷◌, ◌++◌, Option, Some, None, slice_get, slice_set, slice_index}
 use Rattle.flat_machine.specs.declared.plain.FlatThread.{FlatThread}
-use Rattle.flat_machine.specs.declared.plain.Reason.{Reason}
 use Rattle.flat_machine.specs.declared.plain.Reason.TheVariants.{Exited, BadCall}
 use Rattle.flat_machine.specs.declared.plain.Status.{Status}
 use Rattle.flat_machine.specs.declared.plain.Status.TheVariants.{Ready, Trapped, Ended}

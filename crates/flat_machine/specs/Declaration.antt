@@ -1,5 +1,5 @@
 -- What a declaration adds, and the first rule that it breaks.
-use Rattle.std.specs.Prelude.{◌≡◌, ℕ, ◌+◌, ◌*◌, ◌/◌, ◌%◌, Bool, true, false, not, ◌&&◌, ◌||◌, ◌==◌, nat_lt, nat_le, is_some, if◌then◌else◌, List, [], ◌∷◌, ◌++◌, length, Option, Some, None, Result, Ok, Err, replicate, slice_get, slice_set}
+use Rattle.std.specs.Prelude.{◌≡◌, ℕ, ◌+◌, ◌*◌, ◌%◌, Bool, false, not, ◌||◌, ◌==◌, nat_lt, nat_le, is_some, if◌then◌else◌, List, [], ◌∷◌, ◌++◌, length, Option, Some, None, Result, Ok, Err, replicate, slice_get, slice_set}
 use Rattle.std.specs.Int.{w32, to_le_bytes}
 use Rattle.flat_machine.specs.declared.plain.Machine.{Machine}
 use Rattle.flat_machine.specs.declared.plain.GroupRights.{GroupRights}
@@ -9,7 +9,6 @@ use Rattle.flat_machine.specs.declared.plain.ThreadNo.{ThreadNo}
 use Rattle.flat_machine.specs.declared.plain.SpaceNo.{SpaceNo}
 use Rattle.flat_machine.specs.declared.plain.Vpn.{Vpn}
 use Rattle.flat_machine.specs.declared.plain.Frame.{Frame}
-use Rattle.flat_machine.specs.declared.plain.Context.{Context}
 use Rattle.flat_machine.specs.declared.plain.FlatThread.{FlatThread}
 use Rattle.flat_machine.specs.declared.plain.Status.TheVariants.{Ready}
 use Rattle.flat_machine.specs.declared.plain.Decl.{Decl}

@@ -1,5 +1,5 @@
 -- The instructions that are built, as words and in what they do.
-use Rattle.std.specs.Prelude.{ℕ, ◌+◌, ◌-◌, ◌*◌, ◌/◌, ◌%◌, ◌^◌, Bool, ◌&&◌, ◌==◌, nat_lt, if◌then◌else◌, List, Option, Some, None, slice_index, slice_set}
+use Rattle.std.specs.Prelude.{ℕ, ◌+◌, ◌-◌, ◌/◌, ◌%◌, ◌^◌, Bool, ◌&&◌, ◌==◌, nat_lt, if◌then◌else◌, List, Option, Some, None, slice_index, slice_set}
 use Rattle.flat_machine.specs.declared.instr.Instr.{Instr}
 use Rattle.flat_machine.specs.declared.instr.Instr.TheVariants.{Addi, Ecall}
 use Rattle.flat_machine.specs.declared.plain.Context.{Context}

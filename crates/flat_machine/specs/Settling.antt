@@ -1,8 +1,6 @@
 -- Whether a run is over.
-use Rattle.std.specs.Prelude.{ℕ, Bool, true, false, ◌&&◌, not, ◌==◌, if◌then◌else◌, List}
+use Rattle.std.specs.Prelude.{ℕ, Bool, true, false, ◌&&◌, not, ◌==◌, if◌then◌else◌}
 use Rattle.std.specs.List.{list_all, list_any}
-use Rattle.flat_machine.specs.declared.plain.FlatThread.{FlatThread}
-use Rattle.flat_machine.specs.declared.plain.Reason.{Reason}
 use Rattle.flat_machine.specs.declared.plain.Status.{Status}
 use Rattle.flat_machine.specs.declared.plain.Status.TheVariants.{Ready, Trapped, Ended}
 use Rattle.flat_machine.specs.declared.plain.Settled.{Settled}

@@ -1,5 +1,5 @@
 -- The machine with unlimited tables, as plain lists in declared order.
-use Rattle.std.specs.Prelude.{ℕ, ◌*◌, List, [], Option, None}
+use Rattle.std.specs.Prelude.{ℕ, List, [], Option, None}
 use Rattle.flat_machine.specs.declared.plain.Machine.{Machine}
 use Rattle.flat_machine.specs.declared.plain.GroupRights.{GroupRights}
 use Rattle.flat_machine.specs.declared.plain.KernelNo.{KernelNo}

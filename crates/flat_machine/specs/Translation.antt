@@ -1,5 +1,5 @@
 -- How an address translates: through the first row of its page, where the row has the flag and is fit.
-use Rattle.std.specs.Prelude.{ℕ, ◌+◌, ◌*◌, ◌/◌, ◌%◌, Bool, true, false, not, ◌&&◌, ◌||◌, ◌==◌, if◌then◌else◌, List, Option, Some, None, Result, Ok, Err, position, slice_get}
+use Rattle.std.specs.Prelude.{ℕ, ◌+◌, ◌*◌, ◌/◌, ◌%◌, Bool, false, not, ◌&&◌, ◌||◌, ◌==◌, if◌then◌else◌, List, Option, Some, None, Result, Ok, Err, position, slice_get}
 use Rattle.flat_machine.specs.declared.plain.GroupRights.{GroupRights}
 use Rattle.flat_machine.specs.declared.plain.KernelNo.{KernelNo}
 use Rattle.flat_machine.specs.declared.plain.Flags.{Flags}

@@ -1,7 +1,6 @@
 -- What is told of the bytes of a source, and of how a run came out.
 use Rattle.std.proofs.Common.{◌≡◌, ℕ, ◌≤◌, List, length, Option, Some, None, subst}
 use Rattle.std.specs.Prelude.{IfSome}
-use Rattle.flat_machine.specs.declared.plain.Decl.{Decl}
 use Rattle.scenario_text.specs.declared.fault.ScenarioFault.TheVariants as faults
 use Rattle.proc_run.specs.declared.outcome.RunStatus.{RunStatus}
 use Rattle.proc_run.specs.declared.outcome.RunStatus.TheVariants.{Done, Spent, ReadFault, WriteFault, NoMemory, Usage, TooLong, Unbuilt}

@@ -1,9 +1,10 @@
 -- Journals that grow.
-use Rattle.std.proofs.Common.{◌≡◌, ◌≢◌, ℕ, ◌+◌, Bool, true, false, cond, subst, List, [], ◌∷◌, ◌++◌, Option, Some, None, refl, sym, ap, ◌∙◌, append_assoc, arith}
-use Rattle.std.specs.Prelude.{map, count_by}
+use Rattle.std.proofs.Common.{◌≡◌, ◌≢◌, ℕ, ◌+◌, ◌<◌, length, true, false, cond, subst, List, [], ◌∷◌, ◌++◌, Some, None, refl, sym, ap, ◌∙◌, append_assoc, arith}
+use Rattle.std.specs.Prelude.{count_by}
 use Rattle.std.proofs.lemmas.List.{append-nil}
 use Rattle.std.proofs.lemmas.List.Sums.{sum_by-append}
 use Rattle.flat_machine.specs.declared.plain.Decl.{Decl}
+use Rattle.flat_machine.specs.declared.plain.Decl.TheVariants as decls
 use Rattle.flat_machine.specs.declared.plain.Event.TheVariants.{Declare}
 use Rattle.flat_machine.specs.declared.plain.Settled.{Settled}
 use Rattle.flat_machine.specs.declared.plain.Settled.TheVariants.{Running}
@@ -12,9 +13,8 @@ use Rattle.flat_machine.specs.Declaration.{broken_rule, declared}
 use Rattle.flat_machine.specs.Events.{AllFit, applied, after_events, after_declarations, flat}
 use Rattle.flat_machine.specs.Settling.{settled_of}
 use Rattle.proc_run.specs.declared.journal.Entry.{Entry}
-use Rattle.proc_run.specs.declared.journal.Entry.TheVariants.{Declared, Sealed, Ran, Ended, Completed}
 use Rattle.proc_run.specs.Journals.{events_of, erase, is_step, steps_in, opening}
-use Rattle.proc_run.specs.Legality.{EntryIsLegal, AreLegal, IsLegal}
+use Rattle.proc_run.specs.Legality.{EntryIsLegal, AreLegal, BeginsWithMachine, IsLegal}
 use Rattle.proc_run.specs.Running.{Extends, IsRun}
 use Rattle.proc_run.proofs.Steps.{after_events-append}
 
@@ -76,13 +76,27 @@ no_steps : (ds : List Decl) → steps_in (opening ds) ≡ 0
 no_steps [] = refl
 no_steps (d ∷ ds) = no_steps ds
 
+some_is_none : (rule : ℕ) (P : Type 0) → Some rule ≡ None → P
+some_is_none rule P e = absurd cc
+
+-- the first declaration that fits is the machine's
+machine_first : (ds : List Decl) (rest : List Entry) → 0 < length ds → AllFit nothing_declared ds → BeginsWithMachine (opening ds ++ rest)
+machine_first [] rest some fit = absurd (omega arith)
+machine_first (decls.Machine machine ∷ ds) rest some fit = tt
+machine_first (decls.Kernel n ∷ ds) rest some fit = some_is_none 5 _ fit.0
+machine_first (decls.Right kernel group read write ∷ ds) rest some fit = some_is_none 5 _ fit.0
+machine_first (decls.Space n kernel ∷ ds) rest some fit = some_is_none 5 _ fit.0
+machine_first (decls.Thread n space pc ∷ ds) rest some fit = some_is_none 5 _ fit.0
+machine_first (decls.Map space vpn frame flags ∷ ds) rest some fit = some_is_none 5 _ fit.0
+machine_first (decls.Word frame offset value ∷ ds) rest some fit = some_is_none 5 _ fit.0
+
 -- a run goes on from the seal to its end
-pub is_run : (ds : List Decl) (j : List Entry) (s : FlatState) (settled : Settled) (steps limit : ℕ) → AllFit nothing_declared ds
+pub is_run : (ds : List Decl) (j : List Entry) (s : FlatState) (settled : Settled) (steps limit : ℕ) → 0 < length ds → AllFit nothing_declared ds
     → Extends (after_declarations nothing_declared ds) (opening ds) s j steps → settled ≡ settled_of s steps limit → settled ≢ Running → IsRun ds j s settled steps limit
-is_run ds j s settled steps limit fit extends status over = record {
+is_run ds j s settled steps limit some fit extends status over = record {
   rest = extends.rest;
   begins = extends.grown;
-  legal = subst IsLegal (sym extends.grown) (legal_opening nothing_declared ds extends.rest fit extends.legal);
+  legal = subst IsLegal (sym extends.grown) (machine_first ds extends.rest some fit, legal_opening nothing_declared ds extends.rest fit extends.legal);
   state = extends.state ∙ ap (λ (x : FlatState). after_events x (erase extends.rest)) (sym (erased_opening nothing_declared ds fit)) ∙ sym (after_erased-append nothing_declared (opening ds) extends.rest) ∙ ap (λ (x : List Entry). flat (erase x)) (sym extends.grown);
   count = omega (arith, extends.count, no_steps ds, steps_in-append (opening ds) extends.rest, ap steps_in extends.grown);
   status = status;

@@ -1,13 +1,13 @@
 -- Events one after another.
-use Rattle.std.proofs.Common.{◌≡◌, ℕ, zero, suc, ◌+◌, ◌<◌, Bool, true, false, List, [], ◌∷◌, ◌++◌, Option, Some, None, refl, sym, ap, ◌∙◌, cond, add-one, below_more, arith}
+use Rattle.std.proofs.Common.{◌≡◌, ℕ, ◌+◌, true, false, List, [], ◌∷◌, ◌++◌, Option, Some, None, refl, ap, ◌∙◌, below_more}
 use Rattle.std.proofs.lemmas.Grind.{replicate_next}
-use Rattle.std.specs.Prelude.{replicate, slice_get, unwrap_or, IsSome}
+use Rattle.std.specs.Prelude.{replicate, slice_get, IsSome}
 use Rattle.flat_machine.specs.declared.plain.ThreadNo.{ThreadNo}
 use Rattle.flat_machine.specs.declared.plain.Event.{Event}
-use Rattle.flat_machine.specs.declared.plain.Event.TheVariants.{Declare, Step, Complete}
+use Rattle.flat_machine.specs.declared.plain.Event.TheVariants.{Step, Complete}
 use Rattle.flat_machine.specs.declared.plain.FlatThread.{FlatThread}
 use Rattle.flat_machine.specs.State.{FlatState}
-use Rattle.flat_machine.specs.Step.{is_ready, step_of_thread, faults}
+use Rattle.flat_machine.specs.Step.{is_ready, step_of_thread}
 use Rattle.flat_machine.specs.Call.{is_trapped, completion_of_thread}
 use Rattle.flat_machine.specs.Events.{after_event, applied, after_events}
 use Rattle.proc_run.specs.Legality.{TakesStep, TakesSteps, after_steps}

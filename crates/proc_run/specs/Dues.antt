@@ -1,5 +1,5 @@
 -- What is told of a text before it is written.
-use Rattle.std.specs.Prelude.{◌≡◌, ℕ, List, Option, Result, Ok, Err, IfSome}
+use Rattle.std.specs.Prelude.{◌≡◌, ℕ, List, Option, Result, Err, IfSome}
 use Rattle.std.specs.Io.KnownBytes.{IsAtEnd}
 use Rattle.flat_machine.specs.declared.plain.Decl.{Decl}
 use Rattle.flat_machine.specs.declared.plain.Settled.{Settled}

@@ -1,5 +1,5 @@
 -- What happened to a machine, and the events that are left of it.
-use Rattle.std.specs.Prelude.{ℕ, ◌+◌, Bool, true, false, ◌||◌, List, [], ◌∷◌, ◌++◌, map, replicate, count_by}
+use Rattle.std.specs.Prelude.{ℕ, Bool, true, false, List, [], ◌∷◌, ◌++◌, map, replicate, count_by}
 use Rattle.flat_machine.specs.declared.plain.Decl.{Decl}
 use Rattle.flat_machine.specs.declared.plain.Event.{Event}
 use Rattle.flat_machine.specs.declared.plain.Event.TheVariants.{Declare, Step, Complete}

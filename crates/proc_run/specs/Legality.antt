@@ -1,7 +1,8 @@
 -- When a journal is legal.
 use Rattle.std.specs.Prelude.{◌≡◌, ℕ, ◌<◌, ◌≤◌, Bool, true, false, ◌||◌, List, [], ◌∷◌, None, IsSome, replicate}
 use Rattle.flat_machine.specs.declared.plain.ThreadNo.{ThreadNo}
-use Rattle.flat_machine.specs.declared.plain.Event.TheVariants.{Declare, Step, Complete}
+use Rattle.flat_machine.specs.declared.plain.Decl.TheVariants.{Machine}
+use Rattle.flat_machine.specs.declared.plain.Event.TheVariants.{Step, Complete}
 use Rattle.flat_machine.specs.State.{FlatState, nothing_declared}
 use Rattle.flat_machine.specs.Declaration.{broken_rule}
 use Rattle.flat_machine.specs.Step.{faults}
@@ -37,6 +38,11 @@ abbrev pub AreLegal : FlatState → Bool → List Entry → Type 0
 AreLegal s sealed [] = Unit {0}
 AreLegal s sealed (e ∷ es) = EntryIsLegal s sealed e × AreLegal (after_events s (events_of e)) (sealed || is_seal e) es
 
+-- the machine is declared first
+abbrev pub BeginsWithMachine : List Entry → Type 0
+BeginsWithMachine (Declared (Machine machine) ∷ es) = Unit {0}
+BeginsWithMachine _ = ⊥
+
 -- a journal is legal from its first entry on
 abbrev pub IsLegal : List Entry → Type 0
-IsLegal j = AreLegal nothing_declared false j
+IsLegal j = BeginsWithMachine j × AreLegal nothing_declared false j

@@ -1,9 +1,8 @@
 -- What is due to be written, and what each answer of the whole run says.
-use Rattle.std.specs.Prelude.{◌≡◌, ◌≢◌, ℕ, ◌<◌, ◌≤◌, List, [], ◌∷◌, ◌++◌, length, codes, Option, IfSome}
+use Rattle.std.specs.Prelude.{◌≡◌, ◌≢◌, ℕ, ◌<◌, ◌≤◌, List, [], ◌++◌, length, codes, Option, IfSome}
 use Rattle.std.specs.Fmt.{decimal}
-use Rattle.std.specs.Io.KnownBytes.{Appends, IsAtEnd, Keeps}
-use Rattle.byte_ports.specs.Faults.{HasRisen}
-use Rattle.byte_ports.specs.Whole.{TakesMore, AppendsFront}
+use Rattle.std.specs.Io.KnownBytes.{IsAtEnd, Keeps}
+use Rattle.byte_ports.specs.Whole.{TakesMore}
 use Rattle.flat_machine.specs.declared.plain.Decl.{Decl}
 use Rattle.flat_machine.specs.declared.plain.Settled.{Settled}
 use Rattle.flat_machine.specs.declared.plain.Settled.TheVariants as settled

@@ -1,5 +1,5 @@
 -- What a part of a run does to the machine and to the journal.
-use Rattle.std.specs.Prelude.{◌≡◌, ◌≢◌, ℕ, ◌+◌, ◌*◌, ◌≤◌, Bool, true, false, List, [], ◌∷◌, ◌++◌, Option, Some, None, count_by}
+use Rattle.std.specs.Prelude.{◌≡◌, ◌≢◌, ℕ, Bool, true, false, List, ◌++◌, Option, Some, None, count_by}
 use Rattle.flat_machine.specs.declared.plain.Decl.{Decl}
 use Rattle.flat_machine.specs.declared.plain.Status.{Status}
 use Rattle.flat_machine.specs.declared.plain.FlatThread.{FlatThread}

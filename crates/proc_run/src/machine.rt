@@ -1,6 +1,6 @@
 //! The whole run.
 
-ghost use Rattle.std.specs.Prelude.{◌≡◌, ◌≢◌, ◌≤◌, [], List, ℕ, IfOk, OnOk, Some, length};
+ghost use Rattle.std.specs.Prelude.{◌≡◌, ◌≢◌, ◌<◌, ◌≤◌, [], List, ℕ, IfOk, OnOk, Some, length};
 ghost use Rattle.std.specs.Io.KnownBytes.{Appends, Keeps};
 ghost use Rattle.byte_ports.specs.Faults.{HasRisen};
 ghost use Rattle.byte_ports.specs.Whole.{AppendsFront};
@@ -90,7 +90,8 @@ fn unbuilt(alloc: Global, number: u64) -> Result<DueText, AllocError>
 
 // The report of the run of a scenario.
 fn answered(alloc: Global, decls: &[Decl]) -> Result<DueText, NoMemory>
-    requires { AllFit nothing_declared decls.now }
+    requires some { 0 < length decls.now }
+    requires fit { AllFit nothing_declared decls.now }
     ensures due { IfOk result (λ d. IsDueFor decls.now d.status d.kept d.text.items) }
     ensures ran { IfOk result (λ d. IsRan d.status) }
 {

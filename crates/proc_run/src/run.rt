@@ -1,6 +1,6 @@
 //! How a machine runs, and how the journal comes along.
 
-ghost use Rattle.std.specs.Prelude.{◌≡◌, ◌≢◌, ◌<◌, ◌≤◌, ◌+◌, ◌*◌, ◌++◌, true, false, IfSome, IfNone, OnOk, IfOk, map, slice_get};
+ghost use Rattle.std.specs.Prelude.{◌≡◌, ◌≢◌, ◌<◌, ◌≤◌, ◌+◌, ◌*◌, ◌++◌, true, false, IfSome, IfNone, OnOk, IfOk, length, map, slice_get};
 ghost use Rattle.std.specs.List.{list_any};
 ghost use Rattle.flat_machine.specs.State.{nothing_declared};
 ghost use Rattle.flat_machine.specs.Step.{is_ready as is_ready_lem, faults};
@@ -184,7 +184,8 @@ fn declare_all(flat: &mut Flat, journal: &mut Journal, decls: &[Decl]) -> Result
 
 /// Runs the machine of these declarations until all its threads have ended or it has taken `limit` steps.
 pub fn run(alloc: Global, decls: &[Decl], limit: u64) -> Result<Finished, NoMemory>
-    requires { AllFit nothing_declared decls.now }
+    requires some { 0 < length decls.now }
+    requires fit { AllFit nothing_declared decls.now }
     ensures { IfOk result (λ f. IsRun decls.now f.journal f.flat f.settled f.steps limit) }
 {
     let mut flat = Flat::new(alloc);

@@ -1,6 +1,4 @@
-use Rattle.std.proofs.Common.{◌∙◌, List, sym}
-use Rattle.flat_machine.specs.declared.plain.Decl.{Decl}
-use Rattle.scenario_text.specs.Spelling.{IsBuilt}
+use Rattle.std.proofs.Common.{◌∙◌, sym}
 use Rattle.proc_run.specs.Outcomes.{IsNotBuilt}
 use Rattle.proc_run.proofs.Answered.{not_built_told, two_faults}
 use Rattle.proc_run.proofs.machine.due_for.Goals as goal

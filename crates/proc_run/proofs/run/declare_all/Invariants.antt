@@ -1,4 +1,4 @@
-use Rattle.std.proofs.Common.{◌≡◌, ◌++◌, drop, take}
+use Rattle.std.proofs.Common.{◌≡◌, ◌++◌, drop}
 use Rattle.std.specs.Prelude.{map}
 use Rattle.flat_machine.specs.Events.{AllFit, after_declarations}
 use Rattle.proc_run.specs.declared.journal.Entry.TheVariants.{Declared}

@@ -17,4 +17,4 @@ returns c =
     let journal_is : c.push.new.self ≡ opening ds = c.in_ok-push.ensures.ok ∙ ap (λ (j : List Entry). j ++ Sealed ∷ []) (c.in_ok-declare_all.ensures.journal ∙ ap (λ (j : List Entry). j ++ map (λ d. Declared d) ds) c.new-journal.ensures) in
     let from_flat : Extends (after_declarations nothing_declared ds) c.push.new.self c.run_on.new.flat c.run_on.new.journal c.in_ok-settled.steps = subst (λ (s : FlatState). Extends s c.push.new.self c.run_on.new.flat c.run_on.new.journal c.in_ok-settled.steps) flat_is end.extends in
     let from_opening : Extends (after_declarations nothing_declared ds) (opening ds) c.run_on.new.flat c.run_on.new.journal c.in_ok-settled.steps = subst (λ (j : List Entry). Extends (after_declarations nothing_declared ds) j c.run_on.new.flat c.run_on.new.journal c.in_ok-settled.steps) journal_is from_flat in
-    is_run ds c.run_on.new.journal c.run_on.new.flat c.in_ok-settled.settled c.in_ok-settled.steps c.args.limit c.requires from_opening end.settled end.over
+    is_run ds c.run_on.new.journal c.run_on.new.flat c.in_ok-settled.settled c.in_ok-settled.steps c.args.limit c.requires.some c.requires.fit from_opening end.settled end.over
