@@ -8,3 +8,4 @@ pub mod Call
 pub mod Events
 pub mod Settling
 pub mod AtPlace
+pub mod RowIndex

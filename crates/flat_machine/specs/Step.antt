@@ -39,17 +39,25 @@ abbrev pub after_fetch : List ℕ → FlatThread → Row → FlatThread
 after_fetch memory t row =
     let word = word_at memory (address_in row t.context.pc) in after_instruction t word (instruction word)
 
+abbrev pub set_marked : List Row → ℕ → Option Row → List Row
+set_marked rows place None = rows
+set_marked rows place (Some row) = slice_set rows place (record row { referenced = true })
+
+-- the rows with the one at a place marked as gone through
+abbrev pub marked : List Row → ℕ → List Row
+marked rows place = set_marked rows place (slice_get rows place)
+
 -- the rows with the first row of the page marked as gone through
-abbrev pub with_mark : List Row → Option ℕ → Row → List Row
-with_mark rows None row = rows
-with_mark rows (Some place) row = slice_set rows place (record row { referenced = true })
+abbrev pub with_mark : List Row → Option ℕ → List Row
+with_mark rows None = rows
+with_mark rows (Some place) = marked rows place
 
 -- A step whose fetch doesn't translate ends the thread and changes nothing else. Every other one marks the row.
 abbrev pub stepped : FlatState → ℕ → FlatThread → Result Row FaultKind → FlatState
 stepped s n t (Err kind) = record s { threads = slice_set s.threads n (ended t (Fault kind Fetch t.context.pc)) }
 stepped s n t (Ok row) =
     record s {
-      rows = with_mark s.rows (row_place s.rows t.space.0 (t.context.pc / 4096)) row;
+      rows = with_mark s.rows (row_place s.rows t.space.0 (t.context.pc / 4096));
       threads = slice_set s.threads n (after_fetch s.memory t row);
     }
 

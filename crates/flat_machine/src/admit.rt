@@ -3,7 +3,6 @@
 ghost use Rattle.std.specs.Prelude.{◌≡◌, None, Some, MatchResult};
 ghost use Rattle.flat_machine.specs.Declaration.{groups_of, has_frame as has_frame_lem, Gives, broken_rule, rule_of_first as rule_of_first_lem, rule_of_kernel as rule_of_kernel_lem, rule_of_right as rule_of_right_lem, rule_of_space as rule_of_space_lem, rule_of_thread as rule_of_thread_lem, rule_of_map as rule_of_map_lem, rule_of_word as rule_of_word_lem};
 
-use crate::fetch::row_place;
 use crate::flat::Flat;
 use crate::plain::{Decl, Flags, Frame, KernelNo, SpaceNo, ThreadNo, Vpn};
 
@@ -146,7 +145,7 @@ impl Flat {
         if !self.has_frame(frame) || 1048575 < vpn.0 {
             return Err(13);
         }
-        if row_place(&self.rows, space, vpn).is_some() {
+        if self.rows.place(space, vpn).is_some() {
             return Err(17);
         }
         Ok(())

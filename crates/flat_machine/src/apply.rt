@@ -8,13 +8,14 @@ ghost use Rattle.flat_machine.specs.Call.{after_completion};
 ghost use Rattle.flat_machine.specs.Events.{applied};
 
 use crate::NoMemory;
-use crate::fetch::{fetch_through, row_at, row_place, word_at};
+use crate::fetch::{fetch_through, row_at, word_at};
 use crate::flat::Flat;
 use crate::output::Output;
 use crate::plain::{
     Access, Context, Decl, Event, Flags, FlatThread, Frame, GroupRights, Machine, Reason, Row,
     SpaceNo, Status, ThreadNo, Vpn,
 };
+use crate::rows::RowTable;
 use crate::thread::{complete_at, end_thread, is_in_call, next_fetch, take_word};
 
 const NO_RIGHTS: [GroupRights; 16] = [GroupRights {
@@ -58,23 +59,20 @@ fn store_word(memory: &mut [u8], at: usize, value: u32)
     memory[at + 3] = bytes[3];
 }
 
-// Marks the row at that place, whose content is given, as gone through.
-fn mark(rows: &mut [Row], place: Option<usize>, row: Row)
-    ensures { rows.new ≡ with_mark rows.old place row }
+// Marks the row at that place, where there is one, as gone through.
+fn mark(rows: &mut RowTable, place: Option<usize>)
+    ensures { rows.new ≡ with_mark rows.old place }
 {
     if let Some(place) = place {
         if place < rows.len() {
-            rows[place] = Row {
-                referenced: true,
-                ..row
-            };
+            rows.mark(place);
         }
     }
 }
 
 impl Flat {
     /// Makes the event happen. One that doesn't fit leaves the machine as it is, and so does want of memory.
-    /// A step and a completion look through the rows at the most, and a declaration adds at the end.
+    /// A step and a row cost the logarithm of the rows, the machine its memory, and all else constant time.
     pub fn apply(&mut self, event: &Event) -> Result<(), NoMemory>
         ensures ok { OnOk result (self.new ≡ applied self.old event.now) }
         ensures err { OnErr result (self.new ≡ self.old) }
@@ -153,8 +151,8 @@ impl Flat {
         let Some((space, va)) = next_fetch(&self.threads, at) else {
             return;
         };
-        let place = row_place(&self.rows, space, Vpn(va / 4096));
-        let row = row_at(&self.rows, place);
+        let place = self.rows.place(space, Vpn(va / 4096));
+        let row = row_at(self.rows.as_slice(), place);
         match fetch_through(&self.kernels, &self.spaces, row) {
             Err(kind) => {
                 let access = Access::Fetch;
@@ -164,7 +162,7 @@ impl Flat {
             Ok(row) => {
                 let place_of_word = 4096 * row.frame.0 as usize + (va % 4096) as usize;
                 let word = word_at(&self.memory, place_of_word);
-                mark(&mut self.rows, place, row);
+                mark(&mut self.rows, place);
                 take_word(&mut self.threads, at, word);
             }
         }

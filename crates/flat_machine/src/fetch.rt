@@ -1,18 +1,10 @@
 //! How the address of an instruction translates.
 
 ghost use Rattle.std.specs.Prelude.{◌≡◌, ◌<◌, ◌^◌, slice_index};
-ghost use Rattle.flat_machine.specs.Translation.{row_place as row_place_lem, row_at as row_at_lem, allows as allows_lem, is_fit as is_fit_lem, fetch_through as fetch_through_lem};
+ghost use Rattle.flat_machine.specs.Translation.{row_at as row_at_lem, allows as allows_lem, is_fit as is_fit_lem, fetch_through as fetch_through_lem};
 ghost use Rattle.flat_machine.specs.Step.{word_at as word_at_lem};
 
-use crate::plain::{FaultKind, Flags, GroupRights, KernelNo, Row, SpaceNo, Vpn};
-
-/// The place of the first row of a page.
-pub fn row_place(rows: &[Row], space: SpaceNo, vpn: Vpn) -> Option<usize>
-    ensures { result ≡ row_place_lem rows.now space.0 vpn.0 }
-{
-    rows.iter()
-        .position(|row| row.space.0 == space.0 && row.vpn.0 == vpn.0)
-}
+use crate::plain::{FaultKind, Flags, GroupRights, KernelNo, Row};
 
 fn allows(right: GroupRights, flags: Flags) -> bool
     ensures { result ≡ allows_lem right flags }

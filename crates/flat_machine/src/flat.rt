@@ -7,10 +7,11 @@ ghost use Rattle.flat_machine.specs.Translation.{row_place as row_place_lem, row
 ghost use Rattle.flat_machine.specs.Step.{faults as faults_lem};
 ghost use Rattle.flat_machine.specs.Settling.{settled_of};
 
-use crate::fetch::{fetch_through, row_at, row_place};
+use crate::fetch::{fetch_through, row_at};
 use crate::plain::{
     FlatThread, GroupRights, KernelNo, Machine, Row, Settled, SpaceNo, ThreadNo, Vpn,
 };
+use crate::rows::RowTable;
 use crate::thread::{all_ended, any_trapped};
 use std::alloc::Global;
 use std::marker::Model;
@@ -23,7 +24,7 @@ pub struct Flat {
     pub(crate) memory: Vec<u8>,
     pub(crate) kernels: Vec<[GroupRights; 16]>,
     pub(crate) spaces: Vec<KernelNo>,
-    pub(crate) rows: Vec<Row>,
+    pub(crate) rows: RowTable,
     pub(crate) threads: Vec<FlatThread>,
 }
 
@@ -33,7 +34,7 @@ impl Model for Flat {
 
     ghost Value = { FlatState };
 
-    ghost view = { λ f. record { machine = f.machine; memory = f.memory.items; kernels = f.kernels.items; spaces = f.spaces.items; rows = f.rows.items; threads = f.threads.items } };
+    ghost view = { λ f. record { machine = f.machine; memory = f.memory.items; kernels = f.kernels.items; spaces = f.spaces.items; rows = f.rows; threads = f.threads.items } };
 
     ghost invariant = { λ f. IsWithinBounds f.machine f.memory.items f.spaces.items f.threads.items };
 }
@@ -49,7 +50,7 @@ impl Flat {
             memory: Vec::new(alloc),
             kernels: Vec::new(alloc),
             spaces: Vec::new(alloc),
-            rows: Vec::new(alloc),
+            rows: RowTable::new(alloc),
             threads: Vec::new(alloc),
         }
     }
@@ -82,15 +83,15 @@ impl Flat {
         self.threads.get(no.0 as usize)
     }
 
-    /// The first row of that page, and none where there is none. It looks through the rows.
+    /// The first row of that page, and none where there is none. It costs the logarithm of the rows.
     pub fn row(&self, space: SpaceNo, vpn: Vpn) -> Option<&Row>
         ensures { option_copied result ≡ row_at_lem self.now.rows (row_place_lem self.now.rows space.0 vpn.0) }
     {
-        let place = row_place(&self.rows, space, vpn)?;
-        self.rows.get(place)
+        let place = self.rows.place(space, vpn)?;
+        self.rows.as_slice().get(place)
     }
 
-    /// Whether the address of the thread's next instruction doesn't translate. It looks through the rows.
+    /// Whether the address of the thread's next instruction doesn't translate. It costs the logarithm of the rows.
     pub fn faults(&self, no: ThreadNo) -> bool
         ensures { result ≡ faults_lem self.now no.0 }
     {
@@ -98,7 +99,7 @@ impl Flat {
             return false;
         };
         let page = Vpn(thread.context.pc / 4096);
-        let row = row_at(&self.rows, row_place(&self.rows, thread.space, page));
+        let row = row_at(self.rows.as_slice(), self.rows.place(thread.space, page));
         fetch_through(&self.kernels, &self.spaces, row).is_err()
     }
 

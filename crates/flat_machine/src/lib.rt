@@ -9,6 +9,7 @@ mod flat;
 mod instr;
 mod output;
 mod plain;
+mod rows;
 mod thread;
 
 pub use flat::Flat;

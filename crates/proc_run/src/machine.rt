@@ -146,7 +146,7 @@ fn due<S: Source>(alloc: Global, words: &Words, source: &mut S) -> Result<DueTex
 /// have ended or 1,000,000 steps are taken, and writes the report to the sink. No words are accepted. All text is
 /// made before the first write.
 ///
-/// It costs the steps, each of them a look through the rows, and memory for the scenario, the machine, one entry for
+/// It costs the steps, each of them the logarithm of the rows, and memory for the scenario, the machine, one entry for
 /// every 256 steps and each thread call, and the report.
 pub fn run_machine<S: Source, W: Sink>(
     alloc: Global,
