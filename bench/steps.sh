@@ -1,4 +1,5 @@
 #!/usr/bin/env bash
+# Usage: bench/steps.sh
 # Times a loop of `step` over a small plain space, for 10 and 20 million steps, and prints steps a second.
 # Twice the steps should take twice the time: a step costs the same however many were taken.
 #
