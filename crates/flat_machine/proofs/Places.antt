@@ -1,5 +1,5 @@
 -- The index of rows by page, as rows are added.
-use Rattle.std.proofs.Common.{◌≡◌, ◌≢◌, ℕ, suc, ◌+◌, ◌<◌, ◌≤◌, Bool, true, false, not, ◌&&◌, cond, eqb, ltb, List, [], ◌∷◌, ◌++◌, length, Option, Some, None, refl, sym, ap, ◌∙◌, inl, inr, subst, arith, length-append}
+use Rattle.std.proofs.Common.{◌≡◌, ℕ, suc, ◌+◌, ◌<◌, ◌≤◌, Bool, true, false, not, ◌&&◌, cond, eqb, ltb, List, [], ◌∷◌, ◌++◌, length, Option, Some, None, refl, sym, ap, ◌∙◌, inl, inr, subst, arith, length-append}
 use Rattle.std.specs.List.{position, position_or_len}
 use Rattle.std.specs.Ordering.{nat_cmp, is_eq, ordering_then}
 use Rattle.std.specs.Cmp.{nat_cmp_is}
@@ -21,9 +21,9 @@ equal_numbers a b =
     elim (cases_order a b) [
       | inl e ↦ rw (← nat_cmp_is a b Equal e, eq-eqb a b e) refl
       | inr h ↦ elim h [
-          | inl lt ↦ rw (← nat_cmp_is a b Less lt, ne_eqb a b (omega arith)) refl
-          | inr gt ↦ rw (← nat_cmp_is a b Greater gt, ne_eqb a b (omega arith)) refl
-        ]
+        | inl lt ↦ rw (← nat_cmp_is a b Less lt, ne_eqb a b (omega arith)) refl
+        | inr gt ↦ rw (← nat_cmp_is a b Greater gt, ne_eqb a b (omega arith)) refl
+      ]
     ]
 
 equal_then : (a b : Ordering) → is_eq (ordering_then a b) ≡ (is_eq a && is_eq b)
@@ -92,7 +92,7 @@ pub row_place_more : (rows : List Row) (row : Row) (key : PageKey) → row_place
     → row_place (rows ++ row ∷ []) key.space key.vpn ≡ cond (is_eq (page_cmp (record { space = row.space.0; vpn = row.vpn.0 }) key)) (Some (length rows)) (row_place rows key.space key.vpn)
 row_place_more rows row key none =
     let absent : is_row_of key.space key.vpn row ≡ true → row_place rows key.space key.vpn ≡ None = λ e.
-        let both = and_true (eqb row.space.0 key.space) (eqb row.vpn.0 key.vpn) e in
-        subst (λ (s : ℕ). row_place rows s key.vpn ≡ None) (eqb-true _ _ both.0) (subst (λ (v : ℕ). row_place rows row.space.0 v ≡ None) (eqb-true _ _ both.1) none) in
+    let both = and_true (eqb row.space.0 key.space) (eqb row.vpn.0 key.vpn) e in
+    subst (λ (s : ℕ). row_place rows s key.vpn ≡ None) (eqb-true _ _ both.0) (subst (λ (v : ℕ). row_place rows row.space.0 v ≡ None) (eqb-true _ _ both.1) none) in
     position_more (is_row_of key.space key.vpn) rows row absent
     ∙ ap (λ (b : Bool). cond b (Some (length rows)) (row_place rows key.space key.vpn)) (sym (same_page (record { space = row.space.0; vpn = row.vpn.0 }) key))

@@ -1,4 +1,4 @@
-use Rattle.std.proofs.Common.{◌≡◌, ◌∙◌, ◌++◌, ◌∷◌, [], ℕ, List, Bool, Option, Some, None, cond, length, sym, ap, subst, arith}
+use Rattle.std.proofs.Common.{◌≡◌, ◌∙◌, ◌++◌, ◌∷◌, [], ℕ, List, Option, Some, None, cond, length, sym, ap, subst, arith}
 use Rattle.std.specs.Ordering.{is_eq}
 use Rattle.flat_machine.specs.declared.plain.Row.{Row}
 use Rattle.flat_machine.specs.Translation.{row_place}
