@@ -45,11 +45,12 @@ exit_status Usage = 7
 exit_status TooLong = 8
 exit_status (Unbuilt line) = 9
 
--- The bytes, where they were told, are a built scenario. The journal begins with its declarations and the seal, and
+-- The bytes, where they were told, are not too many and a built scenario. The journal begins with its declarations and the seal, and
 -- is legal. The run is settled so, as the machine with unlimited tables is on what is left of the journal, and the
 -- text is the report of that machine.
 pub record IsRunOf (bytes : Option (List ℕ)) (how : Settled) (j : List Entry) (text : List ℕ) : Type 0 where
   pub decls : List Decl
+  pub few : IfSome bytes (λ bs. length bs ≤ most_bytes)
   pub built : IfSome bytes (λ bs. IsBuilt bs decls)
   pub rest : List Entry
   pub begins : j ≡ opening decls ++ rest
