@@ -147,8 +147,17 @@ of_two name a b = register a >>= λ r. with_base name r (bracketed b) b
 
 -- ---- three operands, of which the first two are registers
 
+abbrev pub immediate_at : List ℕ → ℕ → ℕ → List ℕ → Option Instr
+immediate_at name rd rs1 bytes = signed_12 bytes >>= immediate_form name rd rs1
+
+abbrev pub shift_at : List ℕ → ℕ → ℕ → List ℕ → Option Instr
+shift_at name rd rs1 bytes = immediate_in (pos 0) (pos 31) bytes >>= shift name rd rs1
+
+abbrev pub fence_at : List ℕ → ℕ → ℕ → List ℕ → Option Instr
+fence_at name rd rs1 bytes = immediate_in (pos 0) (pos 4095) bytes >>= fence name rd rs1
+
 unfoldable pub with_immediate : List ℕ → ℕ → ℕ → List ℕ → Option Instr
-with_immediate name rd rs1 bytes = or_else (signed_12 bytes >>= immediate_form name rd rs1) (or_else (immediate_in (pos 0) (pos 31) bytes >>= shift name rd rs1) (immediate_in (pos 0) (pos 4095) bytes >>= fence name rd rs1))
+with_immediate name rd rs1 bytes = or_else (immediate_at name rd rs1 bytes) (or_else (shift_at name rd rs1 bytes) (fence_at name rd rs1 bytes))
 
 abbrev pub without_third : List ℕ → ℕ → ℕ → Option (List ℕ × ℕ) → List ℕ → Option Instr
 without_third name x y (Some base) bytes = if length base.0 == 0 then atomic_named name x base.1 y else None

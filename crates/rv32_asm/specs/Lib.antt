@@ -1,1 +1,4 @@
 pub mod Fields
+pub mod Aims
+pub mod Forms
+pub mod Line

@@ -3,8 +3,7 @@
 ghost use Rattle.std.specs.Prelude.{◌≡◌, pos, negsuc, IfSome};
 ghost use Rattle.rv32_isa.specs.Table.{IsRegister, LiesFrom, IsValid};
 ghost use Rattle.rv32_asm.specs.Aims.{IsAim};
-ghost use Rattle.rv32_asm.specs.Fields.{◌>>=◌, immediate_in as immediate_in_lem};
-ghost use Rattle.rv32_asm.specs.Forms.{upper as upper_lem, load as load_lem, store as store_lem, immediate_form as immediate_form_lem, shift as shift_lem, fence as fence_lem, register_form as register_form_lem, product as product_lem, atomic as atomic_lem, branch as branch_lem, ordering as ordering_lem, atomic_named as atomic_named_lem, signed_12, with_immediate as with_immediate_lem, of_two as of_two_lem, of_three as of_three_lem};
+ghost use Rattle.rv32_asm.specs.Forms.{upper as upper_lem, load as load_lem, store as store_lem, immediate_form as immediate_form_lem, shift as shift_lem, fence as fence_lem, register_form as register_form_lem, product as product_lem, atomic as atomic_lem, branch as branch_lem, ordering as ordering_lem, atomic_named as atomic_named_lem, immediate_at, shift_at, fence_at, with_immediate as with_immediate_lem, of_two as of_two_lem, of_three as of_three_lem};
 
 use crate::fields::{bracketed, cut, immediate_in, is, register};
 use rv32_isa::Instr;
@@ -323,7 +322,7 @@ pub(crate) fn of_two(name: &[u8], a: &[u8], b: &[u8]) -> Option<Instr>
 fn immediate_of(name: &[u8], rd: u32, rs1: u32, bytes: &[u8]) -> Option<Instr>
     requires rd { IsRegister rd }
     requires rs1 { IsRegister rs1 }
-    ensures is { result ≡ (signed_12 bytes.now >>= immediate_form_lem name.now rd rs1) }
+    ensures is { result ≡ immediate_at name.now rd rs1 bytes.now }
     ensures valid { IfSome result IsValid }
 {
     let imm = immediate_in(-2048, 2047, bytes)?;
@@ -333,7 +332,7 @@ fn immediate_of(name: &[u8], rd: u32, rs1: u32, bytes: &[u8]) -> Option<Instr>
 fn shift_of(name: &[u8], rd: u32, rs1: u32, bytes: &[u8]) -> Option<Instr>
     requires rd { IsRegister rd }
     requires rs1 { IsRegister rs1 }
-    ensures is { result ≡ (immediate_in_lem (pos 0) (pos 31) bytes.now >>= shift_lem name.now rd rs1) }
+    ensures is { result ≡ shift_at name.now rd rs1 bytes.now }
     ensures valid { IfSome result IsValid }
 {
     let imm = immediate_in(0, 31, bytes)?;
@@ -343,7 +342,7 @@ fn shift_of(name: &[u8], rd: u32, rs1: u32, bytes: &[u8]) -> Option<Instr>
 fn fence_of(name: &[u8], rd: u32, rs1: u32, bytes: &[u8]) -> Option<Instr>
     requires rd { IsRegister rd }
     requires rs1 { IsRegister rs1 }
-    ensures is { result ≡ (immediate_in_lem (pos 0) (pos 4095) bytes.now >>= fence_lem name.now rd rs1) }
+    ensures is { result ≡ fence_at name.now rd rs1 bytes.now }
     ensures valid { IfSome result IsValid }
 {
     let imm = immediate_in(0, 4095, bytes)?;
