@@ -3,6 +3,8 @@ use Rattle.std.specs.Prelude.{◌≡◌, ℕ, ◌%◌, Bool, true, false, ◌&&�
 use Rattle.rv32_isa.specs.declared.forms.Instr.{Instr}
 use Rattle.rv32_isa.specs.declared.forms.Instr.TheVariants as forms
 use Rattle.rv32_isa.specs.Table.{IsRegister}
+use Rattle.std.specs.Option.{option_map}
+use Rattle.rv32_asm.specs.Fields.{where_in}
 use Rattle.rv32_asm.specs.declared.forms.Aim.{Aim}
 use Rattle.rv32_asm.specs.declared.forms.Aim.TheVariants as aims
 
@@ -36,4 +38,4 @@ greatest _ = pos 4094
 
 -- the instruction, where the distance is in reach
 unfoldable pub reaching : Aim → ℤ → Option Instr
-reaching aim z = if int_le (least aim) z && int_le z (greatest aim) then Some (aimed aim z) else None
+reaching aim z = option_map (aimed aim) (where_in (least aim) (greatest aim) z)

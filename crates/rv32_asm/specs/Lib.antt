@@ -2,3 +2,5 @@ pub mod Fields
 pub mod Aims
 pub mod Forms
 pub mod Line
+pub mod Block
+pub mod Labels

@@ -1,10 +1,15 @@
 //! Text to words and words to text: an assembler for blocks of instructions, and a lister.
 #![tactic(auto)]
 
+mod block;
 mod fault;
 mod fields;
 mod forms;
+mod labels;
 mod line;
+
+pub use block::assemble;
+pub use fault::AsmFault;
 
 #[cfg(test)]
 mod tests;
