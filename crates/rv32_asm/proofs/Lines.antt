@@ -27,14 +27,14 @@ cut_cons at b bytes =
           let lt : ltb 0 (suc (length bytes)) ≡ true = lt-ltb _ _ (omega arith) in
           rw (e, lt) refl
       | inr e ↦ elim (cases_Bool (ltb n (length bytes))) [
-          | inl h ↦
-              let lt : ltb (1 + n) (suc (length bytes)) ≡ true = lt-ltb _ _ (omega (arith, ltb-true n (length bytes) h)) in
-              let left : cut at (b ∷ bytes) ≡ parted (take (1 + n) (b ∷ bytes)) (drop (1 + n + 1) (b ∷ bytes)) = rw (e, lt) refl in
-              left ∙ at_suc b n (1 + n) bytes (omega arith) ∙ sym (rw (e, h) refl)
-          | inr h ↦
-              let ge : ltb (1 + n) (suc (length bytes)) ≡ false = le-ltb _ _ (omega (arith, ltb-false n (length bytes) h)) in
-              rw (e, ge, h) refl
-        ]
+        | inl h ↦
+            let lt : ltb (1 + n) (suc (length bytes)) ≡ true = lt-ltb _ _ (omega (arith, ltb-true n (length bytes) h)) in
+            let left : cut at (b ∷ bytes) ≡ parted (take (1 + n) (b ∷ bytes)) (drop (1 + n + 1) (b ∷ bytes)) = rw (e, lt) refl in
+            left ∙ at_suc b n (1 + n) bytes (omega arith) ∙ sym (rw (e, h) refl)
+        | inr h ↦
+            let ge : ltb (1 + n) (suc (length bytes)) ≡ false = le-ltb _ _ (omega (arith, ltb-false n (length bytes) h)) in
+            rw (e, ge, h) refl
+      ]
     ]
 
 abbrev FirstLine : List ℕ → Option (List ℕ × List ℕ) → Type 0

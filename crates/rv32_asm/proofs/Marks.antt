@@ -18,7 +18,7 @@ pub record Marked (block : List ℕ) (marks : Marks) (at : Mark) (rest : List �
 one_more : (old : Option Mark) (at : Mark) (l : Line) (ls : List Line) (q : List ℕ) → or_else (or_else old (cond (defines l q) (Some at) None)) (first_mark (behind at l) ls q) ≡ or_else old (first_mark at (l ∷ ls) q)
 unfolding first_mark
 one_more (Some x) at l ls q = refl
-one_more None at l ls q = elim (cases_Bool (defines l q)) [ | inl e ↦ rw e refl | inr e ↦ rw e refl ]
+one_more None at l ls q = elim (cases_Bool (defines l q)) [ inl e ↦ rw e refl | inr e ↦ rw e refl ]
 
 pub word_bound : (at : Mark) (l : Line) → at.word ≤ at.line → (behind at l).word ≤ (behind at l).line
 word_bound at (Label name) h = omega arith
@@ -37,7 +37,7 @@ marked_more block old new at next rest line more m first shorter is added =
     let ls = spelt more in
     let all : spelt rest ≡ l ∷ ls = ap (map line_of) first in
     let places : (q : List ℕ) → or_else (new q) (first_mark (behind at l) ls q) ≡ first_mark start (spelt block) q =
-        λ q. ap (λ (o : Option Mark). or_else o (first_mark (behind at l) ls q)) (added q) ∙ one_more (old q) at l ls q ∙ ap (λ (xs : List Line). or_else (old q) (first_mark at xs q)) (sym all) ∙ m.places q in
+    λ q. ap (λ (o : Option Mark). or_else o (first_mark (behind at l) ls q)) (added q) ∙ one_more (old q) at l ls q ∙ ap (λ (xs : List Line). or_else (old q) (first_mark at xs q)) (sym all) ∙ m.places q in
     let made : Marked block new (behind at l) more = record { places = places; lines = omega (arith, line_is at l, m.lines, shorter); words = word_bound at l m.words } in
     subst (λ (x : Mark). Marked block new x more) (sym is) made
 

@@ -42,7 +42,7 @@ stands_more block room marks front new at next rest line more s first shorter is
     let l = line_of line in
     let all : spelt rest ≡ l ∷ spelt more = ap (map line_of) first in
     let meant : with_front new (words_from room marks (behind at l) (spelt more)) ≡ words_from room marks start (spelt block) =
-        sym (one_more room marks at l (spelt more) front new added) ∙ ap (λ (xs : List Line). with_front front (words_from room marks at xs)) (sym all) ∙ s.meant in
+    sym (one_more room marks at l (spelt more) front new added) ∙ ap (λ (xs : List Line). with_front front (words_from room marks at xs)) (sym all) ∙ s.meant in
     let made : Stands block room marks new (behind at l) more = record { meant = meant; lines = omega (arith, line_is at l, s.lines, shorter); words_fit = word_bound at l s.words_fit } in
     subst (λ (x : Mark). Stands block room marks new x more) (sym is) made
 
@@ -76,5 +76,5 @@ unfolding block
 whole view result room bytes text marks same found h =
     let known : marks ≡ first_mark start (spelt bytes) = fun_ext found in
     let meant : words_from room marks start (spelt bytes) ≡ block room text =
-        ap (λ (m : Marks). words_from room m start (spelt bytes)) known ∙ ap (λ (b : List ℕ). words_from room (first_mark start (spelt b)) start (spelt b)) same in
+    ap (λ (m : Marks). words_from room m start (spelt bytes)) known ∙ ap (λ (b : List ℕ). words_from room (first_mark start (spelt b)) start (spelt b)) same in
     subst (λ (m : Result (List ℕ) AsmFault). Answers view result m) meant h

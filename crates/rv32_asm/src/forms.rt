@@ -219,23 +219,77 @@ pub(crate) fn atomic(name: &[u8], rd: u32, rs1: u32, rs2: u32, aq: bool, rl: boo
     ensures valid { IfSome result IsValid }
 {
     if is(name, b"amoadd") {
-        Some(Instr::Amoadd { rd, rs1, rs2, aq, rl })
+        Some(Instr::Amoadd {
+            rd,
+            rs1,
+            rs2,
+            aq,
+            rl,
+        })
     } else if is(name, b"amoswap") {
-        Some(Instr::Amoswap { rd, rs1, rs2, aq, rl })
+        Some(Instr::Amoswap {
+            rd,
+            rs1,
+            rs2,
+            aq,
+            rl,
+        })
     } else if is(name, b"amoxor") {
-        Some(Instr::Amoxor { rd, rs1, rs2, aq, rl })
+        Some(Instr::Amoxor {
+            rd,
+            rs1,
+            rs2,
+            aq,
+            rl,
+        })
     } else if is(name, b"amoor") {
-        Some(Instr::Amoor { rd, rs1, rs2, aq, rl })
+        Some(Instr::Amoor {
+            rd,
+            rs1,
+            rs2,
+            aq,
+            rl,
+        })
     } else if is(name, b"amoand") {
-        Some(Instr::Amoand { rd, rs1, rs2, aq, rl })
+        Some(Instr::Amoand {
+            rd,
+            rs1,
+            rs2,
+            aq,
+            rl,
+        })
     } else if is(name, b"amomin") {
-        Some(Instr::Amomin { rd, rs1, rs2, aq, rl })
+        Some(Instr::Amomin {
+            rd,
+            rs1,
+            rs2,
+            aq,
+            rl,
+        })
     } else if is(name, b"amomax") {
-        Some(Instr::Amomax { rd, rs1, rs2, aq, rl })
+        Some(Instr::Amomax {
+            rd,
+            rs1,
+            rs2,
+            aq,
+            rl,
+        })
     } else if is(name, b"amominu") {
-        Some(Instr::Amominu { rd, rs1, rs2, aq, rl })
+        Some(Instr::Amominu {
+            rd,
+            rs1,
+            rs2,
+            aq,
+            rl,
+        })
     } else if is(name, b"amomaxu") {
-        Some(Instr::Amomaxu { rd, rs1, rs2, aq, rl })
+        Some(Instr::Amomaxu {
+            rd,
+            rs1,
+            rs2,
+            aq,
+            rl,
+        })
     } else {
         None
     }

@@ -9,7 +9,7 @@ use Rattle.rv32_asm.proofs.block.words.Goals as goal
 pub loop-rest-preserved : goal.loop-rest-preserved
 loop-rest-preserved c =
     stands_more c.args.block.now c.args.room (marks_of c.args.labels.now) c.loop-rest.words.items c.put.new.words.items c.loop-rest.at c.in_ok-at.at c.loop-rest.rest.now c.next_line.result.0.now c.next_line.result.1.now c.loop-rest.invariant
-        c.next_line.ensures.first (omega (arith, c.next_line.ensures.shorter)) c.in_ok-at.ensures.0 c.in_ok-at.ensures.1
+    c.next_line.ensures.first (omega (arith, c.next_line.ensures.shorter)) c.in_ok-at.ensures.0 c.in_ok-at.ensures.1
 
 pub returns-in_err-at : goal.returns-in_err-at
 returns-in_err-at c =
