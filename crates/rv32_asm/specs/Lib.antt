@@ -4,3 +4,4 @@ pub mod Forms
 pub mod Line
 pub mod Block
 pub mod Labels
+pub mod Listing

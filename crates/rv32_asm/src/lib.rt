@@ -7,9 +7,12 @@ mod fields;
 mod forms;
 mod labels;
 mod line;
+mod listing;
 
 pub use block::assemble;
 pub use fault::AsmFault;
+pub use listing::list;
+pub use std::alloc::AllocError as NoMemory;
 
 #[cfg(test)]
 mod tests;
