@@ -3,3 +3,6 @@ pub mod Marks
 pub mod Words
 pub mod Tokens
 pub mod Values
+pub mod Again
+pub mod Hexadecimal
+pub mod Listed

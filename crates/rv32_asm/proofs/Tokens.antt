@@ -113,18 +113,19 @@ pub record IsToken (t : List ℕ) : Type 0 where
   pub spaces : lacks 32 t ≡ true
   pub commas : lacks 44 t ≡ true
   pub colons : lacks 58 t ≡ true
+  pub feeds : lacks 10 t ≡ true
 
 pub token_tight : (t : List ℕ) → IsToken t → IsTight t
 token_tight t k = subst IsTight (sym k.begins) (tight_of k.first k.rest (subst (λ (x : List ℕ). lacks 32 x ≡ true) k.begins k.spaces))
 
-label_none : (bytes : List ℕ) → trim bytes ≡ bytes → cut 58 bytes ≡ None → label_of bytes ≡ None
+pub label_none : (bytes : List ℕ) → trim bytes ≡ bytes → cut 58 bytes ≡ None → label_of bytes ≡ None
 unfolding label_of
 label_none bytes t c = rw (t, c) refl
 
 abbrev parted : List ℕ → List ℕ → Option (List ℕ × List ℕ)
 parted front rest = Some (front, rest)
 
-code_named : (bytes name rest : List ℕ) → trim bytes ≡ bytes → cut 32 bytes ≡ parted name rest → trim rest ≡ rest → code_of bytes ≡ operation name rest
+pub code_named : (bytes name rest : List ℕ) → trim bytes ≡ bytes → cut 32 bytes ≡ parted name rest → trim rest ≡ rest → code_of bytes ≡ operation name rest
 unfolding code_of name_and_rest
 code_named bytes name rest t c r = rw (t, c, r) refl
 
@@ -137,7 +138,7 @@ unfolding operation
 operation_three name rest a more b0 c0 b c d e ta tb tc = rw (d, e, ta, tb, tc) refl
 
 abbrev pub Reads : List ℕ → Option Statement → Type 0
-Reads text statement = (label_of text ≡ None) × (code_of text ≡ statement)
+Reads text statement = (label_of text ≡ None) × (code_of text ≡ statement) × (lacks 10 text ≡ true)
 
 pub reads_two : (name a b : List ℕ) → IsToken name → IsToken a → IsToken b → Reads (of_two_text name a b) (pair name a b)
 unfolding of_two_text
@@ -150,7 +151,8 @@ reads_two name a b n p q =
     let commas : lacks 44 (32 ∷ b) ≡ true = lacks_append 44 (codes " ") b refl q.commas in
     let named = code_named text name rest (trim_tight text tight_text) (cut_found 32 name rest n.spaces) (trim_tight rest tight_rest) in
     let read = operation_two name rest a (32 ∷ b) b (cut_found 44 a (32 ∷ b) p.commas) (cut_none 44 (32 ∷ b) commas) (trim_tight a (token_tight a p)) (trim_spaced b (token_tight b q)) in
-    (label_none text (trim_tight text tight_text) (cut_none 58 text colons), named ∙ read)
+    let feeds : lacks 10 text ≡ true = lacks_append 10 name (codes " " ++ rest) n.feeds (lacks_append 10 (codes " ") rest refl (lacks_append 10 a (codes ", " ++ b) p.feeds (lacks_append 10 (codes ", ") b refl q.feeds))) in
+    (label_none text (trim_tight text tight_text) (cut_none 58 text colons), named ∙ read, feeds)
 
 pub reads_three : (name a b c : List ℕ) → IsToken name → IsToken a → IsToken b → IsToken c → Reads (of_three_text name a b c) (triple name a b c)
 unfolding of_three_text
@@ -166,4 +168,12 @@ reads_three name a b c n p q r =
     let commas : lacks 44 (32 ∷ b) ≡ true = lacks_append 44 (codes " ") b refl q.commas in
     let named = code_named text name rest (trim_tight text tight_text) (cut_found 32 name rest n.spaces) (trim_tight rest tight_rest) in
     let read = operation_three name rest a (32 ∷ last) (32 ∷ b) (32 ∷ c) b c (cut_found 44 a (32 ∷ last) p.commas) (cut_found 44 (32 ∷ b) (32 ∷ c) commas) (trim_tight a (token_tight a p)) (trim_spaced b (token_tight b q)) (trim_spaced c (token_tight c r)) in
-    (label_none text (trim_tight text tight_text) (cut_none 58 text colons), named ∙ read)
+    let feeds_last : lacks 10 last ≡ true = lacks_append 10 b (codes ", " ++ c) q.feeds (lacks_append 10 (codes ", ") c refl r.feeds) in
+    let feeds : lacks 10 text ≡ true = lacks_append 10 name (codes " " ++ rest) n.feeds (lacks_append 10 (codes " ") rest refl (lacks_append 10 a (codes ", " ++ last) p.feeds (lacks_append 10 (codes ", ") last refl feeds_last))) in
+    (label_none text (trim_tight text tight_text) (cut_none 58 text colons), named ∙ read, feeds)
+
+pub reads_along : (text : List ℕ) (o p : Option Statement) → Reads text o → o ≡ p → Reads text p
+reads_along text o p r e = (r.0, r.1 ∙ e, r.2)
+
+pub name_token : (b : ℕ) (bytes : List ℕ) → lacks 32 (b ∷ bytes) ≡ true → lacks 44 (b ∷ bytes) ≡ true → lacks 58 (b ∷ bytes) ≡ true → lacks 10 (b ∷ bytes) ≡ true → IsToken (b ∷ bytes)
+name_token b bytes spaces commas colons feeds = record { first = b; rest = bytes; begins = refl; spaces = spaces; commas = commas; colons = colons; feeds = feeds }

@@ -84,7 +84,7 @@ register_reads n lt =
     let below : ltb n 32 ≡ true = lt-ltb _ _ lt in
     rw (short_reads n lt, below) refl
 
-bind_none : {A B : Type 0} (o : Option A) (f : A → Option B) → ((x : A) → f x ≡ None) → (o >>= f) ≡ None
+pub bind_none : {A B : Type 0} (o : Option A) (f : A → Option B) → ((x : A) → f x ≡ None) → (o >>= f) ≡ None
 bind_none None f h = refl
 bind_none (Some x) f h = h x
 
@@ -112,7 +112,7 @@ low_no_register b bytes low =
     let f : eqb b 102 ≡ false = ne_eqb _ _ (λ e. omega (arith, e)) in
     rw (z, r, s, g, t, f) (bind_none (short_number bytes) (lettered b) (λ n. low_no_letter b n low))
 
-le_false : (a b : ℕ) → b < a → leb a b ≡ false
+pub le_false : (a b : ℕ) → b < a → leb a b ≡ false
 le_false a b h = elim (cases_Bool (leb a b)) [ | inl e ↦ absurd (omega (arith, leb-true a b e)) | inr e ↦ e ]
 
 low_no_name : (b : ℕ) (bytes : List ℕ) → b ≤ 57 → is_name (b ∷ bytes) ≡ false
@@ -192,10 +192,86 @@ immediate_reads (pos n) small =
     rw (plain, number_reads n small) refl
 immediate_reads (negsuc n) small = rw (minus (decimal (suc n)), number_reads (suc n) small) refl
 
-t_true : (b : Bool) → T b → b ≡ true
+pub t_true : (b : Bool) → T b → b ≡ true
 t_true true h = refl
 t_true false h = absurd h
 
 pub immediate_in_reads : (least greatest z : ℤ) → LiesFrom least greatest z → IsSmall z → immediate_in least greatest (signed_decimal z) ≡ Some z
 unfolding immediate_in
 immediate_in_reads least greatest z h small = rw (immediate_reads z small, t_true (int_le least z) h.0.le, t_true (int_le z greatest) h.1.le) refl
+
+-- ---- operands
+
+-- the first byte of a number
+number_begins : (z : ℤ) → IsSmall z → (b : ℕ) × (bytes : List ℕ) × (signed_decimal z ≡ b ∷ bytes) × (b ≤ 57)
+number_begins (pos n) small =
+    let p = nonempty (decimal n) (decimal_nonempty n (omega arith)) in
+    let digits : IsDigits (p.0 ∷ p.1) = subst IsDigits p.2 (decimal_digits n (omega arith)) in
+    (p.0, p.1, p.2, digits.1)
+number_begins (negsuc n) small = (45, decimal (suc n), refl, omega arith)
+
+number_lacks : (at : ℕ) → eqb 45 at ≡ false → ((b : ℕ) → 48 ≤ b → b ≤ 57 → eqb b at ≡ false) → (z : ℤ) → IsSmall z → lacks at (signed_decimal z) ≡ true
+number_lacks at other apart (pos n) small = digits_lack at apart (decimal n) (decimal_digits n (omega arith))
+number_lacks at other apart (negsuc n) small = rw (other, digits_lack at apart (decimal (suc n)) (decimal_digits (suc n) (omega arith))) refl
+
+pub number_token : (z : ℤ) → IsSmall z → IsToken (signed_decimal z)
+number_token z small =
+    let p = number_begins z small in
+    record { first = p.0; rest = p.1; begins = p.2; spaces = number_lacks 32 refl (apart_low 32 (omega arith)) z small; commas = number_lacks 44 refl (apart_low 44 (omega arith)) z small; colons = number_lacks 58 refl (apart_high 58 (omega arith)) z small; feeds = number_lacks 10 refl (apart_low 10 (omega arith)) z small }
+
+register_lacks : (at : ℕ) → eqb 120 at ≡ false → ((b : ℕ) → 48 ≤ b → b ≤ 57 → eqb b at ≡ false) → (n : ℕ) → n < 32 → lacks at (register_text n) ≡ true
+register_lacks at other apart n lt = rw (other, digits_lack at apart (decimal n) (decimal_digits n (omega arith))) refl
+
+pub register_token : (n : ℕ) → n < 32 → IsToken (register_text n)
+register_token n lt = record { first = 120; rest = decimal n; begins = refl; spaces = register_lacks 32 refl (apart_low 32 (omega arith)) n lt; commas = register_lacks 44 refl (apart_low 44 (omega arith)) n lt; colons = register_lacks 58 refl (apart_high 58 (omega arith)) n lt; feeds = register_lacks 10 refl (apart_low 10 (omega arith)) n lt }
+
+pub number_no_register : (z : ℤ) → IsSmall z → register (signed_decimal z) ≡ None
+number_no_register z small = let p = number_begins z small in ap register p.2 ∙ low_no_register p.0 p.1 p.3
+
+pub number_no_bracket : (z : ℤ) → IsSmall z → bracketed (signed_decimal z) ≡ None
+unfolding bracketed
+number_no_bracket z small = rw (cut_none 40 (signed_decimal z) (number_lacks 40 refl (apart_low 40 (omega arith)) z small)) refl
+
+pub target_reads : (z : ℤ) → IsSmall z → IsEven z → target_at (signed_decimal z) ≡ Some (Distance z)
+unfolding target_at
+target_reads z small even =
+    let p = number_begins z small in
+    let no_name : is_name (signed_decimal z) ≡ false = ap is_name p.2 ∙ low_no_name p.0 p.1 p.3 in
+    rw (no_name, immediate_reads z small, eq-eqb (unsigned_abs z % 2) 0 even) refl
+
+abbrev pub ended_by_bracket : ℕ → List ℕ
+ended_by_bracket r = codes "(" ++ (register_text r ++ codes ")")
+
+brackets_read : (front : List ℕ) (r : ℕ) → lacks 40 front ≡ true → r < 32 → bracketed (front ++ ended_by_bracket r) ≡ Some (front, r)
+unfolding bracketed
+brackets_read front r h lt =
+    rw (cut_found 40 front (register_text r ++ codes ")") h, cut_found 41 (register_text r) [] (register_lacks 41 refl (apart_low 41 (omega arith)) r lt), register_reads r lt) refl
+
+pub based_reads : (z : ℤ) (r : ℕ) → IsSmall z → r < 32 → bracketed (based_text z r) ≡ Some (signed_decimal z, r)
+based_reads z r small lt = brackets_read (signed_decimal z) r (number_lacks 40 refl (apart_low 40 (omega arith)) z small) lt
+
+pub base_reads : (r : ℕ) → r < 32 → bracketed (ended_by_bracket r) ≡ Some ([], r)
+base_reads r lt = brackets_read [] r refl lt
+
+bracket_lacks : (at r : ℕ) → eqb 40 at ≡ false → eqb 41 at ≡ false → eqb 120 at ≡ false → ((b : ℕ) → 48 ≤ b → b ≤ 57 → eqb b at ≡ false) → r < 32 → lacks at (ended_by_bracket r) ≡ true
+bracket_lacks at r opening closing x apart lt = rw opening (lacks_append at (register_text r) (codes ")") (register_lacks at x apart r lt) (rw closing refl))
+
+pub bracket_token : (r : ℕ) → r < 32 → IsToken (ended_by_bracket r)
+bracket_token r lt = record { first = 40; rest = register_text r ++ codes ")"; begins = refl; spaces = bracket_lacks 32 r refl refl refl (apart_low 32 (omega arith)) lt; commas = bracket_lacks 44 r refl refl refl (apart_low 44 (omega arith)) lt; colons = bracket_lacks 58 r refl refl refl (apart_high 58 (omega arith)) lt; feeds = bracket_lacks 10 r refl refl refl (apart_low 10 (omega arith)) lt }
+
+pub based_token : (z : ℤ) (r : ℕ) → IsSmall z → r < 32 → IsToken (based_text z r)
+based_token z r small lt =
+    let n = number_token z small in
+    let b = bracket_token r lt in
+    record {
+      first = n.first;
+      rest = n.rest ++ ended_by_bracket r;
+      begins = ap (λ (t : List ℕ). t ++ ended_by_bracket r) n.begins;
+      spaces = lacks_append 32 (signed_decimal z) (ended_by_bracket r) n.spaces b.spaces;
+      commas = lacks_append 44 (signed_decimal z) (ended_by_bracket r) n.commas b.commas;
+      colons = lacks_append 58 (signed_decimal z) (ended_by_bracket r) n.colons b.colons;
+      feeds = lacks_append 10 (signed_decimal z) (ended_by_bracket r) n.feeds b.feeds;
+    }
+
+pub bracket_is_no_register : (r : ℕ) → register (ended_by_bracket r) ≡ None
+bracket_is_no_register r = bracket_no_register (register_text r ++ codes ")")

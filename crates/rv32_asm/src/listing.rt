@@ -1,7 +1,8 @@
 //! Words to text: one line for each word.
 
-ghost use Rattle.std.specs.Prelude.{◌≡◌, ◌++◌, ◌∷◌, [], ◌<◌, OnOk, IfOk, codes};
+ghost use Rattle.std.specs.Prelude.{◌≡◌, ◌++◌, ◌∷◌, [], ◌<◌, length, OnOk, IfOk, Ok, codes};
 ghost use Rattle.std.specs.Fmt.{decimal, signed_decimal};
+ghost use Rattle.rv32_asm.specs.Block.{block as block_lem};
 ghost use Rattle.rv32_asm.specs.Listing.{register_text, based_text, upper_text, memory_text, immediate_text, registers_text, ordering_text, atomic_text, instruction_text, glyph as glyph_lem, hexadecimal as hexadecimal_lem, line_text, ended, listing};
 
 use crate::NoMemory;
@@ -260,14 +261,25 @@ fn ended_line(out: &mut Vec<u8>, word: u32) -> Result<(), AllocError>
     Ok(())
 }
 
-/// One line for each word, ended by a line feed: its instruction with registers by number and numbers in
-/// decimal, and `.word` with eight hexadecimal digits where it is none.
-pub fn list(alloc: Global, words: &[u32]) -> Result<Vec<u8>, NoMemory>
-    ensures text { IfOk result (λ v. v.items ≡ listing words.now) }
+fn lines(alloc: Global, words: &[u32]) -> Result<Vec<u8>, NoMemory>
+    ensures { IfOk result (λ v. v.items ≡ listing words.now) }
 {
     let mut out = Vec::new(alloc);
     for word in words {
         ended_line(&mut out, *word)?;
     }
     Ok(out)
+}
+
+/// One line for each word, ended by a line feed.
+///
+/// A line is the mnemonic, a space, and the operands with a comma and a space between them: registers as `x`
+/// and a number, immediates and targets in decimal. A word that is no instruction is `.word 0x` and eight
+/// hexadecimal digits in lower case.
+pub fn list(alloc: Global, words: &[u32]) -> Result<Vec<u8>, NoMemory>
+    ensures text { IfOk result (λ v. v.items ≡ listing words.now) }
+    // The lines assemble to the words.
+    ensures again { IfOk result (λ v. block_lem (length words.now) v.items ≡ Ok words.now) }
+{
+    lines(alloc, words)
 }
