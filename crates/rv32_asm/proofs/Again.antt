@@ -187,7 +187,7 @@ unfolding instruction_text IsValid upper
 auipc_again rd imm h = upper_line (codes "auipc") rd imm (forms.Auipc rd imm) (name_token _ _ refl refl refl refl) refl refl h.0 h.1
 
 jal_again : (rd : ℕ) (imm : ℤ) → IsValid (forms.Jal rd imm) → IsAgain (forms.Jal rd imm)
-unfolding instruction_text IsValid 
+unfolding instruction_text IsValid
 jal_again rd imm h = jump_line rd imm h.0 h.1.0 h.1.1
 
 jalr_again : (rd rs1 : ℕ) (imm : ℤ) → IsValid (forms.Jalr rd rs1 imm) → IsAgain (forms.Jalr rd rs1 imm)

@@ -113,7 +113,7 @@ low_no_register b bytes low =
     rw (z, r, s, g, t, f) (bind_none (short_number bytes) (lettered b) (λ n. low_no_letter b n low))
 
 pub le_false : (a b : ℕ) → b < a → leb a b ≡ false
-le_false a b h = elim (cases_Bool (leb a b)) [ | inl e ↦ absurd (omega (arith, leb-true a b e)) | inr e ↦ e ]
+le_false a b h = elim (cases_Bool (leb a b)) [ inl e ↦ absurd (omega (arith, leb-true a b e)) | inr e ↦ e ]
 
 low_no_name : (b : ℕ) (bytes : List ℕ) → b ≤ 57 → is_name (b ∷ bytes) ≡ false
 unfolding is_name
@@ -161,11 +161,11 @@ digits_reads n small =
 no_0x : (xs : List ℕ) → lacks 120 xs ≡ true → after (codes "0x") xs ≡ None
 unfolding after
 no_0x [] h = refl
-no_0x (a ∷ []) h = elim (cases_Bool (eqb a 48)) [ | inl e ↦ rw e refl | inr e ↦ rw e refl ]
+no_0x (a ∷ []) h = elim (cases_Bool (eqb a 48)) [ inl e ↦ rw e refl | inr e ↦ rw e refl ]
 no_0x (a ∷ b ∷ more) h =
     let p = lacks_parts 120 a (b ∷ more) h in
     let q = lacks_parts 120 b more p.1 in
-    elim (cases_Bool (eqb a 48)) [ | inl e ↦ rw (e, q.0) refl | inr e ↦ rw e refl ]
+    elim (cases_Bool (eqb a 48)) [ inl e ↦ rw (e, q.0) refl | inr e ↦ rw e refl ]
 
 no_minus : (xs : List ℕ) → lacks 45 xs ≡ true → after (codes "-") xs ≡ None
 unfolding after

@@ -19,11 +19,11 @@ fn register(out: &mut Vec<u8>, number: u32) -> Result<(), AllocError>
     Ok(())
 }
 
-fn immediate(out: &mut Vec<u8>, number: i32) -> Result<(), AllocError>
-    ensures { OnOk result (out.new.items ≡ out.old.items ++ signed_decimal number) }
+fn immediate(out: &mut Vec<u8>, imm: i32) -> Result<(), AllocError>
+    ensures { OnOk result (out.new.items ≡ out.old.items ++ signed_decimal imm) }
 {
     let mut buffer = Buffer::new();
-    out.extend_from_slice(buffer.format(number).as_bytes())?;
+    out.extend_from_slice(buffer.format(imm).as_bytes())?;
     Ok(())
 }
 
@@ -65,7 +65,13 @@ fn memory(out: &mut Vec<u8>, name: &[u8], r: u32, imm: i32, rs1: u32) -> Result<
 
 // `rd, rs1, imm` or `rs1, rs2, imm`
 #[tactic(auto, unfolding(crate::specs::Listing::of_three_text))]
-fn with_immediate(out: &mut Vec<u8>, name: &[u8], a: u32, b: u32, imm: i32) -> Result<(), AllocError>
+fn with_immediate(
+    out: &mut Vec<u8>,
+    name: &[u8],
+    a: u32,
+    b: u32,
+    imm: i32,
+) -> Result<(), AllocError>
     ensures { OnOk result (out.new.items ≡ out.old.items ++ immediate_text name.now a b imm) }
 {
     out.extend_from_slice(name)?;
@@ -200,15 +206,159 @@ fn instruction(out: &mut Vec<u8>, instr: Instr) -> Result<(), AllocError>
         Instr::Remu { rd, rs1, rs2 } => registers(out, b"remu", rd, rs1, rs2),
         Instr::Ecall => out.extend_from_slice(b"ecall"),
         Instr::Ebreak => out.extend_from_slice(b"ebreak"),
-        Instr::Amoadd { rd, rs1, rs2, aq, rl } => atomic_line(out, b"amoadd", Atomic { rd, rs1, rs2, aq, rl }),
-        Instr::Amoswap { rd, rs1, rs2, aq, rl } => atomic_line(out, b"amoswap", Atomic { rd, rs1, rs2, aq, rl }),
-        Instr::Amoxor { rd, rs1, rs2, aq, rl } => atomic_line(out, b"amoxor", Atomic { rd, rs1, rs2, aq, rl }),
-        Instr::Amoor { rd, rs1, rs2, aq, rl } => atomic_line(out, b"amoor", Atomic { rd, rs1, rs2, aq, rl }),
-        Instr::Amoand { rd, rs1, rs2, aq, rl } => atomic_line(out, b"amoand", Atomic { rd, rs1, rs2, aq, rl }),
-        Instr::Amomin { rd, rs1, rs2, aq, rl } => atomic_line(out, b"amomin", Atomic { rd, rs1, rs2, aq, rl }),
-        Instr::Amomax { rd, rs1, rs2, aq, rl } => atomic_line(out, b"amomax", Atomic { rd, rs1, rs2, aq, rl }),
-        Instr::Amominu { rd, rs1, rs2, aq, rl } => atomic_line(out, b"amominu", Atomic { rd, rs1, rs2, aq, rl }),
-        Instr::Amomaxu { rd, rs1, rs2, aq, rl } => atomic_line(out, b"amomaxu", Atomic { rd, rs1, rs2, aq, rl }),
+        Instr::Amoadd {
+            rd,
+            rs1,
+            rs2,
+            aq,
+            rl,
+        } => atomic_line(
+            out,
+            b"amoadd",
+            Atomic {
+                rd,
+                rs1,
+                rs2,
+                aq,
+                rl,
+            },
+        ),
+        Instr::Amoswap {
+            rd,
+            rs1,
+            rs2,
+            aq,
+            rl,
+        } => atomic_line(
+            out,
+            b"amoswap",
+            Atomic {
+                rd,
+                rs1,
+                rs2,
+                aq,
+                rl,
+            },
+        ),
+        Instr::Amoxor {
+            rd,
+            rs1,
+            rs2,
+            aq,
+            rl,
+        } => atomic_line(
+            out,
+            b"amoxor",
+            Atomic {
+                rd,
+                rs1,
+                rs2,
+                aq,
+                rl,
+            },
+        ),
+        Instr::Amoor {
+            rd,
+            rs1,
+            rs2,
+            aq,
+            rl,
+        } => atomic_line(
+            out,
+            b"amoor",
+            Atomic {
+                rd,
+                rs1,
+                rs2,
+                aq,
+                rl,
+            },
+        ),
+        Instr::Amoand {
+            rd,
+            rs1,
+            rs2,
+            aq,
+            rl,
+        } => atomic_line(
+            out,
+            b"amoand",
+            Atomic {
+                rd,
+                rs1,
+                rs2,
+                aq,
+                rl,
+            },
+        ),
+        Instr::Amomin {
+            rd,
+            rs1,
+            rs2,
+            aq,
+            rl,
+        } => atomic_line(
+            out,
+            b"amomin",
+            Atomic {
+                rd,
+                rs1,
+                rs2,
+                aq,
+                rl,
+            },
+        ),
+        Instr::Amomax {
+            rd,
+            rs1,
+            rs2,
+            aq,
+            rl,
+        } => atomic_line(
+            out,
+            b"amomax",
+            Atomic {
+                rd,
+                rs1,
+                rs2,
+                aq,
+                rl,
+            },
+        ),
+        Instr::Amominu {
+            rd,
+            rs1,
+            rs2,
+            aq,
+            rl,
+        } => atomic_line(
+            out,
+            b"amominu",
+            Atomic {
+                rd,
+                rs1,
+                rs2,
+                aq,
+                rl,
+            },
+        ),
+        Instr::Amomaxu {
+            rd,
+            rs1,
+            rs2,
+            aq,
+            rl,
+        } => atomic_line(
+            out,
+            b"amomaxu",
+            Atomic {
+                rd,
+                rs1,
+                rs2,
+                aq,
+                rl,
+            },
+        ),
     }
 }
 

@@ -242,3 +242,34 @@ fn reach_of_labels(rt: HostRuntime) -> Result<(), Fail> {
     }
     Ok(())
 }
+
+#[test]
+fn lines_of_words(rt: HostRuntime) -> Result<(), Fail> {
+    let lines: [(u32, &[u8]); 18] = [
+        (0x00d2_80e7, b"jalr x1, 13(x5)\n"),
+        (0x233c_3e37, b"lui x28, 144323\n"),
+        (0x8000_0b6f, b"jal x22, -1048576\n"),
+        (0x8121_8063, b"beq x3, x18, -4096\n"),
+        (0x8006_a883, b"lw x17, -2048(x13)\n"),
+        (0x81d7_8023, b"sb x29, -2048(x15)\n"),
+        (0x800d_0313, b"addi x6, x26, -2048\n"),
+        (0x4182_5013, b"srai x0, x4, 24\n"),
+        (0x0002_868f, b"fence x13, x5, 0\n"),
+        (0x0000_0073, b"ecall\n"),
+        (0x0010_0073, b"ebreak\n"),
+        (0x41a5_8e33, b"sub x28, x11, x26\n"),
+        (0x0376_aeb3, b"mulhsu x29, x13, x23\n"),
+        (0x0181_2a2f, b"amoadd.w x20, x24, (x2)\n"),
+        (0xe5a5_aaaf, b"amomaxu.w.aq x21, x26, (x11)\n"),
+        (0x0a90_202f, b"amoswap.w.rl x0, x9, (x0)\n"),
+        (0x27a8_ac2f, b"amoxor.w.aqrl x24, x26, (x17)\n"),
+        (0xacb2_9e3e, b".word 0xacb29e3e\n"),
+    ];
+    for (word, line) in lines {
+        let text = list(rt.alloc(), &[word])?;
+        assert!(rt; text.as_slice() == line, "{word:08x}");
+    }
+    let text = list(rt.alloc(), &[0x73, 0xffff_ffff])?;
+    assert!(rt; text.as_slice() == b"ecall\n.word 0xffffffff\n".as_slice());
+    Ok(())
+}
