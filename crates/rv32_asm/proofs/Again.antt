@@ -1,18 +1,18 @@
 -- The line of each form is read as its instruction.
-use Rattle.std.proofs.Common.{◌≡◌, ℕ, ◌+◌, ◌^◌, ◌<◌, Bool, true, false, List, [], ◌∷◌, ◌++◌, Option, Some, None, refl, sym, ap, subst, ◌∙◌, arith}
-use Rattle.std.specs.Prelude.{ℤ, pos, negsuc, ◌≤ℤ◌, unsigned_abs, codes}
+use Rattle.std.proofs.Common.{◌≡◌, ℕ, ◌<◌, Bool, true, false, List, Option, Some, None, refl, arith}
+use Rattle.std.specs.Prelude.{ℤ, pos, negsuc, codes}
 use Rattle.std.specs.Fmt.{signed_decimal}
 use Rattle.std.specs.Str.{bytes_eq}
 use Rattle.std.proofs.lemmas.Int.{ints}
 use Rattle.rv32_isa.specs.declared.forms.Instr.{Instr}
 use Rattle.rv32_isa.specs.declared.forms.Instr.TheVariants as forms
-use Rattle.rv32_isa.specs.Table.{IsValid, word_of, IsRegister, LiesFrom, IsSigned12}
+use Rattle.rv32_isa.specs.Table.{IsValid, word_of, LiesFrom, IsSigned12}
 use Rattle.rv32_asm.specs.declared.forms.Aim.{Aim}
 use Rattle.rv32_asm.specs.declared.forms.Aim.TheVariants as aims
-use Rattle.rv32_asm.specs.Fields.{cut, trim_front, immediate_in, register, bracketed}
+use Rattle.rv32_asm.specs.Fields.{cut, trim_front, immediate_in}
 use Rattle.rv32_asm.specs.Forms.{upper, load, store, immediate_form, shift, fence, register_form, product, atomic, branch, ordering, atomic_named, or_else, signed_12, with_immediate, of_two, of_three}
-use Rattle.rv32_asm.specs.Line.{Target, Name, Distance, Statement, Word, To, IsEven, of_one, pair, triple, operation, name_and_rest, code_of, label_of}
-use Rattle.rv32_asm.specs.Listing.{register_text, based_text, upper_text, memory_text, immediate_text, registers_text, ordering_text, atomic_text, of_two_text, of_three_text, instruction_text}
+use Rattle.rv32_asm.specs.Line.{Distance, Statement, Word, To, IsEven, of_one, pair, triple, operation, name_and_rest, code_of, label_of}
+use Rattle.rv32_asm.specs.Listing.{register_text, based_text, upper_text, memory_text, immediate_text, registers_text, of_three_text, instruction_text}
 use Rattle.rv32_asm.proofs.Tokens.{Reads, reads_two, reads_three, reads_along, name_token, IsToken}
 use Rattle.rv32_asm.proofs.Values.{IsSmall, ended_by_bracket, bind_none, register_reads, register_token, number_token, based_token, bracket_token, immediate_in_reads, number_no_register, number_no_bracket, target_reads, based_reads, base_reads, bracket_is_no_register}
 

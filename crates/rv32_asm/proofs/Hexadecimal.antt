@@ -1,10 +1,9 @@
 -- A word of eight hexadecimal digits is read as it.
-use Rattle.std.proofs.Common.{◌≡◌, ℕ, zero, suc, ◌+◌, ◌-◌, ◌*◌, ◌/◌, ◌%◌, ◌^◌, ◌<◌, ◌≤◌, Bool, true, false, eqb, ltb, leb, List, [], ◌∷◌, ◌++◌, Option, Some, None, refl, sym, ap, subst, ◌∙◌, arith, inl, inr}
+use Rattle.std.proofs.Common.{◌≡◌, ℕ, ◌+◌, ◌-◌, ◌*◌, ◌/◌, ◌%◌, ◌^◌, ◌<◌, ◌≤◌, true, false, eqb, ltb, leb, List, [], ◌∷◌, ◌++◌, Some, None, refl, ap, ◌∙◌, arith, inl, inr}
 use Rattle.std.specs.Prelude.{codes}
-use Rattle.std.specs.Option.{option_map}
 use Rattle.std.proofs.lemmas.Bool.{cases_lt, lt-ltb, le-ltb, le-leb, ne_eqb}
 use Rattle.rv32_asm.specs.Fields.{after, cut, digit, digits_from, digits, number}
-use Rattle.rv32_asm.specs.Line.{Statement, Word, of_one, operation}
+use Rattle.rv32_asm.specs.Line.{Word, of_one, operation}
 use Rattle.rv32_asm.specs.Listing.{glyph, hexadecimal}
 use Rattle.rv32_asm.proofs.Tokens.{lacks, lacks_append, cut_found, cut_none, IsTight, tight_join, token_tight, trim_tight, label_none, code_named, name_token, IsToken, Reads}
 use Rattle.rv32_asm.proofs.Values.{le_false}

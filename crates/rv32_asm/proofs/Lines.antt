@@ -1,9 +1,9 @@
 -- The first line of bytes ends before the first line feed.
-use Rattle.std.proofs.Common.{◌≡◌, ℕ, zero, suc, ◌+◌, ◌<◌, true, false, cond, not, eqb, ltb, List, [], ◌∷◌, length, take, drop, Option, Some, None, refl, sym, ap, subst, ◌∙◌, arith, inl, inr}
+use Rattle.std.proofs.Common.{◌≡◌, ℕ, suc, ◌+◌, ◌<◌, true, false, cond, not, eqb, ltb, List, [], ◌∷◌, length, take, drop, Option, Some, None, refl, sym, subst, ◌∙◌, arith, inl, inr}
 use Rattle.std.specs.List.{prefix_len}
 use Rattle.std.proofs.lemmas.Bool.{cases_Bool, lt-ltb, ltb-true, ltb-false, le-ltb}
 use Rattle.rv32_asm.specs.Fields.{cut}
-use Rattle.rv32_asm.specs.Block.{lines, longer}
+use Rattle.rv32_asm.specs.Block.{lines}
 
 -- what is cut where one more byte stands before
 abbrev pub cut_longer : ℕ → Option (List ℕ × List ℕ) → Option (List ℕ × List ℕ)

@@ -1,8 +1,7 @@
 -- Assembling a listing gives its words back.
-use Rattle.std.proofs.Common.{◌≡◌, ℕ, zero, suc, ◌+◌, ◌^◌, ◌<◌, ◌≤◌, Bool, true, false, eqb, ltb, List, [], ◌∷◌, ◌++◌, length, get_or, map, Option, Some, None, Result, Ok, Err, refl, sym, ap, subst, ◌∙◌, append_assoc, arith}
-use Rattle.std.specs.Prelude.{ℤ, int_le, T, codes, IfOk}
+use Rattle.std.proofs.Common.{◌≡◌, ℕ, suc, ◌+◌, ◌^◌, ◌<◌, ◌≤◌, true, ltb, List, [], ◌∷◌, ◌++◌, length, get_or, map, Option, Some, None, Result, Ok, Err, refl, ap, ◌∙◌, append_assoc, arith}
+use Rattle.std.specs.Prelude.{codes, IfOk}
 use Rattle.std.specs.Global.{Vec}
-use Rattle.std.specs.List.{flat_map}
 use Rattle.std.proofs.lemmas.Bool.{lt-ltb}
 use Rattle.std.proofs.lemmas.List.Concat.{flat_map-cons}
 use Rattle.rv32_isa.specs.declared.forms.Instr.{Instr}
@@ -12,10 +11,10 @@ use Rattle.rv32_isa.proofs.TableSound.{IsSound, instruction_of-sound}
 use Rattle.rv32_asm.specs.declared.fault.AsmFault.{AsmFault}
 use Rattle.rv32_asm.specs.declared.labels.Mark.{Mark}
 use Rattle.rv32_asm.specs.Aims.{reaching}
-use Rattle.rv32_asm.specs.Line.{Statement, Word, Line, Label, Code, label_of, code_of, line_of, label_or_code}
+use Rattle.rv32_asm.specs.Line.{Statement, Word, Line, Code, line_of, label_or_code}
 use Rattle.rv32_asm.specs.Listing.{text_or_word, line_text, ended, listing}
-use Rattle.rv32_asm.specs.Block.{◌>>-◌, Marks, lines, spelt, start, behind, code_word, words_from, block, first_mark}
-use Rattle.rv32_asm.proofs.Tokens.{lacks, lacks_parts, Reads}
+use Rattle.rv32_asm.specs.Block.{Marks, lines, spelt, start, behind, code_word, words_from, block, first_mark}
+use Rattle.rv32_asm.proofs.Tokens.{lacks, lacks_parts}
 use Rattle.rv32_asm.proofs.Values.{t_true}
 use Rattle.rv32_asm.proofs.Again.{said, instruction_again}
 use Rattle.rv32_asm.proofs.Hexadecimal.{word_reads}

@@ -1,12 +1,12 @@
 -- A line of a mnemonic and operands is read as these.
-use Rattle.std.proofs.Common.{◌≡◌, ℕ, zero, suc, ◌+◌, Bool, true, false, cond, not, ◌&&◌, eqb, List, [], ◌∷◌, ◌++◌, Option, Some, None, refl, sym, ap, subst, ◌∙◌, append_assoc, eq-eqb, inl, inr}
+use Rattle.std.proofs.Common.{◌≡◌, ℕ, Bool, true, false, not, ◌&&◌, eqb, List, [], ◌∷◌, ◌++◌, Option, Some, None, refl, sym, ap, subst, ◌∙◌, append_assoc, eq-eqb}
 use Rattle.std.specs.Prelude.{reverse, codes}
-use Rattle.std.proofs.lemmas.Bool.{cases_Bool, and_parts}
-use Rattle.std.proofs.lemmas.List.{reverse-append, append-nil}
-use Rattle.rv32_asm.specs.Fields.{◌>>=◌, cut, trim_front, trim_back, trim}
+use Rattle.std.proofs.lemmas.Bool.{and_parts}
+use Rattle.std.proofs.lemmas.List.{reverse-append}
+use Rattle.rv32_asm.specs.Fields.{cut, trim_front, trim_back, trim}
 use Rattle.rv32_asm.specs.Line.{Statement, label_of, code_of, name_and_rest, operation, pair, triple}
 use Rattle.rv32_asm.specs.Listing.{of_two_text, of_three_text}
-use Rattle.rv32_asm.proofs.Lines.{cut_longer, cut_cons}
+use Rattle.rv32_asm.proofs.Lines.{cut_cons}
 
 -- none of the bytes is this one
 abbrev pub lacks : ℕ → List ℕ → Bool

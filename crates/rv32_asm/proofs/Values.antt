@@ -1,13 +1,13 @@
 -- The text of a register or of a number is read as it.
-use Rattle.std.proofs.Common.{◌≡◌, ℕ, zero, suc, ◌+◌, ◌-◌, ◌*◌, ◌/◌, ◌%◌, ◌^◌, ◌<◌, ◌≤◌, Bool, true, false, cond, not, ◌&&◌, ◌||◌, eqb, ltb, leb, List, [], ◌∷◌, ◌++◌, length, take, drop, Option, Some, None, refl, sym, ap, subst, ◌∙◌, append_assoc, arith, eq-eqb, inl, inr}
-use Rattle.std.specs.Prelude.{ℤ, pos, negsuc, ◌≤ℤ◌, int_le, unsigned_abs, codes, T}
+use Rattle.std.proofs.Common.{◌≡◌, ℕ, suc, ◌+◌, ◌-◌, ◌*◌, ◌/◌, ◌%◌, ◌^◌, ◌<◌, ◌≤◌, Bool, true, false, eqb, ltb, leb, List, [], ◌∷◌, ◌++◌, length, Option, Some, None, refl, sym, ap, subst, ◌∙◌, append_assoc, arith, eq-eqb, inl, inr}
+use Rattle.std.specs.Prelude.{ℤ, pos, negsuc, int_le, unsigned_abs, codes, T}
 use Rattle.std.specs.Fmt.{decimal, signed_decimal}
 use Rattle.std.proofs.lemmas.Bool.{cases_Bool, cases_lt, lt-ltb, le-leb, ne_eqb, leb-true}
 use Rattle.std.proofs.lemmas.List.{append-nil}
 use Rattle.std.proofs.lemmas.Fmt.{decimal_digit, decimal_step, decimal_by_steps, decimal_nonempty, length-decimal-le}
 use Rattle.rv32_isa.specs.Table.{LiesFrom}
-use Rattle.rv32_asm.specs.Fields.{◌>>=◌, cut, after, digit, digits_from, digits, number, immediate, immediate_in, short_number, lettered, numbered, register, bracketed, is_name}
-use Rattle.rv32_asm.specs.Line.{Target, Name, Distance, target_at, IsEven}
+use Rattle.rv32_asm.specs.Fields.{◌>>=◌, after, digit, digits_from, digits, number, immediate, immediate_in, short_number, lettered, numbered, register, bracketed, is_name}
+use Rattle.rv32_asm.specs.Line.{Distance, target_at, IsEven}
 use Rattle.rv32_asm.specs.Listing.{register_text, based_text}
 use Rattle.rv32_asm.proofs.Tokens.{lacks, lacks_parts, lacks_append, cut_found, cut_none, IsToken}
 

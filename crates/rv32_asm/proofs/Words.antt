@@ -1,11 +1,11 @@
 -- The words of a block, one line after another.
-use Rattle.std.proofs.Common.{◌≡◌, ℕ, ◌+◌, ◌≤◌, List, [], ◌∷◌, ◌++◌, length, map, Option, Some, None, Result, Ok, Err, refl, sym, ap, subst, ◌∙◌, append_assoc, arith, inl, inr, ◌⊎◌}
+use Rattle.std.proofs.Common.{◌≡◌, ℕ, ◌+◌, ◌≤◌, List, [], ◌∷◌, ◌++◌, length, map, Result, Ok, Err, refl, sym, ap, subst, ◌∙◌, append_assoc, arith, inl, inr, ◌⊎◌}
 use mathlib.Core.Path.{fun_ext}
 use Rattle.std.proofs.lemmas.List.{append-nil}
 use Rattle.rv32_asm.specs.declared.fault.AsmFault.{AsmFault}
 use Rattle.rv32_asm.specs.declared.fault.AsmFault.TheVariants.{NoMemory}
 use Rattle.rv32_asm.specs.declared.labels.Mark.{Mark}
-use Rattle.rv32_asm.specs.Line.{Line, Label, Code, line_of}
+use Rattle.rv32_asm.specs.Line.{Line, line_of}
 use Rattle.rv32_asm.specs.Block.{◌>>-◌, Marks, lines, spelt, start, behind, line_words, words_from, with_front, block, first_mark, Answers}
 use Rattle.rv32_asm.proofs.Marks.{word_bound, line_is}
 

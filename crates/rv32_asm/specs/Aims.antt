@@ -1,5 +1,5 @@
 -- Instructions that go to a target.
-use Rattle.std.specs.Prelude.{◌≡◌, ℕ, ◌%◌, Bool, true, false, ◌&&◌, if◌then◌else◌, ℤ, pos, negsuc, int_le, Option, Some, None}
+use Rattle.std.specs.Prelude.{ℤ, pos, negsuc, Option}
 use Rattle.rv32_isa.specs.declared.forms.Instr.{Instr}
 use Rattle.rv32_isa.specs.declared.forms.Instr.TheVariants as forms
 use Rattle.rv32_isa.specs.Table.{IsRegister}

@@ -1,12 +1,11 @@
 -- Mnemonics with their operands: the instruction that they are.
-use Rattle.std.specs.Prelude.{◌≡◌, ℕ, ◌%◌, Bool, true, false, ◌==◌, if◌then◌else◌, ℤ, pos, negsuc, unsigned_abs, List, [], ◌∷◌, length, Option, Some, None, codes}
+use Rattle.std.specs.Prelude.{ℕ, Bool, true, false, ◌==◌, if◌then◌else◌, ℤ, pos, negsuc, List, length, Option, Some, None, codes}
 use Rattle.std.specs.Str.{bytes_eq}
 use Rattle.rv32_isa.specs.declared.forms.Instr.{Instr}
 use Rattle.rv32_isa.specs.declared.forms.Instr.TheVariants as forms
-use Rattle.rv32_isa.specs.Table.{word_of}
 use Rattle.rv32_asm.specs.declared.forms.Aim.{Aim}
 use Rattle.rv32_asm.specs.declared.forms.Aim.TheVariants as aims
-use Rattle.rv32_asm.specs.Fields.{◌>>=◌, cut, trim, number, immediate, immediate_in, register, bracketed, is_name}
+use Rattle.rv32_asm.specs.Fields.{◌>>=◌, cut, immediate_in, register, bracketed}
 
 -- rd, imm
 unfoldable pub upper : List ℕ → ℕ → ℤ → Option Instr

@@ -1,5 +1,5 @@
 -- What a line spells: a label, or code that takes one word.
-use Rattle.std.specs.Prelude.{◌≡◌, ℕ, ◌%◌, Bool, true, false, ◌&&◌, ◌==◌, if◌then◌else◌, ℤ, pos, unsigned_abs, List, [], ◌∷◌, length, Option, Some, None, IfSome, codes}
+use Rattle.std.specs.Prelude.{◌≡◌, ℕ, ◌%◌, ◌&&◌, ◌==◌, if◌then◌else◌, ℤ, unsigned_abs, List, [], length, Option, Some, None, codes}
 use Rattle.std.specs.Option.{option_map}
 use Rattle.std.specs.Str.{bytes_eq}
 use Rattle.rv32_isa.specs.declared.forms.Instr.{Instr}
