@@ -5,7 +5,7 @@ use Rattle.std.specs.declared.cmp.Ordering.TheVariants.{Less, Equal}
 use Rattle.std.specs.Ordering.{nat_cmp}
 use Rattle.std.proofs.lemmas.Bool.{cases_lt, cases_eq}
 use Rattle.std.proofs.lemmas.Bool.Decides.{nat_tests}
-use Rattle.std.proofs.lemmas.Cmp.{ranked}
+use Rattle.std.proofs.lemmas.Cmp.{nat_cmp_total, ranked, tied_itself}
 use Rattle.std.proofs.lemmas.List.{get_or-set_same, get_or-set_other, get_or-replicate, length-replicate, get_or_past, get_or_default, length-set}
 use Rattle.std.proofs.lemmas.List.Sums.{sum_by-set}
 use Rattle.std.proofs.lemmas.List.Elements.{Contains-get_or}
@@ -20,7 +20,7 @@ use Rattle.cache_ident.specs.contracts.names.NameOrd.TheImpl as name
 use Rattle.slot_cache.specs.Index.{IsRising, IsFoundAt, IsGapFor, IsInserted, IsRemoved}
 use Rattle.slot_cache.proofs.IndexLemmas.{less≢equal, greater≢equal}
 use Rattle.slot_cache.specs.Cells.{cell_at, IsCounted, MayGo, MayNotGo, IsFull, IsLowestFree, IsVictim, NoneMayGo}
-use Rattle.slot_cache.specs.Table.{IsKeyed, IsFree, Lists, IsPlaced, IsSound}
+use Rattle.slot_cache.specs.Table.{IsKeyed, IsFree, Lists, IsPlaced, IsProper, IsSound, Table}
 
 -- what two equal options hold is equal
 pub some_same : {X : Type 0} (a b : X) → Some a ≡ Some b → a ≡ b
@@ -399,3 +399,31 @@ sound-new {T} called kind cap by_serial by_name free few no_serial no_name count
       names_room = omega (arith, names_room, n);
       gaps_room = omega (arith, gaps_room, n);
     }
+
+-- in an index a key stands with one slot
+one_slot : {T K : Type 0} (cmp : K → K → Ordering) (itself : (a : K) → cmp a a ≡ Equal) (key : Loaded T → K) (cells : List (Option (Loaded T))) (places : List (K × ℕ)) → Lists cmp (IsKeyed key cells) places → (i j : ℕ) (a b : Loaded T) → cell_at cells i ≡ Some a → cell_at cells j ≡ Some b → key a ≡ key b → i ≡ j
+one_slot {T} {K} cmp itself key cells places lists i j a b at_i at_j same =
+    let p : K × ℕ = (key a, i) in
+    let q : K × ℕ = (key a, j) in
+    let first = lists.complete p (a, at_i, refl) in
+    let last = lists.complete q (b, at_j, sym same) in
+    let first_key : (get_or places first.0 p).0 ≡ key a = ap (λ (x : K × ℕ). x.0) first.2 in
+    let last_at_p : get_or places last.0 p ≡ q = get_or_default places last.0 p q last.1 ∙ last.2 in
+    let last_key : (get_or places last.0 p).0 ≡ key a = ap (λ (x : K × ℕ). x.0) last_at_p in
+    elim (cases_lt first.0 last.0) [
+      | inl before ↦ absurd (less≢equal _ (rw (first_key, last_key) at (lists.rising first.0 last.0 p before last.1)) (itself (key a)))
+      | inr not_before ↦ elim (cases_lt last.0 first.0) [
+        | inl after ↦ absurd (less≢equal _ (rw (first_key, last_key) at (lists.rising last.0 first.0 p after first.1)) (itself (key a)))
+        | inr not_after ↦
+            let one : first.0 ≡ last.0 = omega arith in
+            ap (λ (x : K × ℕ). x.1) (sym first.2 ∙ ap (λ k. get_or places k p) one ∙ last_at_p)
+      ]
+    ]
+
+-- what the invariant says to callers
+pub proper : {T : Type 0} (called : T → Name) (itself : (a : Name) → (name.ghosts).cmp a a ≡ Equal) (table : Table T) (by_serial : Vec (ℕ × ℕ) Global) (by_name : Vec (Name × ℕ) Global) (free : Vec (ℕ × Unit {0}) Global) → IsSound called table.kind table.cells by_serial by_name free → IsProper called table
+proper {T} called itself table by_serial by_name free sound = record {
+  placed = sound.placed;
+  one_serial = one_slot nat_cmp (tied_itself nat_cmp_total) (λ (x : Loaded T). x.ident.serial) table.cells by_serial.items sound.serials;
+  one_name = one_slot (name.ghosts).cmp itself (λ (x : Loaded T). called x.value) table.cells by_name.items sound.names;
+}

@@ -55,6 +55,10 @@ module _ {T : Type 0} where
   abbrev pub HasNoSerial : List (Option (Loaded T)) → ℕ → Type 0
   HasNoSerial cells serial = (slot : ℕ) (loaded : Loaded T) → cell_at cells slot ≡ Some loaded → loaded.ident.serial ≢ serial
 
+  -- each serial is below the number
+  abbrev pub IsOlder : List (Option (Loaded T)) → ℕ → Type 0
+  IsOlder cells serial = (slot : ℕ) (loaded : Loaded T) → cell_at cells slot ≡ Some loaded → loaded.ident.serial < serial
+
   -- a descriptor that a victim may be: it is neither locked nor kept
   pub record IsCandidate (keep : List Ident) (loaded : Loaded T) : Type 0 where
     pub unlocked : loaded.locked ≡ false

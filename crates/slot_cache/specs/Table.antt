@@ -33,6 +33,12 @@ pub record Lists {K V : Type 0} (cmp : K → K → Ordering) (P : K × V → Typ
 abbrev pub IsPlaced : {T : Type 0} → Kind → List (Option (Loaded T)) → Type 0
 IsPlaced {T} kind cells = (slot : ℕ) (loaded : Loaded T) → cell_at cells slot ≡ Some loaded → (loaded.ident.slot ≡ slot) × (loaded.ident.kind ≡ kind)
 
+-- what holds of all slots: each descriptor stands in the slot of its identifier, no serial stands twice, and no name
+pub record IsProper {T : Type 0} (called : T → Name) (table : Table T) : Type 0 where
+  pub placed : IsPlaced table.kind table.cells
+  pub one_serial : (i j : ℕ) (a b : Loaded T) → cell_at table.cells i ≡ Some a → cell_at table.cells j ≡ Some b → a.ident.serial ≡ b.ident.serial → i ≡ j
+  pub one_name : (i j : ℕ) (a b : Loaded T) → cell_at table.cells i ≡ Some a → cell_at table.cells j ≡ Some b → called a.value ≡ called b.value → i ≡ j
+
 -- the three lists list what is loaded by serial and by name, and what is free, and have room for all
 pub record IsSound {T : Type 0} (called : T → Name) (kind : Kind) (cells : List (Option (Loaded T))) (by_serial : Vec (ℕ × ℕ) Global) (by_name : Vec (Name × ℕ) Global) (free : Vec (ℕ × Unit {0}) Global) : Type 0 where
   pub few : length cells < 2 ^ 32

@@ -4,6 +4,8 @@
 mod index;
 mod loaded;
 mod slots;
+#[cfg(test)]
+mod tests;
 
 pub use loaded::{Descriptor, Loaded};
 pub use slots::Slots;

@@ -2,6 +2,7 @@
 
 ghost use Rattle.std.specs.Prelude.{◌≡◌, ◌<◌, ◌≤◌, ◌↔◌, replicate, length, count_by, is_some, slice_set, slice_index_or, Contains, IfOk, IfSome, IfNone, IsTrue, vec_len, vec_capacity};
 ghost use Rattle.slot_cache.specs.Cells.{cell_at, changed, filled, just_loaded, with_lock, with_value, HasNoName, HasNoSerial, IsContent, IsFoundAs, IsFull, IsLoaded, IsLowestFree, IsVictim, LockIs, MayGo, MayNotGo, NameIs, NoneMayGo, IsCounted};
+ghost use Rattle.slot_cache.specs.Table.{IsProper};
 
 use super::index;
 use super::loaded::{Descriptor, Loaded};
@@ -184,7 +185,8 @@ impl<T: Descriptor + Drop> Slots<T> {
 
     /// How many are loaded. Constant time.
     pub fn len(&self) -> u32
-        ensures { result ≡ count_by is_some self.now.cells }
+        ensures len { result ≡ count_by is_some self.now.cells }
+        ensures proper { IsProper T.called self.now }
     {
         self.by_serial.len() as u32
     }
