@@ -1,0 +1,3 @@
+pub mod IndexLemmas
+pub mod NameLemmas
+pub mod SlotLemmas

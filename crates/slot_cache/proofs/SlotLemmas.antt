@@ -1,0 +1,429 @@
+-- What an edit of the cells leaves in their indexes.
+use Rattle.std.proofs.Common.{◌≡◌, ◌≢◌, ◌⊎◌, ℕ, zero, suc, ◌+◌, ◌<◌, ◌≤◌, cond, List, [], length, get_or, set, Contains, Option, Some, None, unwrap_or, is_some, IsSome, count_by, replicate, vec_len, vec_capacity, ◌^◌, sym, ◌∙◌, ap, subst, inl, inr, refl, arith}
+use Rattle.std.specs.declared.cmp.Ordering.{Ordering}
+use Rattle.std.specs.declared.cmp.Ordering.TheVariants.{Less, Equal}
+use Rattle.std.specs.Ordering.{nat_cmp}
+use Rattle.std.proofs.lemmas.Bool.{cases_lt, cases_eq}
+use Rattle.std.proofs.lemmas.Bool.Decides.{nat_tests}
+use Rattle.std.proofs.lemmas.Cmp.{nat_cmp_total, ranked, tied_itself}
+use Rattle.std.proofs.lemmas.List.{get_or-set_same, get_or-set_other, get_or-replicate, length-replicate, get_or_past, get_or_default, length-set}
+use Rattle.std.proofs.lemmas.List.Sums.{sum_by-set}
+use Rattle.std.proofs.lemmas.List.Elements.{Contains-get_or}
+use Rattle.std.specs.Option.{IfNone}
+use Rattle.std.specs.declared.alloc.Global.{Global}
+use Rattle.std.specs.Prelude.{Vec}
+use Rattle.cache_ident.specs.declared.idents.Ident.{Ident}
+use Rattle.cache_ident.specs.declared.idents.Kind.{Kind}
+use Rattle.slot_cache.specs.declared.loaded.Loaded.{Loaded}
+use Rattle.cache_ident.specs.declared.names.Name.{Name}
+use Rattle.cache_ident.specs.contracts.names.NameOrd.TheImpl as name
+use Rattle.slot_cache.specs.Index.{IsRising, IsFoundAt, IsGapFor, IsInserted, IsRemoved}
+use Rattle.slot_cache.proofs.IndexLemmas.{less≢equal, greater≢equal}
+use Rattle.slot_cache.specs.Cells.{cell_at, IsCounted, MayGo, MayNotGo, IsFull, IsLowestFree, IsVictim, NoneMayGo}
+use Rattle.slot_cache.specs.Table.{IsKeyed, IsFree, Lists, IsPlaced, IsProper, IsSound, Table}
+
+-- what two equal options hold is equal
+pub some_same : {X : Type 0} (a b : X) → Some a ≡ Some b → a ≡ b
+some_same a b e = ap (λ o. unwrap_or o a) e
+
+-- a pair by its parts
+pub pair_same : {A B : Type 0} (p : A × B) (a : A) (b : B) → a ≡ p.0 → b ≡ p.1 → p ≡ (a, b)
+pair_same {A} {B} p a b first second =
+    let Left : A → Type 0 = λ x. p ≡ (x, b) in
+    let Right : B → Type 0 = λ y. p ≡ (p.0, y) in
+    subst Left (sym first) (subst Right (sym second) refl)
+
+module _ {T : Type 0} where
+  -- something and nothing don't stand at one slot
+  pub not_none : (cells : List (Option (Loaded T))) (slot : ℕ) (e : Loaded T) → cell_at cells slot ≡ Some e → cell_at cells slot ≡ None → ⊥
+  not_none cells slot e some none = cc
+
+  -- a slot that holds something is one of the cells
+  pub cell_within : (cells : List (Option (Loaded T))) (slot : ℕ) (e : Loaded T) → cell_at cells slot ≡ Some e → slot < length cells
+  cell_within cells slot e some = elim (cases_lt slot (length cells)) [
+    | inl within ↦ within
+    | inr past ↦ absurd (not_none cells slot e some (get_or_past cells slot None past))
+  ]
+
+  -- one descriptor stands at a slot
+  pub one_at : (cells : List (Option (Loaded T))) (slot : ℕ) (a b : Loaded T) → cell_at cells slot ≡ Some a → cell_at cells slot ≡ Some b → a ≡ b
+  one_at cells slot a b first second = some_same a b (sym first ∙ second)
+
+  -- what a read of a cell gave stands at its slot
+  pub read_cell : (cells : List (Option (Loaded T))) (slot : ℕ) (c : Option (Loaded T)) → slot < length cells → c ≡ get_or cells slot c → cell_at cells slot ≡ c
+  read_cell cells slot c within read = get_or_default cells slot None c within ∙ sym read
+
+  -- what stands at a slot after a write there
+  pub here : (cells : List (Option (Loaded T))) (slot : ℕ) (c : Option (Loaded T)) → slot < length cells → cell_at (set cells slot c) slot ≡ c
+  here cells slot c within = get_or-set_same cells slot c None within
+
+  -- and at another slot
+  pub elsewhere : (cells : List (Option (Loaded T))) (slot other : ℕ) (c : Option (Loaded T)) → other ≢ slot → cell_at (set cells slot c) other ≡ cell_at cells other
+  elsewhere cells slot other c apart = get_or-set_other cells slot other c None apart
+
+  -- a write of a cell changes the count by that cell
+  count-set : (cells : List (Option (Loaded T))) (slot : ℕ) (c : Option (Loaded T)) → slot < length cells → count_by is_some (set cells slot c) + cond (is_some (cell_at cells slot)) 1 0 ≡ count_by is_some cells + cond (is_some c) 1 0
+  count-set cells slot c within = sum_by-set (λ c. cond (is_some c) 1 0) cells slot c None within
+
+  -- a cell that is filled adds one to the count
+  pub count-put : (cells : List (Option (Loaded T))) (slot : ℕ) (e : Loaded T) → slot < length cells → cell_at cells slot ≡ None → count_by is_some (set cells slot (Some e)) ≡ count_by is_some cells + 1
+  count-put cells slot e within none = let n = rw none at (count-set cells slot (Some e) within) in omega (arith, n)
+
+  -- a cell that is emptied takes one from it
+  pub count-take : (cells : List (Option (Loaded T))) (slot : ℕ) (e : Loaded T) → cell_at cells slot ≡ Some e → count_by is_some (set cells slot None) + 1 ≡ count_by is_some cells
+  count-take cells slot e some = let n = rw some at (count-set cells slot None (cell_within cells slot e some)) in omega (arith, n)
+
+  -- a cell that stays filled leaves it
+  pub count-same : (cells : List (Option (Loaded T))) (slot : ℕ) (e new : Loaded T) → cell_at cells slot ≡ Some e → count_by is_some (set cells slot (Some new)) ≡ count_by is_some cells
+  count-same cells slot e new some = let n = rw some at (count-set cells slot (Some new) (cell_within cells slot e some)) in omega (arith, n)
+
+  -- each stands in its slot after a write of one that does
+  pub placed-put : (kind : Kind) (cells : List (Option (Loaded T))) (slot : ℕ) (e : Loaded T) → slot < length cells → e.ident.slot ≡ slot → e.ident.kind ≡ kind → IsPlaced kind cells → IsPlaced kind (set cells slot (Some e))
+  placed-put kind cells slot e within slot_is kind_is placed k x there = elim (cases_eq k slot) [
+    | inl at ↦
+        let same : e ≡ x = some_same e x (sym (here cells slot (Some e) within) ∙ ap (cell_at (set cells slot (Some e))) (sym at) ∙ there) in
+        (ap (λ (x : Loaded T). x.ident.slot) (sym same) ∙ slot_is ∙ sym at, ap (λ (x : Loaded T). x.ident.kind) (sym same) ∙ kind_is)
+    | inr apart ↦ placed k x (sym (elsewhere cells slot k (Some e) apart) ∙ there)
+  ]
+
+  -- and after one left
+  pub placed-take : (kind : Kind) (cells : List (Option (Loaded T))) (slot : ℕ) → slot < length cells → IsPlaced kind cells → IsPlaced kind (set cells slot None)
+  placed-take kind cells slot within placed k x there = elim (cases_eq k slot) [
+    | inl at ↦ absurd (not_none (set cells slot None) slot x (ap (cell_at (set cells slot None)) (sym at) ∙ there) (here cells slot None within))
+    | inr apart ↦ placed k x (sym (elsewhere cells slot k None apart) ∙ there)
+  ]
+
+  -- the free list after a slot was filled
+  pub free-put : (cells : List (Option (Loaded T))) (slot : ℕ) (e : Loaded T) (old new : List (ℕ × Unit {0})) → slot < length cells → Lists nat_cmp (IsFree cells) old → IsRising nat_cmp new → IsRemoved old new (slot, tt) → Lists nat_cmp (IsFree (set cells slot (Some e))) new
+  free-put cells slot e old new within lists rising edit = record {
+    rising = rising;
+    sound = λ place there.
+        let was = lists.sound place (edit.only place there) in
+        let apart : place.0 ≢ slot = λ at. edit.gone place there (pair_same place slot tt (sym at) refl) in
+        (rw (length-set cells slot (Some e)) was.0, elsewhere cells slot place.0 (Some e) apart ∙ was.1);
+    complete = λ place free.
+        let apart : place.0 ≢ slot = λ at. not_none (set cells slot (Some e)) slot e (here cells slot (Some e) within) (ap (cell_at (set cells slot (Some e))) (sym at) ∙ free.1) in
+        edit.kept place (lists.complete place (rw (length-set cells slot (Some e)) at free.0, sym (elsewhere cells slot place.0 (Some e) apart) ∙ free.1)) (λ same. apart (ap (λ (p : ℕ × Unit {0}). p.0) same));
+  }
+
+  -- and after it was emptied
+  pub free-take : (cells : List (Option (Loaded T))) (slot : ℕ) (e : Loaded T) (old new : List (ℕ × Unit {0})) → cell_at cells slot ≡ Some e → Lists nat_cmp (IsFree cells) old → IsRising nat_cmp new → IsInserted old new (slot, tt) → Lists nat_cmp (IsFree (set cells slot None)) new
+  free-take cells slot e old new some lists rising edit =
+      let within = cell_within cells slot e some in
+      record {
+        rising = rising;
+        sound = λ place there. elim (edit.only place there) [
+          | inl same ↦ subst (IsFree (set cells slot None)) (sym same) (rw (length-set cells slot None) within, here cells slot None within)
+          | inr old_there ↦
+              let was = lists.sound place old_there in
+              let apart : place.0 ≢ slot = λ at. not_none cells slot e some (ap (cell_at cells) (sym at) ∙ was.1) in
+              (rw (length-set cells slot None) was.0, elsewhere cells slot place.0 None apart ∙ was.1)
+        ];
+        complete = λ place free. elim (cases_eq place.0 slot) [
+          | inl at ↦ subst (Contains new) (sym (pair_same place slot tt (sym at) refl)) edit.here
+          | inr apart ↦ edit.kept place (lists.complete place (rw (length-set cells slot None) at free.0, sym (elsewhere cells slot place.0 None apart) ∙ free.1))
+        ];
+      }
+
+  -- the free list after a taken slot was written
+  pub free-same : (cells : List (Option (Loaded T))) (slot : ℕ) (e new : Loaded T) (free : List (ℕ × Unit {0})) → cell_at cells slot ≡ Some e → Lists nat_cmp (IsFree cells) free → Lists nat_cmp (IsFree (set cells slot (Some new))) free
+  free-same cells slot e new free some lists = record {
+    rising = lists.rising;
+    sound = λ place there.
+        let was = lists.sound place there in
+        let apart : place.0 ≢ slot = λ at. not_none cells slot e some (ap (cell_at cells) (sym at) ∙ was.1) in
+        (rw (length-set cells slot (Some new)) was.0, elsewhere cells slot place.0 (Some new) apart ∙ was.1);
+    complete = λ place free.
+        let apart : place.0 ≢ slot = λ at. not_none (set cells slot (Some new)) slot new (here cells slot (Some new) (cell_within cells slot e some)) (ap (cell_at (set cells slot (Some new))) (sym at) ∙ free.1) in
+        lists.complete place (rw (length-set cells slot (Some new)) at free.0, sym (elsewhere cells slot place.0 (Some new) apart) ∙ free.1);
+  }
+
+module _ {T K : Type 0} (cmp : K → K → Ordering) (key : Loaded T → K) (cells : List (Option (Loaded T))) (slot : ℕ) (e : Loaded T) where
+  -- an index by a key after a free slot was filled
+  pub keyed-put : (old new : List (K × ℕ)) → slot < length cells → cell_at cells slot ≡ None → Lists cmp (IsKeyed key cells) old → IsRising cmp new → IsInserted old new (key e, slot) → Lists cmp (IsKeyed key (set cells slot (Some e))) new
+  keyed-put old new within none lists rising edit = record {
+    rising = rising;
+    sound = λ place there. elim (edit.only place there) [
+      | inl same ↦ subst (IsKeyed key (set cells slot (Some e))) (sym same) (e, here cells slot (Some e) within, refl)
+      | inr old_there ↦
+          let was = lists.sound place old_there in
+          let apart : place.1 ≢ slot = λ at. not_none cells slot was.0 (ap (cell_at cells) (sym at) ∙ was.1) none in
+          (was.0, elsewhere cells slot place.1 (Some e) apart ∙ was.1, was.2)
+    ];
+    complete = λ place keyed. elim (cases_eq place.1 slot) [
+      | inl at ↦
+          let same : e ≡ keyed.0 = some_same e keyed.0 (sym (here cells slot (Some e) within) ∙ ap (cell_at (set cells slot (Some e))) (sym at) ∙ keyed.1) in
+          subst (Contains new) (sym (pair_same place (key e) slot (ap key same ∙ keyed.2) (sym at))) edit.here
+      | inr apart ↦ edit.kept place (lists.complete place (keyed.0, sym (elsewhere cells slot place.1 (Some e) apart) ∙ keyed.1, keyed.2))
+    ];
+  }
+
+  -- and after a taken one was emptied
+  pub keyed-take : (old new : List (K × ℕ)) → cell_at cells slot ≡ Some e → Lists cmp (IsKeyed key cells) old → IsRising cmp new → IsRemoved old new (key e, slot) → Lists cmp (IsKeyed key (set cells slot None)) new
+  keyed-take old new some lists rising edit = record {
+    rising = rising;
+    sound = λ place there.
+        let was = lists.sound place (edit.only place there) in
+        let apart : place.1 ≢ slot = λ at.
+        let same : e ≡ was.0 = one_at cells slot e was.0 some (ap (cell_at cells) (sym at) ∙ was.1) in
+        edit.gone place there (pair_same place (key e) slot (ap key same ∙ was.2) (sym at)) in
+        (was.0, elsewhere cells slot place.1 None apart ∙ was.1, was.2);
+    complete = λ place keyed.
+        let apart : place.1 ≢ slot = λ at. not_none (set cells slot None) slot keyed.0 (ap (cell_at (set cells slot None)) (sym at) ∙ keyed.1) (here cells slot None (cell_within cells slot e some)) in
+        edit.kept place (lists.complete place (keyed.0, sym (elsewhere cells slot place.1 None apart) ∙ keyed.1, keyed.2)) (λ same. apart (ap (λ (p : K × ℕ). p.1) same));
+  }
+
+  -- and after one of the same key was written over it
+  pub keyed-same : (new : Loaded T) (places : List (K × ℕ)) → cell_at cells slot ≡ Some e → key new ≡ key e → Lists cmp (IsKeyed key cells) places → Lists cmp (IsKeyed key (set cells slot (Some new))) places
+  keyed-same new places some same_key lists =
+      let within = cell_within cells slot e some in
+      record {
+        rising = lists.rising;
+        sound = λ place there.
+            let was = lists.sound place there in
+            elim (cases_eq place.1 slot) [
+              | inl at ↦
+                  let same : e ≡ was.0 = one_at cells slot e was.0 some (ap (cell_at cells) (sym at) ∙ was.1) in
+                  (new, ap (cell_at (set cells slot (Some new))) at ∙ here cells slot (Some new) within, same_key ∙ ap key same ∙ was.2)
+              | inr apart ↦ (was.0, elsewhere cells slot place.1 (Some new) apart ∙ was.1, was.2)
+            ];
+        complete = λ place keyed. elim (cases_eq place.1 slot) [
+          | inl at ↦
+              let same : new ≡ keyed.0 = some_same new keyed.0 (sym (here cells slot (Some new) within) ∙ ap (cell_at (set cells slot (Some new))) (sym at) ∙ keyed.1) in
+              lists.complete place (e, ap (cell_at cells) at ∙ some, sym same_key ∙ ap key same ∙ keyed.2)
+          | inr apart ↦ lists.complete place (keyed.0, sym (elsewhere cells slot place.1 (Some new) apart) ∙ keyed.1, keyed.2)
+        ];
+      }
+
+-- the place of an index names one of the cells
+pub listed_within : {T K : Type 0} (cmp : K → K → Ordering) (key : Loaded T → K) (cells : List (Option (Loaded T))) (places : List (K × ℕ)) → Lists cmp (IsKeyed key cells) places → (k : ℕ) (d : K × ℕ) → k < length places → (get_or places k d).1 < length cells
+listed_within cmp key cells places lists k d within =
+    let was = lists.sound (get_or places k d) (Contains-get_or places k d within) in
+    cell_within cells (get_or places k d).1 was.0 was.1
+
+-- of the first n places of an index none may go
+abbrev pub NoneBefore : {T : Type 0} → List (Option (Loaded T)) → List (ℕ × ℕ) → List Ident → ℕ → Type 0
+NoneBefore cells places keep n = (k : ℕ) (d : ℕ × ℕ) → k < n → MayNotGo (cell_at cells (get_or places k d).1) keep
+
+-- nor of one more, if the next may not
+pub none_more : {T : Type 0} (cells : List (Option (Loaded T))) (places : List (ℕ × ℕ)) (keep : List Ident) (n : ℕ) (d : ℕ × ℕ) → n < length places → NoneBefore cells places keep n → MayNotGo (cell_at cells (get_or places n d).1) keep → NoneBefore cells places keep (n + 1)
+none_more cells places keep n d within none last k e lt = elim (cases_lt k n) [
+  | inl before ↦ none k e before
+  | inr not_before ↦ λ x there.
+      let same : k ≡ n = omega arith in
+      last x (ap (λ (p : ℕ × ℕ). cell_at cells p.1) (get_or_default places n d e within ∙ ap (λ k. get_or places k e) (sym same)) ∙ there)
+]
+
+module _ {T : Type 0} (kind : Kind) (cells : List (Option (Loaded T))) (places : List (ℕ × ℕ)) (keep : List Ident) (placed : IsPlaced kind cells) (lists : Lists nat_cmp (IsKeyed (λ loaded. loaded.ident.serial) cells) places) where
+  -- then no slot may, at the end
+  pub none_may_go : (n : ℕ) → length places ≤ n → NoneBefore cells places keep n → NoneMayGo cells keep
+  none_may_go n all none slot e there candidate =
+      let listed = lists.complete (e.ident.serial, slot) (e, there, refl) in
+      let place : ℕ × ℕ = (e.ident.serial, slot) in
+      none listed.0 place (omega (arith, listed.1)) e (ap (λ (p : ℕ × ℕ). cell_at cells p.1) listed.2 ∙ there) candidate
+
+  -- and the first one that may is the victim
+  pub is_victim : (n : ℕ) (place : ℕ × ℕ) (ident : Ident) → n < length places → place ≡ get_or places n place → NoneBefore cells places keep n → MayGo (cell_at cells place.1) keep ident → IsVictim cells keep ident
+  is_victim n place ident within read none go =
+      let e = go.0 in
+      let slot_is : ident.slot ≡ place.1 = ap (λ (i : Ident). i.slot) (sym go.2) ∙ (placed place.1 e go.1).0 in
+      let listed = lists.sound place (n, within, sym read) in
+      let serial_is : ident.serial ≡ place.0 = ap (λ (i : Ident). i.serial) (sym go.2) ∙ ap (λ (x : Loaded T). x.ident.serial) (one_at cells place.1 e listed.0 go.1 listed.1) ∙ listed.2 in
+      record {
+        candidate = (e, ap (cell_at cells) slot_is ∙ go.1, go.2, go.3);
+        smallest = λ slot x there candidate.
+            let other : ℕ × ℕ = (x.ident.serial, slot) in
+            let at = lists.complete other (x, there, refl) in
+            elim (cases_lt at.0 n) [
+              | inl before ↦ absurd (none at.0 other before x (ap (λ (p : ℕ × ℕ). cell_at cells p.1) at.2 ∙ there) candidate)
+              | inr not_before ↦ elim (cases_eq at.0 n) [
+                | inl same ↦
+                    let one : get_or places n other ≡ other = ap (λ k. get_or places k other) (sym same) ∙ at.2 in
+                    let serial : place.0 ≡ x.ident.serial = ap (λ (p : ℕ × ℕ). p.0) (read ∙ default n place other within ∙ one) in
+                    omega (arith, serial_is, serial)
+                | inr apart ↦
+                    let less = lists.rising n at.0 other (omega (arith, not_before, apart)) at.1 in
+                    let rises = ranked (get_or places n other).0 (get_or places at.0 other).0 Less (sym less) in
+                    let first : place.0 ≡ (get_or places n other).0 = ap (λ (p : ℕ × ℕ). p.0) (read ∙ default n place other within) in
+                    let last : (get_or places at.0 other).0 ≡ x.ident.serial = ap (λ (p : ℕ × ℕ). p.0) at.2 in
+                    omega (arith, serial_is, rises, first, last)
+              ]
+            ];
+      }
+    where
+      default : (k : ℕ) (a b : ℕ × ℕ) → k < length places → get_or places k a ≡ get_or places k b
+      default k a b lt = get_or_default places k a b lt
+
+module _ {T : Type 0} (cells : List (Option (Loaded T))) (free : List (ℕ × Unit {0})) (lists : Lists nat_cmp (IsFree cells) free) where
+  -- an option is nothing or something
+  none_or_some : (c : Option (Loaded T)) → (c ≡ None) ⊎ IsSome c
+  none_or_some None = inl refl
+  none_or_some (Some e) = inr refl
+
+  -- where nothing is listed as free, each slot is taken
+  pub is_full : length free ≡ 0 → IsFull cells
+  is_full empty slot within = elim (none_or_some (cell_at cells slot)) [
+    | inl none ↦ let listed = lists.complete (slot, tt) (within, none) in absurd (omega (arith, empty, listed.1))
+    | inr some ↦ some
+  ]
+
+  -- the first that is listed as free is the lowest free slot
+  pub is_lowest : (place : ℕ × Unit {0}) → 0 < length free → place ≡ get_or free 0 place → IsLowestFree cells place.0
+  is_lowest place some read =
+      let first = lists.sound place (0, some, sym read) in
+      record {
+        below = first.0;
+        free = first.1;
+        lowest = λ other lower. elim (none_or_some (cell_at cells other)) [
+          | inl none ↦
+              let it : ℕ × Unit {0} = (other, tt) in
+              let listed = lists.complete it (omega (arith, first.0), none) in
+              let head : place.0 ≡ (get_or free 0 it).0 = ap (λ (p : ℕ × Unit {0}). p.0) (read ∙ get_or_default free 0 place it some) in
+              elim (cases_eq listed.0 0) [
+                | inl same ↦
+                    let one : (get_or free 0 it).0 ≡ other = ap (λ k. (get_or free k it).0) (sym same) ∙ ap (λ (p : ℕ × Unit {0}). p.0) listed.2 in
+                    absurd (omega (arith, head, one))
+                | inr apart ↦
+                    let rises = ranked (get_or free 0 it).0 (get_or free listed.0 it).0 Less (sym (lists.rising 0 listed.0 it (omega (arith, apart)) listed.1)) in
+                    let last : (get_or free listed.0 it).0 ≡ other = ap (λ (p : ℕ × Unit {0}). p.0) listed.2 in
+                    absurd (omega (arith, head, rises, last))
+              ]
+          | inr taken ↦ taken
+        ];
+      }
+
+  -- a slot that is taken is not listed as free
+  pub not_listed : (slot : ℕ) (e : Loaded T) → cell_at cells slot ≡ Some e → (k : ℕ) (d : ℕ × Unit {0}) → k < length free → nat_cmp (get_or free k d).0 slot ≡ Equal → ⊥
+  not_listed slot e some k d within equal =
+      let was = lists.sound (get_or free k d) (Contains-get_or free k d within) in
+      let at : (get_or free k d).0 ≡ slot = ranked (get_or free k d).0 slot Equal (sym equal) in
+      not_none cells slot e some (ap (cell_at cells) (sym at) ∙ was.1)
+
+-- a key that nothing loaded has is in no place of its index
+pub absent_key : {T K : Type 0} (cmp : K → K → Ordering) (key : Loaded T → K) (one : (a b : K) → cmp a b ≡ Equal → a ≡ b) (cells : List (Option (Loaded T))) (places : List (K × ℕ)) → Lists cmp (IsKeyed key cells) places → (k : K) → ((slot : ℕ) (e : Loaded T) → cell_at cells slot ≡ Some e → key e ≢ k) → (i : ℕ) (d : K × ℕ) → i < length places → cmp (get_or places i d).0 k ≡ Equal → ⊥
+absent_key cmp key one cells places lists k none i d within equal =
+    let was = lists.sound (get_or places i d) (Contains-get_or places i d within) in
+    none (get_or places i d).1 was.0 was.1 (was.2 ∙ one _ _ equal)
+
+-- numbers that compare as equal are one
+pub same_number : (a b : ℕ) → nat_cmp a b ≡ Equal → a ≡ b
+same_number a b equal = ranked a b Equal (sym equal)
+
+-- a fact holds where nothing was answered
+pub if_none : {X : Type 0} (r : Option X) (P : Type 0) → P → IfNone r P
+if_none None P p = p
+if_none (Some x) P p = tt
+
+module _ {T K : Type 0} (cmp : K → K → Ordering) (key : Loaded T → K) (cells : List (Option (Loaded T))) (places : List (K × ℕ)) (lists : Lists cmp (IsKeyed key cells) places) where
+  -- a key that has a gap in its index is that of nothing loaded
+  pub absent_from_gap : ((a : K) → cmp a a ≡ Equal) → (k : K) (i : ℕ) → IsGapFor cmp places k i → (slot : ℕ) (e : Loaded T) → cell_at cells slot ≡ Some e → key e ≡ k → ⊥
+  absent_from_gap itself k i gap slot e there same =
+      let place : K × ℕ = (k, slot) in
+      let listed = lists.complete place (e, there, same) in
+      let first : (get_or places listed.0 place).0 ≡ k = ap (λ (p : K × ℕ). p.0) listed.2 in
+      elim (cases_lt listed.0 i) [
+        | inl before ↦ less≢equal _ (rw first at (gap.below listed.0 place before)) (itself k)
+        | inr not_before ↦ greater≢equal _ (rw first at (gap.above listed.0 place not_before listed.1)) (itself k)
+      ]
+
+  -- a key that is found is that of what stands at its slot
+  pub found_at_place : ((a b : K) → cmp a b ≡ Equal → a ≡ b) → (k : K) (at : ℕ) (place : K × ℕ) → IsFoundAt cmp places k at → place ≡ get_or places at place → IsKeyed key cells (k, place.1)
+  found_at_place one k at place found read =
+      let was = lists.sound place (at, found.within, sym read) in
+      (was.0, was.1, was.2 ∙ ap (λ (p : K × ℕ). p.0) read ∙ one _ _ (found.has_key place))
+
+-- what stands at a slot is changed and keeps identifier and name
+pub sound-changed : {T : Type 0} (called : T → Name) (kind : Kind) (cells : List (Option (Loaded T))) (by_serial : Vec (ℕ × ℕ) Global) (by_name : Vec (Name × ℕ) Global) (free : Vec (ℕ × Unit {0}) Global) (slot : ℕ) (e new : Loaded T) → cell_at cells slot ≡ Some e → new.ident ≡ e.ident → called new.value ≡ called e.value → IsSound called kind cells by_serial by_name free → IsSound called kind (set cells slot (Some new)) by_serial by_name free
+sound-changed {T} called kind cells by_serial by_name free slot e new some same_ident same_name sound =
+    let n = length-set cells slot (Some new) in
+    let count = count-same cells slot e new some in
+    let place = sound.placed slot e some in
+    record {
+      few = rw n sound.few;
+      placed = placed-put kind cells slot new (cell_within cells slot e some) (ap (λ (i : Ident). i.slot) same_ident ∙ place.0) (ap (λ (i : Ident). i.kind) same_ident ∙ place.1) sound.placed;
+      serials = keyed-same nat_cmp (λ (x : Loaded T). x.ident.serial) cells slot e new by_serial.items some (ap (λ (i : Ident). i.serial) same_ident) sound.serials;
+      names = keyed-same (name.ghosts).cmp (λ (x : Loaded T). called x.value) cells slot e new by_name.items some same_name sound.names;
+      gaps = free-same cells slot e new free.items some sound.gaps;
+      serials_len = sound.serials_len ∙ sym count;
+      names_len = sound.names_len ∙ sym count;
+      gaps_len = rw (n, count) sound.gaps_len;
+      serials_room = rw n sound.serials_room;
+      names_room = rw n sound.names_room;
+      gaps_room = rw n sound.gaps_room;
+    }
+
+-- numbers in order compare as less
+less_of : (a b : ℕ) → a < b → nat_cmp a b ≡ Less
+less_of a b lt = grind (arith, nat_tests)
+
+-- of cells with nothing in them each holds nothing
+all_none : {T : Type 0} (n slot : ℕ) → cell_at {T = T} (replicate n None) slot ≡ None
+all_none {T} n slot = elim (cases_lt slot n) [
+  | inl within ↦ get_or-replicate n slot None None within
+  | inr past ↦ get_or_past (replicate n None) slot None (rw (length-replicate {A = Option (Loaded T)} n None) past)
+]
+
+-- and none counts
+count-none : (T : Type 0) (n : ℕ) → count_by (is_some {T = Loaded T}) (replicate n None) ≡ 0
+count-none T zero = refl
+count-none T (suc n) = count-none T n
+
+-- an index with nothing in it lists nothing
+lists-nil : {K V : Type 0} (cmp : K → K → Ordering) (P : K × V → Type 0) → ((place : K × V) → P place → ⊥) → Lists cmp P []
+lists-nil cmp P none = record { rising = λ i j d lt within. absurd (omega (arith, within)); sound = λ place there. absurd (omega (arith, there.1)); complete = λ place it. absurd (none place it) }
+
+-- slots of which all are free
+pub sound-new : {T : Type 0} (called : T → Name) (kind : Kind) (cap : ℕ) (by_serial : Vec (ℕ × ℕ) Global) (by_name : Vec (Name × ℕ) Global) (free : Vec (ℕ × Unit {0}) Global) → cap < 2 ^ 32 → by_serial.items ≡ [] → by_name.items ≡ [] → IsCounted free.items cap → vec_len by_serial ≡ 0 → vec_len by_name ≡ 0 → vec_len free ≡ cap → cap ≤ vec_capacity by_serial → cap ≤ vec_capacity by_name → cap ≤ vec_capacity free → IsSound called kind (replicate cap None) by_serial by_name free
+sound-new {T} called kind cap by_serial by_name free few no_serial no_name counted serials_len names_len gaps_len serials_room names_room gaps_room =
+    let n : length {A = Option (Loaded T)} (replicate cap None) ≡ cap = length-replicate cap None in
+    let count = count-none T cap in
+    let nothing : (slot : ℕ) (e : Loaded T) → cell_at (replicate cap None) slot ≡ Some e → ⊥ = λ slot e there. not_none (replicate cap None) slot e there (all_none cap slot) in
+    record {
+      few = rw n few;
+      placed = λ slot e there. absurd (nothing slot e there);
+      serials = rw no_serial (lists-nil nat_cmp (IsKeyed (λ (x : Loaded T). x.ident.serial) (replicate cap None)) (λ place keyed. nothing place.1 keyed.0 keyed.1));
+      names = rw no_name (lists-nil (name.ghosts).cmp (IsKeyed (λ (x : Loaded T). called x.value) (replicate cap None)) (λ place keyed. nothing place.1 keyed.0 keyed.1));
+      gaps = record {
+        rising = λ i j d lt within. rw (counted.each i d (omega (arith, lt, within, counted.len)), counted.each j d (omega (arith, within, counted.len))) (less_of i j lt);
+        sound = λ place there.
+            let at : place.0 ≡ there.0 = ap (λ (p : ℕ × Unit {0}). p.0) (sym there.2) ∙ counted.each there.0 place (omega (arith, there.1, counted.len)) in
+            (omega (arith, at, there.1, counted.len, n), all_none cap place.0);
+        complete = λ place it.
+            let within : place.0 < length free.items = omega (arith, it.0, n, counted.len) in
+            (place.0, within, sym (pair_same place (get_or free.items place.0 place).0 tt (counted.each place.0 place (omega (arith, it.0, n))) refl));
+      };
+      serials_len = omega (arith, serials_len, count);
+      names_len = omega (arith, names_len, count);
+      gaps_len = omega (arith, gaps_len, count, n);
+      serials_room = omega (arith, serials_room, n);
+      names_room = omega (arith, names_room, n);
+      gaps_room = omega (arith, gaps_room, n);
+    }
+
+-- in an index a key stands with one slot
+one_slot : {T K : Type 0} (cmp : K → K → Ordering) (itself : (a : K) → cmp a a ≡ Equal) (key : Loaded T → K) (cells : List (Option (Loaded T))) (places : List (K × ℕ)) → Lists cmp (IsKeyed key cells) places → (i j : ℕ) (a b : Loaded T) → cell_at cells i ≡ Some a → cell_at cells j ≡ Some b → key a ≡ key b → i ≡ j
+one_slot {T} {K} cmp itself key cells places lists i j a b at_i at_j same =
+    let p : K × ℕ = (key a, i) in
+    let q : K × ℕ = (key a, j) in
+    let first = lists.complete p (a, at_i, refl) in
+    let last = lists.complete q (b, at_j, sym same) in
+    let first_key : (get_or places first.0 p).0 ≡ key a = ap (λ (x : K × ℕ). x.0) first.2 in
+    let last_at_p : get_or places last.0 p ≡ q = get_or_default places last.0 p q last.1 ∙ last.2 in
+    let last_key : (get_or places last.0 p).0 ≡ key a = ap (λ (x : K × ℕ). x.0) last_at_p in
+    elim (cases_lt first.0 last.0) [
+      | inl before ↦ absurd (less≢equal _ (rw (first_key, last_key) at (lists.rising first.0 last.0 p before last.1)) (itself (key a)))
+      | inr not_before ↦ elim (cases_lt last.0 first.0) [
+        | inl after ↦ absurd (less≢equal _ (rw (first_key, last_key) at (lists.rising last.0 first.0 p after first.1)) (itself (key a)))
+        | inr not_after ↦
+            let one : first.0 ≡ last.0 = omega arith in
+            ap (λ (x : K × ℕ). x.1) (sym first.2 ∙ ap (λ k. get_or places k p) one ∙ last_at_p)
+      ]
+    ]
+
+-- what the invariant says to callers
+pub proper : {T : Type 0} (called : T → Name) (itself : (a : Name) → (name.ghosts).cmp a a ≡ Equal) (table : Table T) (by_serial : Vec (ℕ × ℕ) Global) (by_name : Vec (Name × ℕ) Global) (free : Vec (ℕ × Unit {0}) Global) → IsSound called table.kind table.cells by_serial by_name free → IsProper called table
+proper {T} called itself table by_serial by_name free sound = record {
+  placed = sound.placed;
+  one_serial = one_slot nat_cmp (tied_itself nat_cmp_total) (λ (x : Loaded T). x.ident.serial) table.cells by_serial.items sound.serials;
+  one_name = one_slot (name.ghosts).cmp itself (λ (x : Loaded T). called x.value) table.cells by_name.items sound.names;
+}

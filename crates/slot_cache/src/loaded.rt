@@ -1,0 +1,24 @@
+//! What a slot holds.
+
+ghost use Rattle.std.specs.Prelude.{◌≡◌};
+ghost use Rattle.cache_ident.specs.declared.names.Name.{Name};
+
+use cache_ident::{Ident, Name};
+
+/// A record that has a name. Equal names mean one descriptor.
+pub trait Descriptor {
+    ghost called: { Self → Name };
+
+    /// The name under which it was declared.
+    fn name(&self) -> Name
+        ensures { result ≡ called self.now };
+}
+
+/// A descriptor that is loaded.
+#[derive(Drop)]
+pub struct Loaded<T> {
+    pub ident: Ident,
+    pub value: T,
+    /// A locked one is no victim.
+    pub locked: bool,
+}
