@@ -173,12 +173,13 @@ mod tests {
     #[test]
     fn a_kernel_is_loaded_and_taken_out(rt: HostRuntime) -> Result<(), Fail> {
         let mut cache = KernelCache::new(rt.alloc(), 2)?;
-        let name = kernel().name();
+        let value = kernel();
+        let name = value.name();
         assert_eq!(rt;
             (cache.len(), cache.free(), cache.find(name)),
             (0, Some(0), None)
         );
-        cache.put(IDENT, kernel());
+        cache.put(IDENT, value);
         assert_eq!(rt;
             (cache.len(), cache.free(), cache.find(name)),
             (1, Some(1), Some(IDENT))
@@ -187,7 +188,11 @@ mod tests {
         assert_eq!(rt; cache.victim(&[IDENT]), None);
         assert!(rt; cache.get(IDENT).is_some());
         assert!(rt; !cache.is_locked(IDENT));
-        assert_eq!(rt; cache.take(IDENT).name(), name);
+        let mut changed = value;
+        changed.locked.kernels = 1;
+        assert_eq!(rt; cache.replace(IDENT, changed).locked.kernels, 0);
+        assert!(rt; cache.get(IDENT).is_some());
+        assert_eq!(rt; cache.take(IDENT).locked.kernels, 1);
         assert!(rt; cache.get(IDENT).is_none());
         Ok(())
     }

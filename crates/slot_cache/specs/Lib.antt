@@ -1,3 +1,4 @@
 pub mod Index
 pub mod Cells
 pub mod Table
+pub mod Rows

@@ -3,6 +3,7 @@
 
 mod index;
 mod loaded;
+mod rows;
 mod slots;
 #[cfg(test)]
 mod tests;

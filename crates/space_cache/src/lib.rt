@@ -168,12 +168,13 @@ mod tests {
     #[test]
     fn a_space_is_loaded_and_taken_out(rt: HostRuntime) -> Result<(), Fail> {
         let mut cache = SpaceCache::new(rt.alloc(), 2)?;
-        let name = space().name();
+        let value = space();
+        let name = value.name();
         assert_eq!(rt;
             (cache.len(), cache.free(), cache.find(name)),
             (0, Some(0), None)
         );
-        cache.put(IDENT, space());
+        cache.put(IDENT, value);
         assert_eq!(rt;
             (cache.len(), cache.free(), cache.find(name)),
             (1, Some(1), Some(IDENT))
@@ -182,7 +183,11 @@ mod tests {
         assert_eq!(rt; cache.victim(&[IDENT]), None);
         assert!(rt; cache.get(IDENT).is_some());
         assert!(rt; !cache.is_locked(IDENT));
-        assert_eq!(rt; cache.take(IDENT).name(), name);
+        let mut changed = value;
+        changed.kernel = KernelNo(1);
+        assert_eq!(rt; cache.replace(IDENT, changed), value);
+        assert!(rt; cache.get(IDENT).is_some());
+        assert_eq!(rt; cache.take(IDENT), changed);
         assert!(rt; cache.get(IDENT).is_none());
         Ok(())
     }

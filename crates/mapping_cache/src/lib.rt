@@ -1,0 +1,200 @@
+//! The cache of rows, which lists the loaded rows of each frame.
+#![tactic(auto)]
+
+ghost use Rattle.std.specs.Prelude.{◌≡◌, ◌≢◌, ◌<◌, ◌↔◌, None, replicate, length, count_by, is_some, slice_set, Contains, IfOk, IfSome, IfNone};
+ghost use Rattle.std.specs.List.{AllPairs};
+ghost use Rattle.cache_ident.specs.declared.idents.Ident.{Ident};
+ghost use Rattle.cache_ident.specs.declared.idents.Kind.TheVariants.{Mapping};
+ghost use Rattle.slot_cache.specs.Cells.{cell_at, changed, filled, just_loaded, with_lock, with_value, HasNoName, HasNoSerial, IsContent, IsFoundAs, IsFull, IsLoaded, IsLowestFree, IsVictim, LockIs, NameIs, NoneMayGo};
+ghost use Rattle.slot_cache.specs.Table.{IsProper};
+ghost use Rattle.slot_cache.specs.Rows.{row_name};
+ghost use Rattle.mapping_cache.specs.Frames.{place_at, place_of, FrameIs, IsByFrame, IsCutAt, IsRowOf};
+
+use cache_ident::{Frame, Ident, Kind, Name, NoMemory};
+use phys_groups::Row;
+use slot_cache::Slots;
+use std::alloc::Global;
+use std::marker::Model;
+
+#[cfg(test)]
+mod tests;
+
+/// The rows that are loaded. A contract sees what stands at each slot; all memory is taken by `new`.
+/// The costs are those of `Slots`; `put` and `take` also search the index by frame, and move what of it
+/// is behind the row.
+#[derive(Drop)]
+pub struct MappingCache {
+    slots: Slots<Row>,
+    // The identifiers of all loaded rows, in order of frame and within a frame in order of slot.
+    by_frame: Vec<Ident>,
+}
+
+impl Model for MappingCache {
+    ghost use Rattle.std.specs.Prelude.{List, Option};
+    ghost use Rattle.phys_groups.specs.declared.rows.Row.{Row};
+    ghost use Rattle.slot_cache.specs.declared.loaded.Loaded.{Loaded};
+
+    ghost Value = { List (Option (Loaded Row)) };
+
+    ghost use Rattle.mapping_cache.specs.Frames.{IsIndexed};
+
+    ghost view = { λ cache. cache.slots.cells };
+
+    ghost invariant = { λ cache. IsIndexed cache.slots cache.by_frame };
+}
+
+impl MappingCache {
+    /// As many free slots as `cap`.
+    pub fn new(alloc: Global, cap: u32) -> Result<MappingCache, NoMemory>
+        ensures { IfOk result (λ cells. cells ≡ replicate cap None) }
+    {
+        Ok(MappingCache {
+            slots: Slots::new(alloc, Kind::Mapping, cap)?,
+            by_frame: Vec::with_capacity(alloc, cap as usize)?,
+        })
+    }
+
+    /// The lowest free slot; `None` where all are taken.
+    pub fn free(&self) -> Option<u32>
+        ensures lowest { IfSome result (IsLowestFree self.now) }
+        ensures full { IfNone result (IsFull self.now) }
+    {
+        self.slots.free()
+    }
+
+    /// Loads a row, not locked, into the slot of its identifier.
+    pub fn put(&mut self, ident: Ident, value: Row)
+        requires kind { ident.kind ≡ Mapping }
+        requires below { ident.slot < length self.old }
+        requires free { cell_at self.old ident.slot ≡ None }
+        requires serial { HasNoSerial self.old ident.serial }
+        requires name { HasNoName row_name self.old (row_name value) }
+        ensures { self.new ≡ filled self.old (just_loaded ident value) }
+    {
+        let at = count_below(&self.slots, &self.by_frame, place(value.frame, ident.slot));
+        // A slot is free, so there is room for one more, and no memory is taken.
+        let _ = self.by_frame.insert(at, ident);
+        self.slots.put(ident, value);
+    }
+
+    /// Takes out a loaded row and frees its slot. Its lock ends.
+    pub fn take(&mut self, ident: Ident) -> Row
+        requires loaded { IsLoaded self.old ident }
+        ensures content { IsContent self.old ident result }
+        ensures after { self.new ≡ slice_set self.old ident.slot None }
+    {
+        let at = count_below(&self.slots, &self.by_frame, own_place(&self.slots, ident));
+        self.by_frame.remove(at);
+        self.slots.take(ident)
+    }
+
+    /// The row that was loaded with this identifier; `None` where it isn't loaded.
+    pub fn get(&self, ident: Ident) -> Option<&Row>
+        ensures content { IfSome result (λ value. IsContent self.now ident value.now) }
+        ensures absent { IfNone result (IsLoaded self.now ident → ⊥) }
+    {
+        self.slots.get(ident)
+    }
+
+    /// Puts a content of the same name and the same frame in the place of the one there, and gives the
+    /// old one back. Slot, identifier and lock stay.
+    pub fn replace(&mut self, ident: Ident, value: Row) -> Row
+        requires loaded { IsLoaded self.old ident }
+        requires name { NameIs row_name self.old ident.slot (row_name value) }
+        requires frame { FrameIs self.old ident.slot value.frame }
+        ensures content { IsContent self.old ident result }
+        ensures after { self.new ≡ changed self.old ident.slot (with_value value) }
+    {
+        self.slots.replace(ident, value)
+    }
+
+    /// The identifier of the loaded row of that name; `None` where it isn't loaded.
+    pub fn find(&self, name: Name) -> Option<Ident>
+        ensures found { IfSome result (IsFoundAs row_name self.now name) }
+        ensures absent { IfNone result (HasNoName row_name self.now name) }
+    {
+        self.slots.find(name)
+    }
+
+    /// The identifiers of the loaded rows of a frame, each once, in no order that a caller may rest on.
+    /// Two searches in what is loaded.
+    pub fn of_frame(&self, frame: Frame) -> &[Ident]
+        ensures rows { (ident : Ident) → Contains result.now ident ↔ IsRowOf self.now frame ident }
+        ensures once { AllPairs (λ a b. a ≢ b) result.now }
+    {
+        let start = count_below(&self.slots, &self.by_frame, place(frame, 0));
+        // No slot has the last number.
+        let end = count_below(&self.slots, &self.by_frame, place(frame, u32::MAX));
+        &self.by_frame[start..end]
+    }
+
+    /// Of the loaded rows that are neither locked nor in `keep`, the one with the smallest serial;
+    /// `None` where each is locked or kept.
+    pub fn victim(&self, keep: &[Ident]) -> Option<Ident>
+        ensures victim { IfSome result (IsVictim self.now keep.now) }
+        ensures none { IfNone result (NoneMayGo self.now keep.now) }
+    {
+        self.slots.victim(keep)
+    }
+
+    /// Sets or clears the lock of a loaded row.
+    pub fn set_lock(&mut self, ident: Ident, on: bool)
+        requires { IsLoaded self.old ident }
+        ensures { self.new ≡ changed self.old ident.slot (with_lock on) }
+    {
+        self.slots.set_lock(ident, on);
+    }
+
+    /// Whether a loaded row is locked.
+    pub fn is_locked(&self, ident: Ident) -> bool
+        requires { IsLoaded self.now ident }
+        ensures { LockIs self.now ident.slot result }
+    {
+        self.slots.is_locked(ident)
+    }
+
+    /// How many are loaded.
+    pub fn len(&self) -> u32
+        ensures len { result ≡ count_by is_some self.now }
+        ensures proper { IsProper row_name (record { kind = Mapping; cells = self.now }) }
+    {
+        self.slots.len()
+    }
+}
+
+// The place in the index of a row of that frame in that slot. No two rows have one place.
+fn place(frame: Frame, slot: u32) -> u64
+    ensures { result ≡ place_at frame slot }
+{
+    (u64::from(frame.0) << 32) + u64::from(slot)
+}
+
+// The place in the index of a loaded row.
+fn own_place(slots: &Slots<Row>, ident: Ident) -> u64
+    requires { IsLoaded slots.now.cells ident }
+    ensures { result ≡ place_of slots.now.cells ident }
+{
+    match slots.get(ident) {
+        Some(row) => place(row.frame, ident.slot),
+        None => unreachable!(),
+    }
+}
+
+// How many identifiers of the index are at places below that one. It is a search by halves, written out
+// since only what is loaded has a place.
+fn count_below(slots: &Slots<Row>, index: &[Ident], place: u64) -> usize
+    requires { IsByFrame slots.now.cells index.now }
+    ensures { IsCutAt slots.now.cells index.now place result }
+{
+    let mut low = 0;
+    let mut high = index.len();
+    while low < high {
+        let middle = low + (high - low) / 2;
+        if own_place(slots, index[middle]) < place {
+            low = middle + 1;
+        } else {
+            high = middle;
+        }
+    }
+    low
+}

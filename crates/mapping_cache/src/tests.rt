@@ -1,0 +1,109 @@
+//! Rows that are loaded, changed and taken out.
+
+ghost use Rattle.std.specs.Prelude.{◌+◌};
+ghost use Rattle.slot_cache.specs.Cells.{IsOlder};
+
+use crate::MappingCache;
+use cache_ident::{Frame, Ident, Kind, Name, SpaceNo, Vpn};
+use phys_groups::{Flags, Row};
+use std::process::Abort;
+use std::test::Fail;
+
+fn row(page: u32, frame: u32) -> Row {
+    Row {
+        space: SpaceNo(1),
+        vpn: Vpn(page),
+        frame: Frame(frame),
+        flags: Flags::default(),
+        receiver: None,
+        referenced: false,
+        modified: false,
+    }
+}
+
+// Loads the row of a page into the lowest free slot, with a serial above all others.
+fn load(rt: &impl Abort, cache: &mut MappingCache, serial: u64, page: u32, frame: u32) -> Ident
+    requires { IsOlder cache.old serial }
+    ensures { IsOlder cache.new (serial + 1) }
+{
+    let value = row(page, frame);
+    match (
+        cache.free(),
+        cache.find(Name::Mapping(value.space, value.vpn)),
+    ) {
+        (Some(slot), None) => {
+            let ident = Ident {
+                kind: Kind::Mapping,
+                slot,
+                serial,
+            };
+            cache.put(ident, value);
+            ident
+        }
+        _ => panic!(rt; "no free slot, or the page has a row"),
+    }
+}
+
+// Takes a row out, and gives its page.
+fn unload(rt: &impl Abort, cache: &mut MappingCache, ident: Ident, next: u64) -> Vpn
+    requires { IsOlder cache.old next }
+    ensures { IsOlder cache.new next }
+{
+    assert!(rt; cache.get(ident).is_some());
+    cache.take(ident).vpn
+}
+
+#[test]
+fn rows_are_listed_by_frame(rt: HostRuntime) -> Result<(), Fail> {
+    let mut cache = MappingCache::new(rt.alloc(), 8)?;
+    let high = load(&rt, &mut cache, 1, 0, u32::MAX);
+    let first = load(&rt, &mut cache, 2, 1, 5);
+    let other = load(&rt, &mut cache, 3, 2, 4);
+    let second = load(&rt, &mut cache, 4, 3, 5);
+    assert_eq!(rt; cache.of_frame(Frame(5)), [first, second].as_slice());
+    assert_eq!(rt; cache.of_frame(Frame(4)), [other].as_slice());
+    assert_eq!(rt; cache.of_frame(Frame(u32::MAX)), [high].as_slice());
+    assert_eq!(rt; cache.of_frame(Frame(3)), [].as_slice());
+    assert_eq!(rt; unload(&rt, &mut cache, first, 5), Vpn(1));
+    assert_eq!(rt; cache.of_frame(Frame(5)), [second].as_slice());
+    assert_eq!(rt; (cache.len(), cache.victim(&[])), (3, Some(high)));
+    Ok(())
+}
+
+#[test]
+fn free_slots_are_used_again_lowest_first(rt: HostRuntime) -> Result<(), Fail> {
+    let mut cache = MappingCache::new(rt.alloc(), 3)?;
+    let first = load(&rt, &mut cache, 1, 7, 0);
+    let second = load(&rt, &mut cache, 2, 8, 0);
+    load(&rt, &mut cache, 3, 9, 0);
+    assert_eq!(rt; cache.free(), None);
+    unload(&rt, &mut cache, second, 4);
+    unload(&rt, &mut cache, first, 4);
+    assert_eq!(rt; load(&rt, &mut cache, 4, 8, 0).slot, 0);
+    assert_eq!(rt; load(&rt, &mut cache, 5, 7, 0).slot, 1);
+    Ok(())
+}
+
+#[test]
+fn a_row_is_locked_and_changed(rt: HostRuntime) -> Result<(), Fail> {
+    let mut cache = MappingCache::new(rt.alloc(), 1)?;
+    let ident = Ident {
+        kind: Kind::Mapping,
+        slot: 0,
+        serial: 6,
+    };
+    let mut value = row(7, 2);
+    cache.put(ident, value);
+    assert!(rt; cache.get(ident).is_some());
+    assert!(rt; !cache.is_locked(ident));
+    cache.set_lock(ident, true);
+    assert_eq!(rt; cache.victim(&[]), None);
+    value.modified = true;
+    assert!(rt; cache.get(ident).is_some());
+    assert!(rt; !cache.replace(ident, value).modified);
+    assert_eq!(rt; cache.of_frame(Frame(2)), [ident].as_slice());
+    assert!(rt; cache.get(ident).is_some());
+    assert!(rt; cache.is_locked(ident));
+    assert_eq!(rt; cache.take(ident), value);
+    Ok(())
+}

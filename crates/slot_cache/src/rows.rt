@@ -1,0 +1,15 @@
+//! A row as a descriptor. Its type is a crate's below, so its name is said here and not in the cache of rows.
+
+ghost use Rattle.slot_cache.specs.Rows.{row_name};
+
+use super::loaded::Descriptor;
+use cache_ident::Name;
+use phys_groups::Row;
+
+impl Descriptor for Row {
+    ghost called = { row_name };
+
+    fn name(&self) -> Name {
+        Name::Mapping(self.space, self.vpn)
+    }
+}
