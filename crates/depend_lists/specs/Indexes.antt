@@ -17,10 +17,11 @@ use Rattle.depend_lists.specs.Pairs.{count_of, IsProper}
 abbrev pub turned : Ident × Node → Ident × (Class × Ident)
 turned pair = (pair.1.ident, (pair.1.class, pair.0))
 
--- the order of the pairs, and of the pairs from their other ends
+-- the order of the pairs: by parent, then by child
 abbrev pub pair_cmp : Ident × Node → Ident × Node → Ordering
 pair_cmp = by_parts (ident.ghosts).cmp (node.ghosts).cmp
 
+-- and from their other ends: by child, then by parent
 abbrev pub turned_cmp : Ident × (Class × Ident) → Ident × (Class × Ident) → Ordering
 turned_cmp = by_parts (ident.ghosts).cmp (by_parts (class.ghosts).cmp (ident.ghosts).cmp)
 

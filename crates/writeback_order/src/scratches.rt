@@ -59,8 +59,8 @@ impl Scratch {
 /// rows, signal rows, other rows, threads, spaces, kernels, within each of these classes by serial, and the root
 /// last.
 ///
-/// It takes no memory. For each pair under what leaves it searches what was gathered so far; what else is loaded
-/// costs the two searches of `Depends::children` alone.
+/// It takes no memory. For each pair under what leaves it searches what was gathered so far, and moves what of it is
+/// behind; then it sorts. Of what else is loaded, `Depends::children` searches the pairs twice for each that leaves.
 pub fn order(depends: &Depends, root: Node, into: &mut Scratch)
     requires { into.old.caps ≡ depends.now.caps }
     ensures caps { into.new.caps ≡ into.old.caps }
