@@ -1,0 +1,151 @@
+#!/usr/bin/env bash
+# Usage: bench/leaving.sh
+# Times the order in which a space leaves with ten rows, where 1,024, 8,192 and 65,536 other rows are loaded. The
+# time must not grow with what is loaded, but for its logarithm.
+#
+# Makes a program in a temporary folder, with the helper and its proofs that the tests of writeback_order use, and
+# lets rt prove and build it there.
+set -euo pipefail
+top="$(cd "$(dirname "$0")/.." && pwd)"
+place="$(mktemp -d)"
+trap 'rm -rf "$place"' EXIT
+
+printf 'cache_ident:\ndepend_lists: cache_ident\nwriteback_order: depend_lists cache_ident\n' > "$place/crates.txt"
+printf 'leaving_times: writeback_order depend_lists cache_ident anyhow\n' >> "$place/crates.txt"
+for crate in cache_ident depend_lists writeback_order; do
+    mkdir -p "$place/crates/$crate"
+    cp -r "$top/crates/$crate/src" "$top/crates/$crate/specs" "$top/crates/$crate/proofs" "$place/crates/$crate/"
+done
+
+program="$place/crates/leaving_times"
+mkdir -p "$program/src" "$program/proofs/load" "$program/proofs/timed"
+cat > "$program/src/main.rt" <<'MAIN'
+#![tactic(auto)]
+
+ghost use Rattle.std.specs.Prelude.{◌≡◌, ◌+◌, ◌≤◌, ◌↔◌, Contains, IsTrue, length};
+ghost use Rattle.depend_lists.specs.Roomy.{IsRoomy};
+
+use cache_ident::{Caps, Ident, Kind};
+use depend_lists::{Class, Depends, Node};
+use std::process::Abort;
+use std::time::Instant;
+use writeback_order::{Scratch, order};
+
+const CAPS: Caps = Caps {
+    kernels: 70_000,
+    spaces: 70_000,
+    threads: 70_000,
+    mappings: 70_000,
+};
+
+fn node(kind: Kind, number: u32, class: Class) -> Node {
+    Node {
+        ident: Ident {
+            kind,
+            slot: number,
+            serial: number as u64,
+        },
+        class,
+    }
+}
+
+fn is_child(depends: &Depends, parent: Ident, child: Node) -> bool
+    ensures { IsTrue result ↔ Contains depends.now.pairs (parent, child) }
+{
+    is_among(depends.children(parent), child)
+}
+
+fn is_among(children: &[Node], child: Node) -> bool
+    ensures { IsTrue result ↔ Contains children.now child }
+{
+    children.contains(&child)
+}
+
+fn depend(rt: &impl Abort, depends: &mut Depends, child: Node, parents: &[Node])
+    requires few { length parents.now ≤ 5 }
+    requires roomy { IsRoomy depends.old.caps (length depends.old.pairs + length parents.now) }
+    ensures caps { depends.new.caps ≡ depends.old.caps }
+    ensures pairs { length depends.new.pairs ≤ length depends.old.pairs + length parents.now }
+{
+    depends.remove(child.ident);
+    for parent in parents {
+        assert!(rt; !is_child(depends, parent.ident, child), "twice a child");
+        depends.add(parent.ident, child);
+    }
+}
+
+// Ten rows of the space in the middle, among so many of two others.
+fn load(rt: &impl Abort, depends: &mut Depends, rows: u32)
+    requires rows { rows ≤ 65536 }
+    requires caps { depends.old.caps ≡ CAPS }
+    requires pairs { length depends.old.pairs ≤ 0 }
+    ensures caps { depends.new.caps ≡ CAPS }
+{
+    for row in 0..rows {
+        let space = node(Kind::Space, 2 * (row % 2), Class::Space);
+        depend(rt, depends, node(Kind::Mapping, row, Class::OtherRow), &[space]);
+    }
+    for row in 0..10u32 {
+        let space = node(Kind::Space, 1, Class::Space);
+        depend(rt, depends, node(Kind::Mapping, rows + row, Class::OtherRow), &[space]);
+    }
+}
+
+const TIMES: u32 = 100_000;
+
+fn timed(rt: &(impl Print + std::rt::Clock), depends: &Depends, scratch: &mut Scratch, rows: u32) -> anyhow::Result<()>
+    requires { scratch.old.caps ≡ depends.now.caps }
+{
+    let start = Instant::now(rt)?;
+    for _ in 0..TIMES {
+        order(depends, node(Kind::Space, 1, Class::Space), scratch);
+    }
+    let nanos = start.elapsed(rt)?.as_nanos() / TIMES as u128;
+    let count = scratch.nodes().len();
+    println!(rt; "{rows} other rows: {nanos} ns for an order of {count}")?;
+    Ok(())
+}
+
+fn of_rows(rt: &(impl Print + std::rt::Clock + AllocGlobal + Abort), rows: u32) -> anyhow::Result<()>
+    requires { rows ≤ 65536 }
+{
+    let mut depends = Depends::new(rt.alloc(), CAPS)?;
+    load(rt, &mut depends, rows);
+    let mut scratch = Scratch::new(rt.alloc(), CAPS)?;
+    timed(rt, &depends, &mut scratch, rows)
+}
+
+fn main(rt: HostRuntime) -> anyhow::Result<()> {
+    of_rows(&rt, 1024)?;
+    of_rows(&rt, 8192)?;
+    of_rows(&rt, 65_536)
+}
+MAIN
+cp -r "$top/crates/writeback_order/proofs/tests/is_child" "$top/crates/writeback_order/proofs/tests/depend" "$program/proofs/"
+sed -i 's/Rattle.writeback_order.proofs.tests/Rattle.leaving_times.proofs/' "$program"/proofs/*/*.antt
+cat > "$program/proofs/load/Invariants.antt" <<'PROOF'
+use Rattle.std.proofs.Common.{◌≡◌, ◌+◌, ◌≤◌, length}
+use Rattle.leaving_times.specs.declared.TheConstants.{CAPS}
+use Rattle.leaving_times.proofs.load.Given as goal
+
+abbrev pub invariant-loop-row : goal.invariant-loop-row
+invariant-loop-row g l = record { caps : l.depends.caps ≡ CAPS; pairs : length l.depends.pairs ≤ l.row }
+
+abbrev pub invariant-loop-row-2 : goal.invariant-loop-row-2
+invariant-loop-row-2 g l = record { caps : l.depends.caps ≡ CAPS; pairs : length l.depends.pairs ≤ l.rows + l.row }
+PROOF
+cat > "$program/proofs/timed/Invariants.antt" <<'PROOF'
+use Rattle.std.proofs.Common.{◌≡◌}
+use Rattle.leaving_times.proofs.timed.Given as goal
+
+abbrev pub invariant-loop : goal.invariant-loop
+invariant-loop g l = l.scratch.caps ≡ l.depends.caps
+PROOF
+
+cd "$program"
+rt fmt > /dev/null
+if ! rt run > "$place/log" 2>&1; then
+    cat "$place/log"
+    exit 1
+fi
+grep ' other rows' "$place/log"

@@ -1,0 +1,38 @@
+-- What holds of the lists in which the pairs stand.
+use Rattle.std.specs.Prelude.{◌≡◌, ◌↔◌, ◌*◌, ◌≤◌, map, Contains, Vec, vec_len, vec_capacity}
+use Rattle.std.specs.declared.alloc.Global.{Global}
+use Rattle.std.specs.declared.cmp.Ordering.{Ordering}
+use Rattle.cache_ident.specs.declared.idents.Ident.{Ident}
+use Rattle.cache_ident.specs.declared.names.Caps.{Caps}
+use Rattle.cache_ident.specs.contracts.idents.IdentOrd.TheImpl as ident
+use Rattle.depend_lists.specs.declared.nodes.Class.{Class}
+use Rattle.depend_lists.specs.declared.nodes.Node.{Node}
+use Rattle.depend_lists.specs.declared.nodes.TheConstants.{MOST_PARENTS}
+use Rattle.depend_lists.specs.contracts.nodes.ClassOrd.TheImpl as class
+use Rattle.depend_lists.specs.contracts.nodes.NodeOrd.TheImpl as node
+use Rattle.depend_lists.specs.Rising.{IsRising, by_parts}
+use Rattle.depend_lists.specs.Pairs.{count_of, IsProper}
+
+-- a pair from its other end
+abbrev pub turned : Ident × Node → Ident × (Class × Ident)
+turned pair = (pair.1.ident, (pair.1.class, pair.0))
+
+-- the order of the pairs: by parent, then by child
+abbrev pub pair_cmp : Ident × Node → Ident × Node → Ordering
+pair_cmp = by_parts (ident.ghosts).cmp (node.ghosts).cmp
+
+-- and from their other ends: by child, then by parent
+abbrev pub turned_cmp : Ident × (Class × Ident) → Ident × (Class × Ident) → Ordering
+turned_cmp = by_parts (ident.ghosts).cmp (by_parts (class.ghosts).cmp (ident.ghosts).cmp)
+
+-- the lists are in order, agree, and have room for all that may come
+pub record IsSound (caps : Caps) (pairs : Vec (Ident × Node) Global) (children : Vec Node Global) (parents : Vec (Ident × (Class × Ident)) Global) : Type 0 where
+  pub proper : IsProper (record { caps = caps; pairs = pairs.items })
+  pub rising : IsRising pair_cmp pairs.items
+  pub alone : children.items ≡ map (λ pair. pair.1) pairs.items
+  pub turned_rising : IsRising turned_cmp parents.items
+  pub both_ways : (pair : Ident × Node) → Contains parents.items (turned pair) ↔ Contains pairs.items pair
+  pub as_many : vec_len parents ≡ vec_len pairs
+  pub pairs_room : MOST_PARENTS * count_of caps ≤ vec_capacity pairs
+  pub children_room : MOST_PARENTS * count_of caps ≤ vec_capacity children
+  pub parents_room : MOST_PARENTS * count_of caps ≤ vec_capacity parents

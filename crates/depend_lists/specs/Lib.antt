@@ -1,0 +1,4 @@
+pub mod Rising
+pub mod Pairs
+pub mod Indexes
+pub mod Roomy

@@ -1,0 +1,61 @@
+-- The pairs of a parent and a child that depends on it.
+use Rattle.std.specs.Prelude.{◌≡◌, ◌≢◌, ℕ, ◌+◌, ◌<◌, ◌≤◌, not, List, length, map, filter, count_by, insert, remove, slice_index_or, Contains, AllPairs}
+use Rattle.cache_ident.specs.declared.idents.Ident.{Ident}
+use Rattle.cache_ident.specs.declared.idents.Kind.{Kind}
+use Rattle.cache_ident.specs.declared.names.Caps.{Caps}
+use Rattle.cache_ident.specs.Names.{amount_of}
+use Rattle.cache_ident.specs.Rolls.{is_same}
+use Rattle.depend_lists.specs.declared.nodes.Node.{Node}
+use Rattle.depend_lists.specs.declared.nodes.TheConstants.{MOST_PARENTS}
+
+-- what a contract sees: the capacities, and the pairs of a parent and a child
+pub record Dependence : Type 0 where
+  pub caps : Caps
+  pub pairs : List (Ident × Node)
+
+-- all that the caches of these capacities hold
+abbrev pub count_of : Caps → ℕ
+count_of caps = caps.kernels + caps.spaces + caps.threads + caps.mappings
+
+-- the children of a parent
+abbrev pub children_of : List (Ident × Node) → Ident → List Node
+children_of pairs parent = map (λ pair. pair.1) (filter (λ pair. is_same pair.0 parent) pairs)
+
+-- the pairs of other children
+abbrev pub without : List (Ident × Node) → Ident → List (Ident × Node)
+without pairs child = filter (λ pair. not (is_same pair.1.ident child)) pairs
+
+-- how many parents a child has
+abbrev pub parent_count : List (Ident × Node) → Ident → ℕ
+parent_count pairs child = count_by (λ pair. is_same pair.1.ident child) pairs
+
+-- the new list has the pair too, at some place, and else is the old one
+abbrev pub IsAdded : List (Ident × Node) → List (Ident × Node) → Ident × Node → Type 0
+IsAdded old new pair = (at : ℕ) × (at ≤ length old) × (new ≡ insert old at pair)
+
+-- the child has the class that it has in the pairs
+abbrev pub HasOneClass : List (Ident × Node) → Node → Type 0
+HasOneClass pairs child = (pair : Ident × Node) → Contains pairs pair → pair.1.ident ≡ child.ident → pair.1.class ≡ child.class
+
+-- at most so many children are of the kind
+abbrev pub HasAtMost : List (Ident × Node) → Kind → ℕ → Type 0
+HasAtMost pairs kind most = (children : List Ident) × (length children ≤ most) × ((pair : Ident × Node) → Contains pairs pair → pair.1.ident.kind ≡ kind → Contains children pair.1.ident)
+
+-- the children of each kind stay within the capacities
+abbrev pub IsWithin : Caps → List (Ident × Node) → Type 0
+IsWithin caps pairs = (kind : Kind) → HasAtMost pairs kind (amount_of caps kind)
+
+-- what holds of all that depends: a child has one class and few parents, and no pair stands twice
+pub record IsProper (dependence : Dependence) : Type 0 where
+  pub one_class : (pair : Ident × Node) → Contains dependence.pairs pair → HasOneClass dependence.pairs pair.1
+  pub few_parents : (child : Ident) → parent_count dependence.pairs child ≤ MOST_PARENTS
+  pub once : AllPairs ◌≢◌ dependence.pairs
+  pub within : IsWithin dependence.caps dependence.pairs
+
+-- the new list lacks one place of the old one, where the pair stood
+abbrev pub IsTakenOut : List (Ident × Node) → List (Ident × Node) → Ident × Node → Type 0
+IsTakenOut old new pair = (at : ℕ) × (at < length old) × (slice_index_or old at pair ≡ pair) × (new ≡ remove old at)
+
+-- a pair of the list with that child
+abbrev pub IsChildPair : List (Ident × Node) → Ident → Ident × Node → Type 0
+IsChildPair pairs child pair = Contains pairs pair × (pair.1.ident ≡ child)

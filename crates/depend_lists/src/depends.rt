@@ -1,0 +1,110 @@
+//! The pairs of parent and child, in order of parent.
+
+ghost use Rattle.std.specs.Prelude.{◌≡◌, ◌≢◌, ◌+◌, ◌<◌, [], ◌∷◌, remove, Contains, IfOk, IfSome, IfNone};
+ghost use Rattle.depend_lists.specs.Pairs.{children_of, parent_count, without, HasOneClass, IsAdded, IsChildPair, IsProper, IsTakenOut, IsWithin};
+
+use super::nodes::{self, Class, MOST_PARENTS, Node};
+use super::rising;
+use cache_ident::{Caps, Ident, NoMemory};
+use std::alloc::Global;
+use std::marker::Model;
+
+/// What depends on what: pairs of a parent and a child.
+///
+/// A contract sees the capacities `caps` and the list `pairs`. All memory is taken by `new`: there is
+/// room for five parents of each descriptor that the capacities allow.
+#[derive(Drop)]
+pub struct Depends {
+    caps: Caps,
+    // In order of parent, and under one parent in that of the children.
+    pairs: Vec<(Ident, Node)>,
+    // The children of these pairs alone.
+    children: Vec<Node>,
+    // Each pair from its other end: the child's identifier, its class and its parent.
+    parents: Vec<(Ident, (Class, Ident))>,
+}
+
+impl Model for Depends {
+    ghost use Rattle.depend_lists.specs.Pairs.{Dependence};
+
+    ghost Value = { Dependence };
+
+    ghost use Rattle.depend_lists.specs.Indexes.{IsSound};
+
+    ghost view = { λ depends. record { caps = depends.caps; pairs = depends.pairs.items } };
+
+    ghost invariant = { λ depends. IsSound depends.caps depends.pairs depends.children depends.parents };
+}
+
+impl Depends {
+    /// No pairs, with room for the children that the capacities allow.
+    pub fn new(alloc: Global, caps: Caps) -> Result<Depends, NoMemory>
+        ensures { IfOk result (λ depends. depends ≡ record { caps = caps; pairs = [] }) }
+    {
+        let room = MOST_PARENTS * nodes::most_loaded(caps);
+        Ok(Depends {
+            caps,
+            pairs: Vec::with_capacity(alloc, room)?,
+            children: Vec::with_capacity(alloc, room)?,
+            parents: Vec::with_capacity(alloc, room)?,
+        })
+    }
+
+    /// From now on the child depends on the parent. It takes no memory; its time is two searches in the
+    /// pairs, and moves of those behind.
+    pub fn add(&mut self, parent: Ident, child: Node)
+        requires absent { Contains self.old.pairs (parent, child) → ⊥ }
+        requires class { HasOneClass self.old.pairs child }
+        requires parents { parent_count self.old.pairs child.ident < MOST_PARENTS }
+        requires within { IsWithin self.old.caps ((parent, child) ∷ self.old.pairs) }
+        ensures caps { self.new.caps ≡ self.old.caps }
+        ensures pairs { IsAdded self.old.pairs self.new.pairs (parent, child) }
+    {
+        let at = rising::put(&mut self.pairs, (parent, child));
+        let _ = self.children.insert(at, child);
+        rising::put(&mut self.parents, (child.ident, (child.class, parent)));
+    }
+
+    /// Takes out every pair with that child and no other pair, at most five, each in the time of `add`.
+    pub fn remove(&mut self, child: Ident)
+        ensures { self.new ≡ record self.old { pairs = without self.old.pairs child } }
+    {
+        while let Some((parent, node)) = self.pair_of(child) {
+            self.take(parent, node);
+        }
+    }
+
+    /// All that depends on the parent over one pair, each once. Two searches in the pairs.
+    pub fn children(&self, parent: Ident) -> &[Node]
+        ensures children { result.now ≡ children_of self.now.pairs parent }
+        ensures proper { IsProper self.now }
+    {
+        let (from, to) = rising::run_of(&self.pairs, &parent);
+        &self.children[from..to]
+    }
+
+    // A pair with that child.
+    fn pair_of(&self, child: Ident) -> Option<(Ident, Node)>
+        ensures some { IfSome result (IsChildPair self.now.pairs child) }
+        ensures none { IfNone result (without self.now.pairs child ≡ self.now.pairs) }
+    {
+        let (from, to) = rising::run_of(&self.parents, &child);
+        if from < to {
+            let (ident, (class, parent)) = self.parents[from];
+            Some((parent, Node { ident, class }))
+        } else {
+            None
+        }
+    }
+
+    // Takes out one pair.
+    fn take(&mut self, parent: Ident, child: Node)
+        requires { Contains self.old.pairs (parent, child) }
+        ensures caps { self.new.caps ≡ self.old.caps }
+        ensures pairs { IsTakenOut self.old.pairs self.new.pairs (parent, child) }
+    {
+        let at = rising::take(&mut self.pairs, &(parent, child));
+        let _ = self.children.remove(at);
+        rising::take(&mut self.parents, &(child.ident, (child.class, parent)));
+    }
+}

@@ -1,0 +1,36 @@
+//! What depends, and how many there can be.
+
+ghost use Rattle.std.specs.Prelude.{◌≡◌};
+ghost use Rattle.depend_lists.specs.Pairs.{count_of};
+
+use cache_ident::{Caps, Ident};
+
+/// The classes of descriptors, in the order in which they leave.
+#[derive(Clone, Copy, PartialEq, Eq, PartialOrd, Ord, Hash, Debug)]
+pub enum Class {
+    /// A row with flag m, which depends on the signal rows of its frame.
+    MessageRow,
+    /// A row with a receiver, on which message rows depend.
+    SignalRow,
+    OtherRow,
+    Thread,
+    Space,
+    Kernel,
+}
+
+/// A loaded descriptor with its class.
+#[derive(Clone, Copy, PartialEq, Eq, PartialOrd, Ord, Hash, Debug)]
+pub struct Node {
+    pub ident: Ident,
+    pub class: Class,
+}
+
+/// The most that one descriptor depends on: a message row on its space and on four signal rows.
+pub const MOST_PARENTS: usize = 5;
+
+/// How many descriptors can be loaded with these capacities.
+pub fn most_loaded(caps: Caps) -> usize
+    ensures { result ≡ count_of caps }
+{
+    caps.kernels as usize + caps.spaces as usize + caps.threads as usize + caps.mappings as usize
+}

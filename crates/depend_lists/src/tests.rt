@@ -1,0 +1,73 @@
+//! A row that depends on five others comes and goes.
+
+ghost use Rattle.std.specs.Prelude.{◌≡◌, ◌+◌, ◌≤◌, ◌↔◌, Contains, IsTrue, length};
+ghost use Rattle.depend_lists.specs.Roomy.{IsRoomy};
+
+use crate::{Class, Depends, Node};
+use cache_ident::{Caps, Ident, Kind};
+use std::process::Abort;
+use std::test::Fail;
+
+fn ident(kind: Kind, slot: u32) -> Ident {
+    Ident {
+        kind,
+        slot,
+        serial: 10 + slot as u64,
+    }
+}
+
+fn is_child(depends: &Depends, parent: Ident, child: Node) -> bool
+    ensures { IsTrue result ↔ Contains depends.now.pairs (parent, child) }
+{
+    is_among(depends.children(parent), child)
+}
+
+fn is_among(children: &[Node], child: Node) -> bool
+    ensures { IsTrue result ↔ Contains children.now child }
+{
+    children.contains(&child)
+}
+
+// Makes the child depend on these parents, and on no others.
+fn depend(rt: &impl Abort, depends: &mut Depends, child: Node, parents: &[Ident])
+    requires few { length parents.now ≤ 5 }
+    requires roomy { IsRoomy depends.old.caps (length depends.old.pairs + length parents.now) }
+    ensures caps { depends.new.caps ≡ depends.old.caps }
+    ensures pairs { length depends.new.pairs ≤ length depends.old.pairs + length parents.now }
+{
+    depends.remove(child.ident);
+    for parent in parents {
+        assert!(rt; !is_child(depends, *parent, child), "twice a child");
+        depends.add(*parent, child);
+    }
+}
+
+#[test]
+fn children_come_and_go(rt: HostRuntime) -> Result<(), Fail> {
+    let caps = Caps {
+        kernels: 9,
+        spaces: 9,
+        threads: 9,
+        mappings: 9,
+    };
+    let mut depends = Depends::new(rt.alloc(), caps)?;
+    let space = ident(Kind::Space, 0);
+    let [a, b, c, d] = [4, 2, 3, 1].map(|slot| ident(Kind::Mapping, slot));
+    let row = Node {
+        ident: ident(Kind::Mapping, 0),
+        class: Class::MessageRow,
+    };
+    let other = Node {
+        ident: c,
+        class: Class::SignalRow,
+    };
+    depend(&rt, &mut depends, row, &[a, b, space, c, d]);
+    depend(&rt, &mut depends, other, &[space]);
+    assert_eq!(rt; depends.children(b), [row].as_slice());
+    assert_eq!(rt; depends.children(space), [row, other].as_slice());
+    assert_eq!(rt; depends.children(row.ident), [].as_slice());
+    depends.remove(row.ident);
+    assert_eq!(rt; depends.children(b), [].as_slice());
+    assert_eq!(rt; depends.children(space), [other].as_slice());
+    Ok(())
+}

@@ -1,0 +1,4 @@
+pub mod DistinctLemmas
+pub mod MarkLemmas
+pub mod GatherLemmas
+pub mod OrderLemmas

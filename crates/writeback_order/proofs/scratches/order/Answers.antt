@@ -1,0 +1,26 @@
+use Rattle.std.proofs.Common.{◌<◌, vec_len, vec_capacity, ap, arith, rules}
+use Rattle.std.proofs.lemmas.List.Sorted.{answers_always}
+use Rattle.depend_lists.specs.declared.nodes.Node.{Node}
+use Rattle.depend_lists.specs.Pairs.{count_of}
+use Rattle.writeback_order.specs.Order.{rank_of}
+use Rattle.writeback_order.proofs.DistinctLemmas.{apart_permutation}
+use Rattle.writeback_order.proofs.OrderLemmas.{closure_permutation, rising_from_sorted}
+use Rattle.writeback_order.proofs.scratches.order.Goals as goal
+
+-- what was gathered was sorted, and the root came behind
+pub returns-clause-order : goal.returns-clause-order
+returns-clause-order c =
+    let gathered = c.gather.new.nodes.items in
+    let sort = c.sort_unstable_by_key in
+    let sorted = sort.new.self.items in
+    let moved = sort.ensures.permutation in
+    let apart = apart_permutation (λ (n : Node). n.ident) gathered sorted moved c.gather.ensures.apart in
+    let by_key = sort.ensures.sorted (λ node. (rank_of node.class, node.ident.serial, node.ident)) (answers_always _ _ _ (λ f a r h called. search rules)) in
+    let one_caps = rw (← c.into.view_is) at c.requires in
+    let room : vec_len sort.new.self < vec_capacity sort.new.self = omega (arith, sort.ensures.len, sort.ensures.capacity, c.gather.ensures.few, c.gather.ensures.nodes_capacity, c.into.invariant.0, ap count_of one_caps) in
+    record {
+      dependents = sorted;
+      closure = closure_permutation c.args.depends.now.pairs c.args.root.ident gathered sorted moved c.gather.ensures.closure;
+      rising = rising_from_sorted sorted by_key apart;
+      root_last = rw (c.push.ensures.succeeds room) at c.push.ensures.items;
+    }

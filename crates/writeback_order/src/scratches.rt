@@ -1,0 +1,92 @@
+//! The order in which a descriptor and all that depends on it leave.
+
+ghost use Rattle.std.specs.Prelude.{◌≡◌, ◌↔◌, [], List, Contains, IfOk};
+ghost use Rattle.cache_ident.specs.declared.idents.Ident.{Ident};
+ghost use Rattle.depend_lists.specs.declared.nodes.Node.{Node};
+ghost use Rattle.writeback_order.specs.Order.{rank_of, IsOrder};
+
+use super::gathering::gather;
+use cache_ident::{Caps, Ident, NoMemory};
+use depend_lists::{Class, Depends, Node, most_loaded};
+use std::alloc::Global;
+use std::marker::Model;
+
+/// Room for one order of what leaves, made once and used again.
+///
+/// A contract sees the capacities `caps` that it was made for, and the list `nodes` of the last order.
+#[derive(Drop)]
+pub struct Scratch {
+    caps: Caps,
+    nodes: Vec<Node>,
+    // The identifiers of what was gathered, so that nothing is gathered twice.
+    seen: Vec<Ident>,
+}
+
+impl Model for Scratch {
+    ghost use Rattle.std.specs.Prelude.{◌<◌, vec_capacity};
+    ghost use Rattle.depend_lists.specs.Pairs.{count_of};
+    ghost use Rattle.writeback_order.specs.Scratches.{LastOrder};
+
+    ghost Value = { LastOrder };
+
+    ghost view = { λ scratch. record { caps = scratch.caps; nodes = scratch.nodes.items } };
+
+    ghost invariant = { λ scratch. (count_of scratch.caps < vec_capacity scratch.nodes) × (count_of scratch.caps < vec_capacity scratch.seen) };
+}
+
+impl Scratch {
+    /// Room for all that the capacities allow.
+    pub fn new(alloc: Global, caps: Caps) -> Result<Scratch, NoMemory>
+        ensures { IfOk result (λ scratch. scratch ≡ record { caps = caps; nodes = [] }) }
+    {
+        let room = most_loaded(caps) + 1;
+        Ok(Scratch {
+            caps,
+            nodes: Vec::with_capacity(alloc, room)?,
+            seen: Vec::with_capacity(alloc, room)?,
+        })
+    }
+
+    /// The last order, with its root last; empty where there was none.
+    pub fn nodes(&self) -> &[Node]
+        ensures { result.now ≡ self.now.nodes }
+    {
+        &self.nodes
+    }
+}
+
+/// Puts the root and all that depends on it, over any number of pairs, in the order in which they leave: message
+/// rows, signal rows, other rows, threads, spaces, kernels, within each of these classes by serial, and the root
+/// last.
+///
+/// It takes no memory. For each pair under what leaves it searches what was gathered so far, and moves what of it is
+/// behind; then it sorts. Of what else is loaded, `Depends::children` searches the pairs twice for each that leaves.
+pub fn order(depends: &Depends, root: Node, into: &mut Scratch)
+    requires { into.old.caps ≡ depends.now.caps }
+    ensures caps { into.new.caps ≡ into.old.caps }
+    ensures order { IsOrder depends.now.pairs root into.new.nodes }
+{
+    gather(depends, root.ident, &mut into.nodes, &mut into.seen);
+    into.nodes
+        .sort_unstable_by_key(|node| (rank(node.class), node.ident.serial, node.ident));
+    let _ = into.nodes.push(root);
+}
+
+// How many classes leave before.
+fn rank(class: Class) -> u8
+    ensures { result ≡ rank_of class }
+{
+    match class {
+        Class::MessageRow => 0,
+        Class::SignalRow => 1,
+        Class::OtherRow => 2,
+        Class::Thread => 3,
+        Class::Space => 4,
+        Class::Kernel => 5,
+    }
+}
+
+/// From one root over the same pairs, in whatever order they are listed, there is one order.
+pub fn one_order()
+    ensures { (some others : List (Ident × Node)) (root : Node) (a b : List Node) → ((pair : Ident × Node) → Contains some pair ↔ Contains others pair) → IsOrder some root a → IsOrder others root b → a ≡ b }
+{}
