@@ -56,6 +56,10 @@ impl Space for Shared {
         record { number = 0; frame = 0; readable = true; writable = false; executable = true; bytes = s.bytes; touched = s.code_touched; written = false }
         ∷ (record { number = 1; frame = 0; readable = true; writable = true; executable = false; bytes = s.bytes; touched = s.data_touched; written = s.data_written } ∷ []) };
 
+    ghost Kept = { Unit {0} };
+
+    ghost kept = { λ s. unit };
+
     #[tactic(auto, unfolding(crate::specs::Pages::read_through, crate::specs::Pages::translation))]
     fn fetch(&self, va: u32) -> Result<u32, Hole> {
         if va / 4096 == 0 {
