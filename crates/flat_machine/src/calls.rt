@@ -1,0 +1,207 @@
+//! The completion of a thread's call.
+
+ghost use Rattle.std.specs.Prelude.{◌≡◌, ◌<◌, ◌++◌, OnOk, OnErr, length, unwrap_or};
+ghost use Rattle.std.specs.Fmt.{decimal};
+ghost use Rattle.std.specs.List.{HoldsAt};
+ghost use Rattle.rv32_exec.specs.declared.statuses.Status.TheVariants.{Ready};
+ghost use Rattle.flat_state.specs.Call.{after_completion, answered, bit as bit_lem, flags_of as flags_of_lem, granted, granting, made as made_lem, receiver_of as receiver_of_lem, refusal as refusal_lem, spawned, spawning, unmapped};
+ghost use Rattle.flat_machine.specs.Readings.{rule_if_formed};
+
+use crate::NoMemory;
+use crate::flat::Flat;
+use crate::threads::is_completable;
+use cache_ident::{Frame, KernelNo, SpaceNo, ThreadNo, Vpn};
+use fault_forward::{Effect, effect};
+use flat_state::{Decl, FlatThread};
+use phys_groups::Flags;
+use rv32_exec::{Context, Output, Status};
+
+// The answer in a0 that tells of a broken rule.
+fn refusal(rule: u32) -> u32
+    requires some { 0 < rule }
+    requires few { rule < 20 }
+    ensures { result ≡ refusal_lem rule }
+{
+    u32::MAX - rule + 1
+}
+
+fn bit(bits: u32, place: u32) -> bool
+    requires { 0 < place }
+    ensures { result ≡ bit_lem bits place }
+{
+    bits / place % 2 == 1
+}
+
+// Flags by their bits: 1 r, 2 w, 4 x, 8 m.
+fn flags_of(bits: u32) -> Flags
+    ensures { result ≡ flags_of_lem bits }
+{
+    Flags {
+        r: bit(bits, 1),
+        w: bit(bits, 2),
+        x: bit(bits, 4),
+        m: bit(bits, 8),
+    }
+}
+
+// 0 is no receiver, and any other number is one above the receiver's.
+fn receiver_of(number: u32) -> Option<ThreadNo>
+    ensures { result ≡ receiver_of_lem number }
+{
+    number.checked_sub(1).map(ThreadNo)
+}
+
+// The thread goes on as its completed call leaves its context.
+fn resume(thread: &mut FlatThread, context: Context)
+    ensures { thread.new ≡ record thread.old { context = context; status = Ready } }
+{
+    thread.context = context;
+    thread.status = Status::Ready;
+}
+
+// The thread goes on with an answer in a0.
+fn answer(thread: &mut FlatThread, answer: u32)
+    ensures { thread.new ≡ answered thread.old answer }
+{
+    thread.context.regs[10] = answer;
+    thread.status = Status::Ready;
+}
+
+// Appends a number in decimal.
+fn put_decimal(output: &mut Output, number: u32) -> Result<(), NoMemory>
+    ensures ok { OnOk result (output.new ≡ output.old ++ decimal number) }
+    ensures err { OnErr result (output.new ≡ output.old) }
+{
+    let mut buffer = itoa::Buffer::new();
+    output.append(buffer.format(number).as_bytes())
+}
+
+impl Flat {
+    /// Completes the call that a thread is in, if that can be done.
+    pub(crate) fn complete(&mut self, no: ThreadNo) -> Result<(), NoMemory>
+        ensures ok { OnOk result (self.new ≡ unwrap_or (after_completion self.old no.0) self.old) }
+        ensures err { OnErr result (self.new ≡ self.old) }
+    {
+        let at = no.0 as usize;
+        let Some(thread) = self.threads.get(at) else {
+            return Ok(());
+        };
+        if !is_completable(thread) {
+            return Ok(());
+        }
+        let space = thread.space;
+        let mut context = thread.context;
+        match effect(no, &mut context, &mut self.threads[at].queue) {
+            Effect::Ready => resume(&mut self.threads[at], context),
+            Effect::Put(byte) => {
+                self.threads[at].output.append(&[byte])?;
+                resume(&mut self.threads[at], context);
+            }
+            Effect::Decimal(number) => {
+                put_decimal(&mut self.threads[at].output, number)?;
+                resume(&mut self.threads[at], context);
+            }
+            Effect::End(reason) => self.threads[at].status = Status::Ended(reason),
+            Effect::Map {
+                vpn,
+                frame,
+                flags,
+                receiver,
+            } => {
+                let decl = Decl::Map {
+                    space,
+                    vpn: Vpn(vpn),
+                    frame: Frame(frame),
+                    flags: flags_of(flags),
+                    receiver: receiver_of(receiver),
+                };
+                self.make(at, decl, flags != 0 && flags <= 15, 0)?;
+            }
+            Effect::Unmap { vpn } => self.unmap(at, space, Vpn(vpn))?,
+            Effect::Spawn { pc, a0, priority } => self.spawn(at, space, pc, a0, priority)?,
+            Effect::Grant {
+                kernel,
+                group,
+                bits,
+            } => self.grant(at, space, kernel, group, bits)?,
+        }
+        Ok(())
+    }
+
+    // Makes a declaration for a call. `formed` says whether the call's bits have the form of a field. Where the
+    // declaration breaks a rule nothing but the answer comes of it.
+    fn make(&mut self, at: usize, decl: Decl, formed: bool, made: u32) -> Result<(), NoMemory>
+        requires { at < length self.old.threads }
+        ensures ok { OnOk result (HoldsAt (λ t. self.new ≡ made_lem self.old at t decl made (rule_if_formed self.old decl formed)) self.old.threads at) }
+        ensures err { OnErr result (self.new ≡ self.old) }
+    {
+        let outcome = if formed { self.admit(&decl) } else { Err(4) };
+        match outcome {
+            Ok(()) => {
+                self.declare(&decl)?;
+                answer(&mut self.threads[at], made);
+            }
+            Err(rule) => answer(&mut self.threads[at], refusal(rule)),
+        }
+        Ok(())
+    }
+
+    fn unmap(&mut self, at: usize, space: SpaceNo, vpn: Vpn) -> Result<(), NoMemory>
+        requires { at < length self.old.threads }
+        ensures ok { OnOk result (HoldsAt (λ t. space ≡ t.space → self.new ≡ unmapped self.old at t vpn.0) self.old.threads at) }
+        ensures err { OnErr result (self.new ≡ self.old) }
+    {
+        let found = self.rows.remove(space, vpn)?;
+        answer(&mut self.threads[at], if found { 0 } else { refusal(1) });
+        Ok(())
+    }
+
+    fn spawn(
+        &mut self,
+        at: usize,
+        space: SpaceNo,
+        pc: u32,
+        a0: u32,
+        priority: u32,
+    ) -> Result<(), NoMemory>
+        requires { at < length self.old.threads }
+        ensures ok { OnOk result (HoldsAt (λ t. space ≡ t.space → self.new ≡ spawned self.old at t (spawning self.old t pc a0 priority)) self.old.threads at) }
+        ensures err { OnErr result (self.new ≡ self.old) }
+    {
+        let no = self.threads();
+        let decl = Decl::Thread {
+            no: ThreadNo(no),
+            space,
+            pc,
+            priority,
+            a0,
+            a1: 0,
+        };
+        self.make(at, decl, true, no)
+    }
+
+    fn grant(
+        &mut self,
+        at: usize,
+        space: SpaceNo,
+        kernel: u32,
+        group: u32,
+        bits: u32,
+    ) -> Result<(), NoMemory>
+        requires { at < length self.old.threads }
+        ensures ok { OnOk result (HoldsAt (λ t. space ≡ t.space → self.new ≡ granted self.old at t (granting kernel group bits) bits) self.old.threads at) }
+        ensures err { OnErr result (self.new ≡ self.old) }
+    {
+        if self.kernel_of(space) != Some(KernelNo(0)) {
+            answer(&mut self.threads[at], refusal(1));
+            return Ok(());
+        }
+        let decl = Decl::Right {
+            kernel: KernelNo(kernel),
+            group,
+            read: bit(bits, 1),
+            write: bit(bits, 2),
+        };
+        self.make(at, decl, bits <= 3, 0)
+    }
+}

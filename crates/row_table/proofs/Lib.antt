@@ -1,0 +1,5 @@
+pub mod OnlyOne
+pub mod PageLemmas
+pub mod StampLemmas
+pub mod SignalLemmas
+pub mod ProperLemmas
