@@ -1,5 +1,0 @@
-pub mod OnlyOne
-pub mod PageLemmas
-pub mod StampLemmas
-pub mod SignalLemmas
-pub mod ProperLemmas

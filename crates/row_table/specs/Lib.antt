@@ -1,4 +1,0 @@
-pub mod Rows
-pub mod Stamps
-pub mod SignalPages
-pub mod Soundness
