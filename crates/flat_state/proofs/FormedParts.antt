@@ -118,3 +118,107 @@ module _ (spaces : List KernelNo) (threads : List FlatThread) (n : ℕ) (t u : F
 pub thread_formed : (s : FlatState) (n : ℕ) (t u : FlatThread) → IsWellFormed s → slice_get s.threads n ≡ Some t → u.no ≡ t.no → u.space ≡ t.space → u.context.pc % 4 ≡ 0 → length u.queue.items ≤ 64 → IsWellFormed (with_thread s n u)
 thread_formed s n t u formed here same_no same_space aligned queued =
     threads_formed s (set s.threads n u) formed (set_are s.spaces s.threads n t u here same_space formed.threads same_no aligned queued) (set_keeps s.spaces s.threads n t u here same_space)
+
+-- a change of a row that leaves all but its bits
+pub record KeepsRow (f : Row → Row) : Type 0 where
+  pub space : (row : Row) → (f row).space ≡ row.space
+  pub vpn : (row : Row) → (f row).vpn ≡ row.vpn
+  pub frame : (row : Row) → (f row).frame ≡ row.frame
+  pub flags : (row : Row) → (f row).flags ≡ row.flags
+  pub receiver : (row : Row) → (f row).receiver ≡ row.receiver
+
+module _ (f : Row → Row) (keeps : KeepsRow f) where
+  kept_row : (machine : Option Machine) (spaces : List KernelNo) (threads : List FlatThread) (row : Row) → IsRow machine spaces threads row → IsRow machine spaces threads (f row)
+  kept_row machine spaces threads row is = record {
+    space = rw keeps.space is.space;
+    page = rw keeps.vpn is.page;
+    frame = rw keeps.frame is.frame;
+    flags = rw (keeps.flags, keeps.receiver) is.flags;
+    receiver = rw (keeps.space, keeps.receiver) is.receiver;
+  }
+
+  same_page : (a b : Row) → is_row_of (f a).space (f a).vpn.0 (f b) ≡ is_row_of a.space a.vpn.0 b
+  same_page a b = rw (keeps.space a, keeps.vpn a, keeps.space b, keeps.vpn b) refl
+
+  same_signals : (frame : Frame) (row : Row) → is_signal_row_of frame (f row) ≡ is_signal_row_of frame row
+  same_signals frame row = rw (keeps.frame, keeps.receiver) refl
+
+  rows_map : (machine : Option Machine) (spaces : List KernelNo) (threads : List FlatThread) (rows : List Row) → AreRows machine spaces threads rows → AreRows machine spaces threads (map f rows)
+  rows_map machine spaces threads rows are = record {
+    few = rw (length-map rows f) are.few;
+    each = λ row there.
+        let at = get_from_Contains (map f rows) row there in
+        let old = get_from_map f rows at.0 row at.1 in
+        subst (IsRow machine spaces threads) old.2 (kept_row machine spaces threads old.0 (are.each old.0 (Contains-from_get rows at.0 old.0 old.1)));
+    single = λ i j a b at_i at_j same.
+        let old_a = get_from_map f rows i a at_i in
+        let old_b = get_from_map f rows j b at_j in
+        are.single i j old_a.0 old_b.0 old_a.1 old_b.1 (sym (same_page old_a.0 old_b.0) ∙ subst2 old_a.0 old_b.0 a b old_a.2 old_b.2 same);
+    signals = λ frame. rw (count_by-map (is_signal_row_of frame) f (same_signals frame) rows) (are.signals frame);
+  }
+    where
+      subst2 : (x y a b : Row) → f x ≡ a → f y ≡ b → is_row_of a.space a.vpn.0 b ≡ true → is_row_of (f x).space (f x).vpn.0 (f y) ≡ true
+      subst2 x y a b ea eb same = rw (ea, eb) same
+
+  -- rows of which no more than the bits changed
+  pub rows_formed : (s : FlatState) → IsWellFormed s → IsWellFormed (record s { rows = map f s.rows })
+  rows_formed s formed = record {
+    memory = formed.memory;
+    kernels = formed.kernels;
+    spaces = formed.spaces;
+    threads = formed.threads;
+    rows = rows_map s.machine s.spaces s.threads s.rows formed.rows;
+  }
+
+-- no page has two rows, by places
+abbrev AreSingle : List Row → Type 0
+AreSingle rows = (i j : ℕ) (a b : Row) → slice_get rows i ≡ Some a → slice_get rows j ≡ Some b → is_row_of a.space a.vpn.0 b ≡ true → i ≡ j
+
+single_tail : (row : Row) (rows : List Row) → AreSingle (row ∷ rows) → AreSingle rows
+single_tail row rows single i j a b at_i at_j same = let e : suc i ≡ suc j = single (suc i) (suc j) a b at_i at_j same in omega arith
+
+-- a row in front of rows of other pages
+single_cons : (row : Row) (rows : List Row) → AreSingle rows → ((k : ℕ) (b : Row) → slice_get rows k ≡ Some b → is_row_of row.space row.vpn.0 b ≡ true → ⊥) → ((k : ℕ) (b : Row) → slice_get rows k ≡ Some b → is_row_of b.space b.vpn.0 row ≡ true → ⊥) → AreSingle (row ∷ rows)
+single_cons row rows single before behind zero zero a b at_i at_j same = refl
+single_cons row rows single before behind zero (suc j) a b at_i at_j same = absurd (before j b at_j (rw (some_row row a at_i) same))
+  where
+    some_row : (x y : Row) → Some x ≡ Some y → x ≡ y
+    some_row x y e = cc
+single_cons row rows single before behind (suc i) zero a b at_i at_j same = absurd (behind i a at_i (rw (some_row row b at_j) same))
+  where
+    some_row : (x y : Row) → Some x ≡ Some y → x ≡ y
+    some_row x y e = cc
+single_cons row rows single before behind (suc i) (suc j) a b at_i at_j same = ap suc (single i j a b at_i at_j same)
+
+single_in_front : (p : Row → Bool) (row : Row) (rows : List Row) → AreSingle (row ∷ rows) → AreSingle (filter p rows) → (b : Bool) → AreSingle (cond b (row ∷ filter p rows) (filter p rows))
+single_in_front p row rows all single true =
+    single_cons row (filter p rows) single
+    (λ k b there same. let old = get_from_filter p rows k b there in let e : zero ≡ suc old.0 = all zero (suc old.0) row b refl old.1 same in absurd (omega arith))
+    (λ k b there same. let old = get_from_filter p rows k b there in let e : suc old.0 ≡ zero = all (suc old.0) zero b row old.1 refl same in absurd (omega arith))
+single_in_front p row rows all single false = single
+
+-- fewer rows are single too
+single_filter : (p : Row → Bool) (rows : List Row) → AreSingle rows → AreSingle (filter p rows)
+single_filter p [] single = single
+single_filter p (row ∷ rows) single = single_in_front p row rows single (single_filter p rows (single_tail row rows single)) (p row)
+
+pub rows_filter : (machine : Option Machine) (spaces : List KernelNo) (threads : List FlatThread) (p : Row → Bool) (rows : List Row) → AreRows machine spaces threads rows → AreRows machine spaces threads (filter p rows)
+rows_filter machine spaces threads p rows are = record {
+  few = rw (length-filter p rows) (omega (arith, count_by-le-length p rows, are.few));
+  each = λ row there.
+      let at = get_from_Contains (filter p rows) row there in
+      let old = get_from_filter p rows at.0 row at.1 in
+      are.each row (Contains-from_get rows old.0 row old.1);
+  single = single_filter p rows are.single;
+  signals = λ frame. omega (arith, count_by-filter (is_signal_row_of frame) p rows, are.signals frame);
+}
+
+-- rows without that of a page
+pub without_formed : (s : FlatState) (space : SpaceNo) (vpn : ℕ) → IsWellFormed s → IsWellFormed (record s { rows = without space vpn s.rows })
+without_formed s space vpn formed = record {
+  memory = formed.memory;
+  kernels = formed.kernels;
+  spaces = formed.spaces;
+  threads = formed.threads;
+  rows = rows_filter s.machine s.spaces s.threads (λ row. not (is_row_of space vpn row)) s.rows formed.rows;
+}
