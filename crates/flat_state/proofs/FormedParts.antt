@@ -1,8 +1,8 @@
 -- A change of one part keeps a state well-formed.
 use Rattle.std.proofs.Common.{◌≡◌, ℕ, zero, suc, ◌+◌, ◌*◌, ◌%◌, ◌<◌, ◌≤◌, Bool, true, false, not, cond, List, [], ◌∷◌, ◌++◌, map, length, set, Option, Some, None, slice_get, Contains, filter, count_by, refl, ap, sym, ◌∙◌, subst, ◌⊎◌, inl, inr, arith, length-append, length-set}
 use Rattle.std.specs.Prelude.{◌==◌, ◌&&◌, is_some}
-use Rattle.std.proofs.lemmas.List.{length-map}
-use Rattle.std.proofs.lemmas.Bool.{cases_eq, eqb-true, eq-eqb, and_parts, and_from, false≢true}
+use Rattle.std.proofs.lemmas.List.{length-map, length_push}
+use Rattle.std.proofs.lemmas.Bool.{cases_Bool, cases_eq, eqb-true, eq-eqb, ne_eqb, and_parts, and_from, false≢true}
 use Rattle.std.proofs.lemmas.List.Sums.{length-filter, count_by-le-length}
 use Rattle.cache_ident.specs.declared.names.Frame.{Frame}
 use Rattle.cache_ident.specs.declared.names.KernelNo.{KernelNo}
@@ -15,10 +15,11 @@ use Rattle.signal_pages.specs.Signals.{is_signal_row_of, times_in, address_of}
 use Rattle.flat_state.specs.declared.events.Machine.{Machine}
 use Rattle.flat_state.specs.declared.records.FlatKernel.{FlatKernel}
 use Rattle.flat_state.specs.declared.records.FlatThread.{FlatThread}
-use Rattle.flat_state.specs.State.{FlatState, nothing_declared, groups_of, with_thread}
+use Rattle.flat_state.specs.State.{FlatState, nothing_declared, groups_of, with_thread, is_ended}
 use Rattle.flat_state.specs.Declaration.{agree, is_receiver_in, thread_is_in}
+use Rattle.flat_state.specs.Signals.{HasRoom, has_ended, queued, ended_by, queued_by, with_address, sent_to, sent}
 use Rattle.flat_state.specs.WellFormed.{IsSized, AreKernels, AreSpaces, IsThread, AreThreads, IsRow, AreRows, IsWellFormed}
-use Rattle.flat_state.proofs.Places.{Contains-from_get, get_from_Contains, set_cases, get-set_same, get-set_other, get_from_filter, get_from_map, count_by-filter, count_by-map}
+use Rattle.flat_state.proofs.Places.{Contains-from_get, get_from_Contains, set_cases, get-set_same, get-set_other, get_from_filter, get_from_map, count_by-filter, count_by-map, count_by-cons}
 
 -- before any declaration nothing is there
 pub nothing_formed : IsWellFormed nothing_declared
@@ -222,3 +223,132 @@ without_formed s space vpn formed = record {
   threads = formed.threads;
   rows = rows_filter s.machine s.spaces s.threads (λ row. not (is_row_of space vpn row)) s.rows formed.rows;
 }
+
+-- each thread among some receivers has room for all that it gets
+pub record IsRoomFor (threads : List FlatThread) (to : List ThreadNo) : Type 0 where
+  pub room : (thread : ThreadNo) → 0 < times_in to thread → has_ended threads thread ≡ false → queued threads thread + times_in to thread ≤ 64
+
+same_number : (a b : ThreadNo) → a.0 ≡ b.0 → a ≡ b
+same_number a b e = ap (λ (n : ℕ). let t : ThreadNo = record { 0 = n } in t) e
+
+times_in-cons : (a : ThreadNo) (to : List ThreadNo) (b : ThreadNo) → times_in (a ∷ to) b ≡ cond (a.0 == b.0) 1 0 + times_in to b
+times_in-cons a to b = count_by-cons (λ (other : ThreadNo). other.0 == b.0) a to
+
+times_in-here : (a : ThreadNo) (to : List ThreadNo) (b : ThreadNo) → a.0 ≡ b.0 → times_in (a ∷ to) b ≡ 1 + times_in to b
+times_in-here a to b same = rw (times_in-cons a to b, eq-eqb a.0 b.0 same) refl
+
+times_in-other : (a : ThreadNo) (to : List ThreadNo) (b : ThreadNo) → (a.0 ≡ b.0 → ⊥) → times_in (a ∷ to) b ≡ times_in to b
+times_in-other a to b other = rw (times_in-cons a to b, ne_eqb a.0 b.0 other) (omega arith)
+
+pub room_from : (threads : List FlatThread) (receivers : List (ThreadNo × Vpn)) → HasRoom threads receivers → IsRoomFor threads (map (λ r. r.0) receivers)
+room_from threads [] has = record { room = λ thread some not_ended. absurd (omega arith) }
+room_from threads ((first, vpn) ∷ rest) has = record {
+  room = λ thread some not_ended. elim (cases_eq first.0 thread.0) [
+    | inl same ↦ subst (λ (t : ThreadNo). has_ended threads t ≡ false → queued threads t + times_in (first ∷ map (λ r. r.0) rest) t ≤ 64) (same_number first thread same) has.2 not_ended
+    | inr other ↦
+        let less = times_in-other first (map (λ r. r.0) rest) thread other in
+        omega (arith, less, (room_from threads rest has.3).room thread (omega (arith, less)) not_ended)
+  ];
+}
+
+-- a thread that got an address is the same but for its queue
+record IsAddressed (t u : FlatThread) : Type 0 where
+  no : u.no ≡ t.no
+  space : u.space ≡ t.space
+  context : u.context ≡ t.context
+  status : u.status ≡ t.status
+  ended : is_ended t.status ≡ true → length u.queue.items ≡ length t.queue.items
+  running : is_ended t.status ≡ false → length u.queue.items ≡ length t.queue.items + 1
+
+addressed : (va : ℕ) (t : FlatThread) → IsAddressed t (with_address va t)
+addressed va t = by (is_ended t.status) refl
+  where
+    by : (b : Bool) → is_ended t.status ≡ b → IsAddressed t (cond b t (record t { queue = record { items = t.queue.items ++ va ∷ [] } }))
+    by true is = record { no = refl; space = refl; context = refl; status = refl; ended = λ e. refl; running = λ e. absurd (cc) }
+    by false is = record { no = refl; space = refl; context = refl; status = refl; ended = λ e. absurd (cc); running = λ e. length_push t.queue.items va }
+
+keeps_all : (threads : List FlatThread) → KeepSpaces threads threads
+keeps_all threads = record { kept = λ n t there. (t, there, refl) }
+
+keeps_on : (a b c : List FlatThread) → KeepSpaces a b → KeepSpaces b c → KeepSpaces a c
+keeps_on a b c first then = record {
+  kept = λ n t there.
+      let u = first.kept n t there in
+      let v = then.kept n u.0 u.1 in
+      (v.0, v.1, v.2 ∙ u.2);
+}
+
+-- what is left of the threads when one receiver got its address
+record IsSentOne (spaces : List KernelNo) (before after : List FlatThread) (to : List ThreadNo) : Type 0 where
+  are : AreThreads spaces after
+  keep : KeepSpaces before after
+  room : IsRoomFor after to
+
+times_in-le : (a : ThreadNo) (to : List ThreadNo) (b : ThreadNo) → times_in to b ≤ times_in (a ∷ to) b
+times_in-le a to b = omega (arith, times_in-cons a to b)
+
+less_room : (threads : List FlatThread) (a : ThreadNo) (to : List ThreadNo) → IsRoomFor threads (a ∷ to) → IsRoomFor threads to
+less_room threads a to room = record {
+  room = λ thread some not_ended.
+      let le = times_in-le a to thread in
+      omega (arith, le, room.room thread (omega (arith, le)) not_ended);
+}
+
+-- one receiver gets its address
+module _ (spaces : List KernelNo) (threads : List FlatThread) (thread : ThreadNo) (to : List ThreadNo) (va : ℕ) (are : AreThreads spaces threads) (room : IsRoomFor threads (thread ∷ to)) where
+  module _ (t : FlatThread) (here : slice_get threads thread.0 ≡ Some t) where
+    room_here : is_ended t.status ≡ false → length t.queue.items + times_in (thread ∷ to) thread ≤ 64
+    room_here running =
+        let same : queued threads thread ≡ length t.queue.items = ap queued_by here in
+        let some : 0 < times_in (thread ∷ to) thread = rw (times_in-here thread to thread refl) (omega arith) in
+        let all = room.room thread some (ap ended_by here ∙ running) in
+        omega (arith, all, same)
+
+    short : length (with_address va t).queue.items ≤ 64
+    short = elim (cases_Bool (is_ended t.status)) [
+      | inl ended ↦ omega (arith, (addressed va t).ended ended, (are.each thread.0 t here).queued)
+      | inr running ↦ omega (arith, (addressed va t).running running, room_here running, times_in-here thread to thread refl)
+    ]
+
+    room_after : (w : ThreadNo) → 0 < times_in to w → has_ended (set threads thread.0 (with_address va t)) w ≡ false → queued (set threads thread.0 (with_address va t)) w + times_in to w ≤ 64
+    room_after w some running = elim (cases_eq w.0 thread.0) [
+      | inl same ↦
+          let now : slice_get (set threads thread.0 (with_address va t)) w.0 ≡ Some (with_address va t) = rw same (get-set_same threads thread.0 (with_address va t) t here) in
+          let was : slice_get threads w.0 ≡ Some t = rw same here in
+          let runs : is_ended t.status ≡ false = sym (ap is_ended (addressed va t).status) ∙ sym (ap ended_by now) ∙ running in
+          let queue : queued (set threads thread.0 (with_address va t)) w ≡ length (with_address va t).queue.items = ap queued_by now in
+          let queue_was : queued threads w ≡ length t.queue.items = ap queued_by was in
+          let times = times_in-here thread to w (sym same) in
+          let all = room.room w (omega (arith, times)) (ap ended_by was ∙ runs) in
+          omega (arith, queue, queue_was, times, all, (addressed va t).running runs)
+      | inr other ↦
+          let still = get-set_other threads thread.0 w.0 (with_address va t) other in
+          let queue : queued (set threads thread.0 (with_address va t)) w ≡ queued threads w = ap queued_by still in
+          let times = times_in-other thread to w (λ e. other (sym e)) in
+          let all = room.room w (omega (arith, times)) (sym (ap ended_by still) ∙ running) in
+          omega (arith, queue, times, all)
+    ]
+
+    sent_some : IsSentOne spaces threads (set threads thread.0 (with_address va t)) to
+    sent_some = record {
+      are = set_are spaces threads thread.0 t (with_address va t) here (addressed va t).space are (addressed va t).no (rw (addressed va t).context (are.each thread.0 t here).aligned) short;
+      keep = set_keeps spaces threads thread.0 t (with_address va t) here (addressed va t).space;
+      room = record { room = room_after };
+    }
+
+  sent_one : (o : Option FlatThread) → slice_get threads thread.0 ≡ o → IsSentOne spaces threads (sent_to threads thread va o) to
+  sent_one None none = record { are = are; keep = keeps_all threads; room = less_room threads thread to room }
+  sent_one (Some t) here = sent_some t here
+
+-- each receiver in turn gets its address
+pub sent_are : (spaces : List KernelNo) (threads : List FlatThread) (offset : ℕ) (receivers : List (ThreadNo × Vpn)) → AreThreads spaces threads → IsRoomFor threads (map (λ r. r.0) receivers) → AreThreads spaces (sent threads offset receivers) × KeepSpaces threads (sent threads offset receivers)
+sent_are spaces threads offset [] are room = (are, keeps_all threads)
+sent_are spaces threads offset ((thread, vpn) ∷ rest) are room =
+    let one = sent_one spaces threads thread (map (λ r. r.0) rest) (address_of vpn offset) are room (slice_get threads thread.0) refl in
+    let next = sent_are spaces (sent_to threads thread (address_of vpn offset) (slice_get threads thread.0)) offset rest one.are one.room in
+    (next.0, keeps_on threads _ _ one.keep next.1)
+
+pub sent_formed : (s : FlatState) (offset : ℕ) (receivers : List (ThreadNo × Vpn)) → IsWellFormed s → HasRoom s.threads receivers → IsWellFormed (record s { threads = sent s.threads offset receivers })
+sent_formed s offset receivers formed has =
+    let all = sent_are s.spaces s.threads offset receivers formed.threads (room_from s.threads receivers has) in
+    threads_formed s (sent s.threads offset receivers) formed all.0 all.1
