@@ -291,7 +291,7 @@ record IsSentOne (spaces : List KernelNo) (before after : List FlatThread) (to :
   keep : KeepSpaces before after
   room : IsRoomFor after to
 
-times_in-le : (a : ThreadNo) (to : List ThreadNo) (b : ThreadNo) → times_in to b ≤ times_in (a ∷ to) b
+pub times_in-le : (a : ThreadNo) (to : List ThreadNo) (b : ThreadNo) → times_in to b ≤ times_in (a ∷ to) b
 times_in-le a to b = omega (arith, times_in-cons a to b)
 
 less_room : (threads : List FlatThread) (a : ThreadNo) (to : List ThreadNo) → IsRoomFor threads (a ∷ to) → IsRoomFor threads to

@@ -1,3 +1,4 @@
 pub mod Places
 pub mod FormedParts
 pub mod StepKeeps
+pub mod FormedEvents
