@@ -1,3 +1,7 @@
 pub mod Finding
 pub mod Translating
 pub mod Storing
+pub mod Places
+pub mod FormedParts
+pub mod StepKeeps
+pub mod FormedEvents

@@ -1,0 +1,166 @@
+-- Each event keeps a state well-formed, so each state that events can reach is.
+use Rattle.std.proofs.Common.{◌≡◌, ℕ, zero, suc, ◌+◌, ◌*◌, ◌%◌, ◌<◌, ◌≤◌, Bool, true, false, not, cond, List, [], ◌∷◌, ◌++◌, map, length, take, drop, set, Option, Some, None, slice_get, Contains, filter, refl, ap, sym, ◌∙◌, subst, ◌⊎◌, inl, inr, arith, length-append, length-drop, length-set, length-take-le}
+use Rattle.std.specs.Prelude.{if◌then◌else◌, ◌==◌, ◌&&◌, nat_lt, is_some, option_to_list, find}
+use Rattle.std.specs.Option.{option_map}
+use Rattle.std.proofs.lemmas.Bool.{cases_Bool, cases_eq, and_parts, not-true, ltb-false}
+use Rattle.std.proofs.lemmas.Option.{same_Some, slice_get_within}
+use Rattle.cache_ident.specs.declared.names.Frame.{Frame}
+use Rattle.cache_ident.specs.declared.names.SpaceNo.{SpaceNo}
+use Rattle.cache_ident.specs.declared.names.ThreadNo.{ThreadNo}
+use Rattle.cache_ident.specs.declared.names.Vpn.{Vpn}
+use Rattle.phys_groups.specs.declared.rows.Row.{Row}
+use Rattle.phys_groups.specs.Memory.{page_at, with_page}
+use Rattle.phys_groups.proofs.Pages.{length-page_at}
+use Rattle.signal_pages.specs.Signals.{times_in, receiver_of, receivers_in, would_pass, room_in}
+use Rattle.rv32_exec.specs.Pages.{Page}
+use Rattle.flat_state.specs.declared.records.FlatThread.{FlatThread}
+use Rattle.flat_state.specs.State.{FlatState, with_thread, is_ended, is_ready}
+use Rattle.flat_state.specs.Pages.{page_of, is_in, pages_in, pages_of, with_pages, with_marks_of, with_marks}
+use Rattle.flat_state.specs.Signals.{HasRoom, receivers_of, has_ended, queued, queued_by, ended_by, full_among}
+use Rattle.flat_state.specs.Translation.{is_fit_row}
+use Rattle.flat_state.specs.Step.{written_back}
+use Rattle.flat_state.specs.Declaration.{thread_is_in, is_receiver_in}
+use Rattle.flat_state.specs.WellFormed.{IsRow, IsWellFormed}
+use Rattle.flat_state.proofs.Places.{get-set_same, get-set_other, Contains-from_get, get_from_filter, get_from_map}
+use Rattle.flat_state.proofs.FormedParts.{KeepsRow, memory_formed, rows_formed, times_in-le}
+use Rattle.flat_state.proofs.StepKeeps.{IsPageOf, ArePagesOf}
+
+-- the pages of a space are those of memory
+pub pages_are : (s : FlatState) (space : SpaceNo) → IsWellFormed s → ArePagesOf (length s.memory) (pages_of s space)
+pages_are s space formed = record {
+  each = λ k p there.
+      let old = get_from_map _ (filter (is_in space) s.rows) k p there in
+      let row = get_from_filter (is_in space) s.rows k old.0 old.1 in
+      let frame = (formed.rows.each old.0 (Contains-from_get s.rows row.0 old.0 row.1)).frame in
+      let size = formed.memory.size in
+      let within : 4096 * old.0.frame.0 + 4096 ≤ length s.memory = omega (arith, frame, size) in
+      subst (IsPageOf (length s.memory)) old.2 (record { frame = within; whole = length-page_at s.memory old.0.frame within });
+}
+
+-- a page written over a frame in memory keeps its length
+length-with_page : (bytes : List ℕ) (frame : Frame) (page : List ℕ) → 4096 * frame.0 + 4096 ≤ length bytes → length page ≡ 4096 → length (with_page bytes frame page) ≡ length bytes
+length-with_page bytes frame page within whole =
+    let before : length (take (4096 * frame.0) bytes) ≡ 4096 * frame.0 = length-take-le (4096 * frame.0) bytes (omega arith) in
+    let behind = length-drop (4096 * frame.0 + 4096) bytes in
+    let front = length-append (take (4096 * frame.0) bytes) page in
+    let all = length-append (take (4096 * frame.0) bytes ++ page) (drop (4096 * frame.0 + 4096) bytes) in
+    all ∙ omega (arith, before, behind, front, whole)
+
+length-with_pages : (memory : List ℕ) (ps : List Page) (size : ℕ) → length memory ≡ size → ArePagesOf size ps → length (with_pages memory ps) ≡ size
+length-with_pages memory [] size same are = same
+length-with_pages memory (p ∷ ps) size same are =
+    let first = are.each zero p refl in
+    let one : length (with_page memory (record { 0 = p.frame }) p.bytes) ≡ size = length-with_page memory (record { 0 = p.frame }) p.bytes (rw same first.frame) first.whole ∙ same in
+    length-with_pages (with_page memory (record { 0 = p.frame }) p.bytes) ps size one (record { each = λ k q there. are.each (suc k) q there })
+
+-- the marks of pages are bits of rows, and nothing else
+pub marks_keep : (space : SpaceNo) (ps : List Page) → KeepsRow (with_marks space ps)
+marks_keep space ps = record {
+  space = λ row. by (λ (r : Row). r.space) row (is_in space row) (find (λ p. p.number == row.vpn.0) ps) refl (λ p. refl);
+  vpn = λ row. by (λ (r : Row). r.vpn) row (is_in space row) (find (λ p. p.number == row.vpn.0) ps) refl (λ p. refl);
+  frame = λ row. by (λ (r : Row). r.frame) row (is_in space row) (find (λ p. p.number == row.vpn.0) ps) refl (λ p. refl);
+  flags = λ row. by (λ (r : Row). r.flags) row (is_in space row) (find (λ p. p.number == row.vpn.0) ps) refl (λ p. refl);
+  receiver = λ row. by (λ (r : Row). r.receiver) row (is_in space row) (find (λ p. p.number == row.vpn.0) ps) refl (λ p. refl);
+}
+  where
+    by : {X : Type 0} (part : Row → X) (row : Row) (b : Bool) (o : Option Page) → part row ≡ part row → ((p : Page) → part (record row { referenced = p.touched; modified = p.written }) ≡ part row) → part (if b then with_marks_of o row else row) ≡ part row
+    by part row true None here same = here
+    by part row true (Some p) here same = same p
+    by part row false o here same = here
+
+-- what a step leaves in its pages keeps a state well-formed
+pub written_back_formed : (s : FlatState) (space : SpaceNo) (ps : List Page) → IsWellFormed s → ArePagesOf (length s.memory) ps → IsWellFormed (written_back s space ps)
+written_back_formed s space ps formed are =
+    rows_formed (with_marks space ps) (marks_keep space ps) (record s { memory = with_pages s.memory ps }) (memory_formed s (with_pages s.memory ps) formed (length-with_pages s.memory ps (length s.memory) refl are))
+
+-- receivers that could be those of rows
+pub record AreReceivers (threads : List FlatThread) (receivers : List (ThreadNo × Vpn)) : Type 0 where
+  pub each : (k : ℕ) (r : ThreadNo × Vpn) → slice_get receivers k ≡ Some r → (r.0.0 < length threads) × (r.1.0 < 1048576)
+
+-- the receiver that a row gives is a thread, and its page one of a space
+given : (s : FlatState) (frame : Frame) (row : Row) (fit : Bool) (r : ThreadNo × Vpn) → IsRow s.machine s.spaces s.threads row → receiver_of frame row fit ≡ Some r → (r.0.0 < length s.threads) × (r.1.0 < 1048576)
+given s frame row fit r is = by ((row.frame.0 == frame.0) && fit) row.receiver is.receiver
+  where
+    thread_within : (space : SpaceNo) (thread : ThreadNo) (o : Option FlatThread) → slice_get s.threads thread.0 ≡ o → thread_is_in space o ≡ true → thread.0 < length s.threads
+    thread_within space thread None here is_in = absurd (cc)
+    thread_within space thread (Some t) here is_in = slice_get_within s.threads thread.0 t here
+    by : (b : Bool) (o : Option ThreadNo) → is_receiver_in row.space s.threads o ≡ true → (if b then option_map (λ thread. (thread, row.vpn)) o else None) ≡ Some r → (r.0.0 < length s.threads) × (r.1.0 < 1048576)
+    by true None is_in e = absurd (cc)
+    by true (Some thread) is_in e =
+        let same : (thread, row.vpn) ≡ r = same_Some _ _ e in
+        let page = is.page in
+        subst (λ (x : ThreadNo × Vpn). (x.0.0 < length s.threads) × (x.1.0 < 1048576)) same (thread_within row.space thread (slice_get s.threads thread.0) refl is_in, omega (arith, page))
+    by false o is_in e = absurd (cc)
+
+receivers_push : (threads : List FlatThread) (o : Option (ThreadNo × Vpn)) (rest : List (ThreadNo × Vpn)) → ((r : ThreadNo × Vpn) → o ≡ Some r → (r.0.0 < length threads) × (r.1.0 < 1048576)) → AreReceivers threads rest → AreReceivers threads (option_to_list o ++ rest)
+receivers_push threads None rest first are = are
+receivers_push threads (Some x) rest first are = record { each = by }
+  where
+    by : (k : ℕ) (r : ThreadNo × Vpn) → slice_get (x ∷ rest) k ≡ Some r → (r.0.0 < length threads) × (r.1.0 < 1048576)
+    by zero r there = first r there
+    by (suc k) r there = are.each k r there
+
+-- those of rows that could be declared are
+receivers_in_are : (s : FlatState) (frame : Frame) (rows : List Row) (fits : List Bool) → ((k : ℕ) (row : Row) → slice_get rows k ≡ Some row → IsRow s.machine s.spaces s.threads row) → AreReceivers s.threads (receivers_in frame rows fits)
+receivers_in_are s frame [] fits each = record { each = λ k r there. absurd (cc) }
+receivers_in_are s frame (row ∷ rows) [] each = record { each = λ k r there. absurd (cc) }
+receivers_in_are s frame (row ∷ rows) (fit ∷ fits) each =
+    receivers_push s.threads (receiver_of frame row fit) (receivers_in frame rows fits) (λ r gives. given s frame row fit r (each zero row refl) gives) (receivers_in_are s frame rows fits (λ k x there. each (suc k) x there))
+
+pub receivers_are : (s : FlatState) (frame : Frame) → IsWellFormed s → AreReceivers s.threads (receivers_of s frame)
+receivers_are s frame formed = receivers_in_are s frame s.rows (map (is_fit_row s) s.rows) (λ k row there. formed.rows.each row (Contains-from_get s.rows k row there))
+
+-- where no receiver is full each has room, also behind some others
+room_behind : (threads : List FlatThread) (to : List ThreadNo) (receivers : List (ThreadNo × Vpn)) → ((t : ThreadNo) → times_in (map (λ r. r.0) receivers) t ≤ times_in to t) → AreReceivers threads receivers → room_in to (map (queued threads) (map (λ r. r.0) receivers)) (map (has_ended threads) (map (λ r. r.0) receivers)) (map (λ r. r.0) receivers) ≡ None → HasRoom threads receivers
+room_behind threads to [] fewer are none = tt
+room_behind threads to ((thread, vpn) ∷ rest) fewer are none =
+    let first = are.each zero (thread, vpn) refl in
+    let passes = first_passes (would_pass to thread (queued threads thread) (has_ended threads thread)) _ none in
+    (first.0, first.1,
+    λ running. let le = fewer thread in let short = room_for (queued threads thread) (times_in to thread) (has_ended threads thread) running passes.0 in omega (arith, le, short),
+    room_behind threads to rest (λ t. let le = fewer t in let less = times_in-le thread (map (λ r. r.0) rest) t in omega (arith, le, less)) (record { each = λ k r there. are.each (suc k) r there }) passes.1)
+  where
+    first_passes : (b : Bool) (later : Option ThreadNo) → (if b then Some thread else later) ≡ None → (b ≡ false) × (later ≡ None)
+    first_passes true later e = absurd (cc)
+    first_passes false later e = (refl, e)
+    room_for : (queue times : ℕ) (ended : Bool) → ended ≡ false → (not ended && nat_lt 64 (queue + times)) ≡ false → queue + times ≤ 64
+    room_for queue times true is e = absurd (cc)
+    room_for queue times false is e = ltb-false 64 (queue + times) e
+
+pub room_if_none_full : (threads : List FlatThread) (receivers : List (ThreadNo × Vpn)) → AreReceivers threads receivers → full_among threads (map (λ r. r.0) receivers) ≡ None → HasRoom threads receivers
+room_if_none_full threads receivers are none = room_behind threads (map (λ r. r.0) receivers) receivers (λ t. omega arith) are none
+
+-- Threads of which some may have ended meanwhile.
+pub record EndAtMost (before after : List FlatThread) : Type 0 where
+  pub many : length after ≡ length before
+  pub same : (thread : ThreadNo) → queued after thread ≡ queued before thread
+  pub running : (thread : ThreadNo) → has_ended after thread ≡ false → has_ended before thread ≡ false
+
+-- they have room too
+pub room_kept : (before after : List FlatThread) (receivers : List (ThreadNo × Vpn)) → EndAtMost before after → HasRoom before receivers → HasRoom after receivers
+room_kept before after [] at_most has = tt
+room_kept before after ((thread, vpn) ∷ rest) at_most has =
+    let many = at_most.many in
+    let lt = has.0 in
+    (omega (arith, many, lt), has.1,
+    λ running. let same = at_most.same thread in let short = has.2 (at_most.running thread running) in omega (arith, same, short),
+    room_kept before after rest at_most has.3)
+
+-- a thread that was ready is replaced by one with its queue
+pub ends_at_most : (threads : List FlatThread) (n : ℕ) (t u : FlatThread) → slice_get threads n ≡ Some t → u.queue ≡ t.queue → is_ended t.status ≡ false → EndAtMost threads (set threads n u)
+ends_at_most threads n t u here same_queue ready = record {
+  many = length-set threads n u;
+  same = λ thread. elim (cases_eq thread.0 n) [
+    | inl same ↦ ap queued_by (now thread same) ∙ ap (λ q. length q.items) same_queue ∙ sym (ap queued_by (was thread same))
+    | inr other ↦ ap queued_by (get-set_other threads n thread.0 u other)
+  ];
+  running = λ thread runs. elim (cases_eq thread.0 n) [
+    | inl same ↦ ap ended_by (was thread same) ∙ ready
+    | inr other ↦ sym (ap ended_by (get-set_other threads n thread.0 u other)) ∙ runs
+  ];
+}
+  where
+    now : (thread : ThreadNo) → thread.0 ≡ n → slice_get (set threads n u) thread.0 ≡ Some u
+    now thread same = rw same (get-set_same threads n u t here)
+    was : (thread : ThreadNo) → thread.0 ≡ n → slice_get threads thread.0 ≡ Some t
+    was thread same = rw same here
