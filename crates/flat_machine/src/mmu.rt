@@ -7,7 +7,8 @@ ghost use Rattle.phys_groups.specs.Memory.{HasFrame};
 ghost use Rattle.phys_groups.specs.Translation.{place_in as place_in_lem, translated};
 ghost use Rattle.flat_state.specs.Translation.{row_through, wants};
 ghost use Rattle.flat_state.specs.Pages.{pages_in};
-ghost use Rattle.flat_machine.specs.Rest.{Rest, rest_of, HasOneRowAPage};
+ghost use Rattle.flat_state.specs.Rest.{Rest, rest_of};
+ghost use Rattle.flat_machine.specs.Seen.{HasOneRowAPage};
 
 use crate::reach::reach;
 use cache_ident::{SpaceNo, Vpn};
@@ -30,7 +31,7 @@ impl Model for Mmu {
     ghost use Rattle.std.specs.Prelude.{Contains};
     ghost use Rattle.phys_groups.specs.declared.rows.Row.{Row as RowLem};
     ghost use Rattle.phys_groups.specs.Memory.{HasFrame};
-    ghost use Rattle.flat_machine.specs.Rest.{Seen, HasOneRowAPage};
+    ghost use Rattle.flat_machine.specs.Seen.{Seen, HasOneRowAPage};
 
     ghost Value = { Seen };
 

@@ -5,3 +5,4 @@ pub mod Places
 pub mod FormedParts
 pub mod StepKeeps
 pub mod FormedEvents
+pub mod WritingBack
