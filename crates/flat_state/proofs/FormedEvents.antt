@@ -12,18 +12,25 @@ use Rattle.phys_groups.specs.declared.rows.Row.{Row}
 use Rattle.phys_groups.specs.Memory.{page_at, with_page}
 use Rattle.phys_groups.proofs.Pages.{length-page_at}
 use Rattle.signal_pages.specs.Signals.{times_in, receiver_of, receivers_in, would_pass, room_in}
+use Rattle.rv32_exec.specs.declared.statuses.Access.{Access}
+use Rattle.rv32_exec.specs.declared.statuses.Status.{Status}
+use Rattle.rv32_exec.specs.declared.statuses.Status.TheVariants.{Ready, Trapped, Ended}
+use Rattle.rv32_exec.specs.declared.steps.Stepped.{Stepped}
+use Rattle.rv32_exec.specs.declared.steps.Stepped.TheVariants.{Next, Call, Stop, Miss}
 use Rattle.rv32_exec.specs.Pages.{Page}
+use Rattle.rv32_exec.specs.Steps.{After}
 use Rattle.flat_state.specs.declared.records.FlatThread.{FlatThread}
+use Rattle.flat_state.specs.declared.records.Signal.{Signal}
 use Rattle.flat_state.specs.State.{FlatState, with_thread, is_ended, is_ready}
 use Rattle.flat_state.specs.Pages.{page_of, is_in, pages_in, pages_of, with_pages, with_marks_of, with_marks}
-use Rattle.flat_state.specs.Signals.{HasRoom, receivers_of, has_ended, queued, queued_by, ended_by, full_among}
+use Rattle.flat_state.specs.Signals.{HasRoom, next_signal, receivers_of, receivers_for, full_receiver, is_runnable, delivered, has_ended, queued, queued_by, ended_by, full_among}
 use Rattle.flat_state.specs.Translation.{is_fit_row}
-use Rattle.flat_state.specs.Step.{written_back}
+use Rattle.flat_state.specs.Step.{outcome, faulted, written_back, moved, went_on, stepped_so, step_if, step_of, after_step}
 use Rattle.flat_state.specs.Declaration.{thread_is_in, is_receiver_in}
 use Rattle.flat_state.specs.WellFormed.{IsRow, IsWellFormed}
 use Rattle.flat_state.proofs.Places.{get-set_same, get-set_other, Contains-from_get, get_from_filter, get_from_map}
-use Rattle.flat_state.proofs.FormedParts.{KeepsRow, memory_formed, rows_formed, times_in-le}
-use Rattle.flat_state.proofs.StepKeeps.{IsPageOf, ArePagesOf}
+use Rattle.flat_state.proofs.FormedParts.{KeepsRow, memory_formed, rows_formed, thread_formed, sent_formed, times_in-le}
+use Rattle.flat_state.proofs.StepKeeps.{IsPageOf, ArePagesOf, step_keeps}
 
 -- the pages of a space are those of memory
 pub pages_are : (s : FlatState) (space : SpaceNo) → IsWellFormed s → ArePagesOf (length s.memory) (pages_of s space)
@@ -164,3 +171,65 @@ ends_at_most threads n t u here same_queue ready = record {
     now thread same = rw same (get-set_same threads n u t here)
     was : (thread : ThreadNo) → thread.0 ≡ n → slice_get threads thread.0 ≡ Some t
     was thread same = rw same here
+
+-- a runnable thread is ready, and no receiver is full
+pub runnable_parts : (s : FlatState) (t : FlatThread) → is_runnable s t ≡ true → (is_ended t.status ≡ false) × (full_receiver s t ≡ None)
+runnable_parts s t runs =
+    let parts = and_parts (is_ready t.status) (not (is_some (full_receiver s t))) runs in
+    (goes_on t.status parts.0, none_from (full_receiver s t) (not-true _ parts.1))
+  where
+    goes_on : (status : Status) → is_ready status ≡ true → is_ended status ≡ false
+    goes_on Ready e = refl
+    goes_on Trapped e = refl
+    goes_on (Ended reason) e = absurd (cc)
+    none_from : (o : Option ThreadNo) → is_some o ≡ false → o ≡ None
+    none_from None e = refl
+    none_from (Some thread) e = absurd (cc)
+
+-- the receivers of what a runnable thread's next step sends have room
+pub runnable_room : (s : FlatState) (t : FlatThread) → IsWellFormed s → is_runnable s t ≡ true → HasRoom s.threads (receivers_for s (next_signal s t))
+runnable_room s t formed runs = by (next_signal s t) (runnable_parts s t runs).1
+  where
+    by : (o : Option Signal) → full_among s.threads (map (λ r. r.0) (receivers_for s o)) ≡ None → HasRoom s.threads (receivers_for s o)
+    by None none = tt
+    by (Some signal) none = room_if_none_full s.threads (receivers_of s signal.frame) (receivers_are s signal.frame formed) none
+
+-- signals with room, if there are any
+delivered_formed : (u : FlatState) (o : Option Signal) (receivers : List (ThreadNo × Vpn)) → IsWellFormed u → HasRoom u.threads receivers → IsWellFormed (record u { threads = delivered u.threads o receivers })
+delivered_formed u None receivers formed has = formed
+delivered_formed u (Some signal) receivers formed has = sent_formed u signal.offset receivers formed has
+
+module _ (s : FlatState) (n : ℕ) (t : FlatThread) (formed : IsWellFormed s) (here : slice_get s.threads n ≡ Some t) where
+  pub moved_formed : (after : After) (status : Status) → after.context.pc % 4 ≡ 0 → ArePagesOf (length s.memory) after.pages → IsWellFormed (moved s n t after status)
+  moved_formed after status aligned are =
+      thread_formed (written_back s t.space after.pages) n t (record t { context = after.context; status = status }) (written_back_formed s t.space after.pages formed are) here refl refl aligned (formed.threads.each n t here).queued
+
+  went_on_formed : (after : After) (status : Status) → is_runnable s t ≡ true → after.context.pc % 4 ≡ 0 → ArePagesOf (length s.memory) after.pages → IsWellFormed (went_on s n t after status)
+  went_on_formed after status runs aligned are =
+      let u : FlatThread = record t { context = after.context; status = status } in
+      delivered_formed (moved s n t after status) (next_signal s t) (receivers_for s (next_signal s t)) (moved_formed after status aligned are)
+      (room_kept s.threads (set s.threads n u) (receivers_for s (next_signal s t)) (ends_at_most s.threads n t u here refl (runnable_parts s t runs).0) (runnable_room s t formed runs))
+
+  faulted_formed : (va : ℕ) (access : Access) → IsWellFormed (faulted s n t va access)
+  faulted_formed va access = thread_formed s n t _ formed here refl refl (formed.threads.each n t here).aligned (formed.threads.each n t here).queued
+
+  stepped_formed : is_runnable s t ≡ true → (after : After) (answer : Stepped) → after.context.pc % 4 ≡ 0 → ArePagesOf (length s.memory) after.pages → IsWellFormed (stepped_so s n t after answer)
+  stepped_formed runs after Next aligned are = went_on_formed after Ready runs aligned are
+  stepped_formed runs after Call aligned are = went_on_formed after Trapped runs aligned are
+  stepped_formed runs after (Stop reason) aligned are = went_on_formed after (Ended reason) runs aligned are
+  stepped_formed runs after (Miss va access) aligned are = faulted_formed va access
+
+  step_if_formed : (b : Bool) (u : FlatState) → is_runnable s t ≡ b → step_if b s n t ≡ Some u → IsWellFormed u
+  step_if_formed true u runs e =
+      let kept = step_keeps (length s.memory) t.context (pages_of s t.space) (formed.threads.each n t here).aligned (pages_are s t.space formed) in
+      subst IsWellFormed (same_Some _ u e) (stepped_formed runs (outcome s t) (outcome s t).answer kept.aligned kept.pages)
+  step_if_formed false u runs e = absurd (cc)
+
+-- a step keeps a state well-formed
+pub step_formed : (s : FlatState) (n : ℕ) (u : FlatState) → IsWellFormed s → after_step s n ≡ Some u → IsWellFormed u
+unfolding after_step
+step_formed s n u formed e = by (slice_get s.threads n) refl e
+  where
+    by : (o : Option FlatThread) → slice_get s.threads n ≡ o → step_of s n o ≡ Some u → IsWellFormed u
+    by None here e = absurd (cc)
+    by (Some t) here e = step_if_formed s n t formed here (is_runnable s t) u refl e
