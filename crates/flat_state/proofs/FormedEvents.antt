@@ -1,6 +1,6 @@
 -- Each event keeps a state well-formed, so each state that events can reach is.
 use Rattle.std.proofs.Common.{◌≡◌, ℕ, zero, suc, ◌+◌, ◌*◌, ◌%◌, ◌<◌, ◌≤◌, Bool, true, false, not, cond, List, [], ◌∷◌, ◌++◌, map, length, take, drop, set, Option, Some, None, slice_get, Contains, filter, refl, ap, sym, ◌∙◌, subst, ◌⊎◌, inl, inr, arith, length-append, length-drop, length-set, length-take-le}
-use Rattle.std.specs.Prelude.{if◌then◌else◌, ◌==◌, ◌&&◌, nat_lt, is_some, option_to_list, find}
+use Rattle.std.specs.Prelude.{if◌then◌else◌, ◌==◌, ◌&&◌, nat_lt, is_some, option_to_list, unwrap_or, find}
 use Rattle.std.specs.Option.{option_map}
 use Rattle.std.proofs.lemmas.Bool.{cases_Bool, cases_eq, and_parts, not-true, ltb-false}
 use Rattle.std.proofs.lemmas.Option.{same_Some, slice_get_within}
@@ -10,8 +10,10 @@ use Rattle.cache_ident.specs.declared.names.ThreadNo.{ThreadNo}
 use Rattle.cache_ident.specs.declared.names.Vpn.{Vpn}
 use Rattle.phys_groups.specs.declared.rows.Row.{Row}
 use Rattle.phys_groups.specs.Memory.{page_at, with_page}
+use Rattle.phys_groups.specs.Translation.{row_of, without}
 use Rattle.phys_groups.proofs.Pages.{length-page_at}
 use Rattle.signal_pages.specs.Signals.{times_in, receiver_of, receivers_in, would_pass, room_in}
+use Rattle.rv32_exec.specs.declared.contexts.Context.{Context}
 use Rattle.rv32_exec.specs.declared.statuses.Access.{Access}
 use Rattle.rv32_exec.specs.declared.statuses.Status.{Status}
 use Rattle.rv32_exec.specs.declared.statuses.Status.TheVariants.{Ready, Trapped, Ended}
@@ -19,17 +21,25 @@ use Rattle.rv32_exec.specs.declared.steps.Stepped.{Stepped}
 use Rattle.rv32_exec.specs.declared.steps.Stepped.TheVariants.{Next, Call, Stop, Miss}
 use Rattle.rv32_exec.specs.Pages.{Page}
 use Rattle.rv32_exec.specs.Steps.{After}
+use Rattle.fault_forward.specs.declared.effects.Effect.{Effect}
+use Rattle.fault_forward.specs.declared.effects.Effect.TheVariants as effects
+use Rattle.fault_forward.specs.Calls.{Completion, completion_of, call_number, brings, answers, taken}
+use Rattle.flat_state.specs.declared.events.Decl.{Decl}
+use Rattle.flat_state.specs.declared.events.Event.{Event}
+use Rattle.flat_state.specs.declared.events.Event.TheVariants.{Declare, Step, Complete}
 use Rattle.flat_state.specs.declared.records.FlatThread.{FlatThread}
 use Rattle.flat_state.specs.declared.records.Signal.{Signal}
-use Rattle.flat_state.specs.State.{FlatState, with_thread, is_ended, is_ready}
+use Rattle.flat_state.specs.State.{FlatState, nothing_declared, with_thread, is_ended, is_ready}
 use Rattle.flat_state.specs.Pages.{page_of, is_in, pages_in, pages_of, with_pages, with_marks_of, with_marks}
 use Rattle.flat_state.specs.Signals.{HasRoom, next_signal, receivers_of, receivers_for, full_receiver, is_runnable, delivered, has_ended, queued, queued_by, ended_by, full_among}
 use Rattle.flat_state.specs.Translation.{is_fit_row}
 use Rattle.flat_state.specs.Step.{outcome, faulted, written_back, moved, went_on, stepped_so, step_if, step_of, after_step}
-use Rattle.flat_state.specs.Declaration.{thread_is_in, is_receiver_in}
+use Rattle.flat_state.specs.Call.{answered, refusal, made, mapping, rule_of_mapping, mapped, unmapped, spawning, spawned, is_first, granting, rule_of_granting, granted, completed_so, complete_if, completion_for, after_completion, is_completable}
+use Rattle.flat_state.specs.Events.{declared_unless, after_event, applied, after_events, flat}
+use Rattle.flat_state.specs.Declaration.{breaks, broken_rule, declared, thread_is_in, is_receiver_in}
 use Rattle.flat_state.specs.WellFormed.{IsRow, IsWellFormed}
-use Rattle.flat_state.proofs.Places.{get-set_same, get-set_other, Contains-from_get, get_from_filter, get_from_map}
-use Rattle.flat_state.proofs.FormedParts.{KeepsRow, memory_formed, rows_formed, thread_formed, sent_formed, times_in-le}
+use Rattle.flat_state.proofs.Places.{get-append, get-set_same, get-set_other, Contains-from_get, get_from_filter, get_from_map}
+use Rattle.flat_state.proofs.FormedParts.{KeepsRow, memory_formed, rows_formed, thread_formed, sent_formed, without_formed, nothing_formed, declared_formed, times_in-le}
 use Rattle.flat_state.proofs.StepKeeps.{IsPageOf, ArePagesOf, step_keeps}
 
 -- the pages of a space are those of memory
@@ -233,3 +243,131 @@ step_formed s n u formed e = by (slice_get s.threads n) refl e
     by : (o : Option FlatThread) → slice_get s.threads n ≡ o → step_of s n o ≡ Some u → IsWellFormed u
     by None here e = absurd (cc)
     by (Some t) here e = step_if_formed s n t formed here (is_runnable s t) u refl e
+
+-- a completed call leaves pc, and no more in the queue than there was
+record KeepsCall (c : Context) (queue : List ℕ) (x : Completion) : Type 0 where
+  pc : x.context.pc ≡ c.pc
+  shorter : length x.queue ≤ length queue
+
+module _ (thread : ThreadNo) (c : Context) (queue : List ℕ) where
+  either_keeps : (b : Bool) (x y : Completion) → KeepsCall c queue x → KeepsCall c queue y → KeepsCall c queue (if b then x else y)
+  either_keeps true x y first second = first
+  either_keeps false x y first second = second
+
+  brings_keeps : (effect : Effect) → KeepsCall c queue (brings effect c queue)
+  brings_keeps effect = record { pc = refl; shorter = omega arith }
+
+  answers_keeps : (answer : ℕ) → KeepsCall c queue (answers answer c queue)
+  answers_keeps answer = record { pc = refl; shorter = omega arith }
+
+  taken_keeps : (q : List ℕ) → KeepsCall c q (taken c q)
+  taken_keeps [] = record { pc = refl; shorter = omega arith }
+  taken_keeps (first ∷ q) = record { pc = refl; shorter = omega arith }
+
+  call_keeps : KeepsCall c queue (completion_of thread c queue)
+  call_keeps =
+      either_keeps (call_number c == 0) _ _ (brings_keeps _)
+      (either_keeps (call_number c == 1) _ _ (brings_keeps _)
+      (either_keeps (call_number c == 2) _ _ (brings_keeps _)
+      (either_keeps (call_number c == 3) _ _ (taken_keeps queue)
+      (either_keeps (call_number c == 4) _ _ (brings_keeps _)
+      (either_keeps (call_number c == 5) _ _ (answers_keeps _)
+      (either_keeps (call_number c == 6) _ _ (brings_keeps _)
+      (either_keeps (call_number c == 7) _ _ (brings_keeps _)
+      (either_keeps (call_number c == 8) _ _ (brings_keeps _)
+      (either_keeps (call_number c == 9) _ _ (brings_keeps _) (brings_keeps _))))))))))
+
+module _ (s : FlatState) (n : ℕ) (t : FlatThread) (formed : IsWellFormed s) (here : slice_get s.threads n ≡ Some t) where
+  -- the thread goes on in any such state
+  goes_on_formed : (s' : FlatState) (u : FlatThread) → IsWellFormed s' → slice_get s'.threads n ≡ Some t → u.no ≡ t.no → u.space ≡ t.space → u.context.pc ≡ t.context.pc → length u.queue.items ≤ length t.queue.items → IsWellFormed (with_thread s' n u)
+  goes_on_formed s' u formed' there same_no same_space same_pc shorter =
+      let is = formed.threads.each n t here in
+      let queued = is.queued in
+      thread_formed s' n t u formed' there same_no same_space (rw same_pc is.aligned) (omega (arith, queued, shorter))
+
+  answered_formed : (s' : FlatState) (answer : ℕ) → IsWellFormed s' → slice_get s'.threads n ≡ Some t → IsWellFormed (with_thread s' n (answered t answer))
+  answered_formed s' answer formed' there = goes_on_formed s' (answered t answer) formed' there refl refl refl (omega arith)
+
+  made_formed : (d : Decl) (answer : ℕ) (rule : Option ℕ) → (rule ≡ None → broken_rule s d ≡ None) → slice_get (declared s d).threads n ≡ Some t → IsWellFormed (made s n t d answer rule)
+  made_formed d answer None fits there = answered_formed (declared s d) answer (declared_formed s d formed (fits refl)) there
+  made_formed d answer (Some rule) fits there = answered_formed s (refusal rule) formed here
+
+  later_rule : (test : Bool) (rule : ℕ) (later : Option ℕ) → breaks test rule later ≡ None → later ≡ None
+  later_rule true rule later e = absurd (cc)
+  later_rule false rule later e = e
+
+  mapped_formed : (vpn frame bits receiver flags : ℕ) → IsWellFormed (mapped s n t (mapping t vpn frame bits receiver) flags)
+  unfolding declared
+  mapped_formed vpn frame bits receiver flags =
+      made_formed (mapping t vpn frame bits receiver) 0 (rule_of_mapping s (mapping t vpn frame bits receiver) flags) (λ e. later_rule _ 4 _ e) here
+
+  unmapped_formed : (vpn : ℕ) → IsWellFormed (unmapped s n t vpn)
+  unmapped_formed vpn = by (is_some (row_of s.rows t.space vpn))
+    where
+      by : (b : Bool) → IsWellFormed (if b then with_thread (record s { rows = without t.space vpn s.rows }) n (answered t 0) else with_thread s n (answered t (refusal 1)))
+      by true = answered_formed (record s { rows = without t.space vpn s.rows }) 0 (without_formed s t.space vpn formed) here
+      by false = answered_formed s (refusal 1) formed here
+
+  spawned_formed : (pc a0 priority : ℕ) → IsWellFormed (spawned s n t (spawning s t pc a0 priority))
+  unfolding declared
+  spawned_formed pc a0 priority =
+      made_formed (spawning s t pc a0 priority) (length s.threads) (broken_rule s (spawning s t pc a0 priority)) (λ e. e) (get-append s.threads _ n t here)
+
+  granted_formed : (kernel group bits : ℕ) → IsWellFormed (granted s n t (granting kernel group bits) bits)
+  unfolding declared
+  granted_formed kernel group bits = by (is_first (slice_get s.spaces t.space.0))
+    where
+      by : (b : Bool) → IsWellFormed (if b then made s n t (granting kernel group bits) 0 (rule_of_granting s (granting kernel group bits) bits) else with_thread s n (answered t (refusal 1)))
+      by true = made_formed (granting kernel group bits) 0 (rule_of_granting s (granting kernel group bits) bits) (λ e. later_rule _ 4 _ e) here
+      by false = answered_formed s (refusal 1) formed here
+
+  completed_so_formed : (c : Completion) (effect : Effect) → KeepsCall t.context t.queue.items c → IsWellFormed (completed_so s n t c effect)
+  completed_so_formed c effects.Ready keeps = goes_on_formed s _ formed here refl refl keeps.pc keeps.shorter
+  completed_so_formed c (effects.Put byte) keeps = goes_on_formed s _ formed here refl refl keeps.pc keeps.shorter
+  completed_so_formed c (effects.Decimal number) keeps = goes_on_formed s _ formed here refl refl keeps.pc keeps.shorter
+  completed_so_formed c (effects.End reason) keeps = goes_on_formed s _ formed here refl refl refl (omega arith)
+  completed_so_formed c (effects.Map vpn frame flags receiver) keeps = mapped_formed vpn frame flags receiver flags
+  completed_so_formed c (effects.Unmap vpn) keeps = unmapped_formed vpn
+  completed_so_formed c (effects.Spawn pc a0 priority) keeps = spawned_formed pc a0 priority
+  completed_so_formed c (effects.Grant kernel group bits) keeps = granted_formed kernel group bits
+
+  complete_if_formed : (b : Bool) (u : FlatState) → complete_if b s n t ≡ Some u → IsWellFormed u
+  complete_if_formed true u e =
+      let c = completion_of t.no t.context t.queue.items in
+      subst IsWellFormed (same_Some _ u e) (completed_so_formed c c.effect (call_keeps t.no t.context t.queue.items))
+  complete_if_formed false u e = absurd (cc)
+
+-- a completion keeps a state well-formed
+pub completion_formed : (s : FlatState) (n : ℕ) (u : FlatState) → IsWellFormed s → after_completion s n ≡ Some u → IsWellFormed u
+unfolding after_completion
+completion_formed s n u formed e = by (slice_get s.threads n) refl e
+  where
+    by : (o : Option FlatThread) → slice_get s.threads n ≡ o → completion_for s n o ≡ Some u → IsWellFormed u
+    by None here e = absurd (cc)
+    by (Some t) here e = complete_if_formed s n t formed here (is_completable t) u e
+
+-- an event that fits keeps a state well-formed
+pub event_formed : (s : FlatState) (e : Event) (u : FlatState) → IsWellFormed s → after_event s e ≡ Some u → IsWellFormed u
+event_formed s (Declare d) u formed is = by (broken_rule s d) refl is
+  where
+    by : (rule : Option ℕ) → broken_rule s d ≡ rule → declared_unless rule s d ≡ Some u → IsWellFormed u
+    by None fits is = subst IsWellFormed (same_Some _ u is) (declared_formed s d formed fits)
+    by (Some rule) fits is = absurd (cc)
+event_formed s (Step thread) u formed is = step_formed s thread.0 u formed is
+event_formed s (Complete thread) u formed is = completion_formed s thread.0 u formed is
+
+-- so does each event
+pub applied_formed : (s : FlatState) (e : Event) → IsWellFormed s → IsWellFormed (applied s e)
+applied_formed s e formed = by (after_event s e) refl
+  where
+    by : (o : Option FlatState) → after_event s e ≡ o → IsWellFormed (unwrap_or o s)
+    by None is = formed
+    by (Some u) is = event_formed s e u formed is
+
+after_events_formed : (s : FlatState) (es : List Event) → IsWellFormed s → IsWellFormed (after_events s es)
+after_events_formed s [] formed = formed
+after_events_formed s (e ∷ es) formed = after_events_formed (applied s e) es (applied_formed s e formed)
+
+-- each state that events can reach is well-formed
+pub flat_formed : (es : List Event) → IsWellFormed (flat es)
+flat_formed es = after_events_formed nothing_declared es nothing_formed
