@@ -1,14 +1,12 @@
 //! Memory and rows as the threads of one space see them.
 
-ghost use Rattle.std.specs.Prelude.{◌≡◌, ◌<◌, Contains};
+ghost use Rattle.std.specs.Prelude.{◌≡◌, ◌<◌};
 ghost use Rattle.std.specs.Result.{result_ok};
-ghost use Rattle.phys_groups.specs.declared.rows.Row.{Row as RowLem};
-ghost use Rattle.phys_groups.specs.Memory.{HasFrame};
 ghost use Rattle.phys_groups.specs.Translation.{place_in as place_in_lem, translated};
 ghost use Rattle.flat_state.specs.Translation.{row_through, wants};
 ghost use Rattle.flat_state.specs.Pages.{pages_in};
 ghost use Rattle.flat_state.specs.Rest.{Rest, rest_of};
-ghost use Rattle.flat_machine.specs.Seen.{HasOneRowAPage};
+ghost use Rattle.flat_machine.specs.Seen.{IsMapped};
 
 use crate::reach::reach;
 use cache_ident::{SpaceNo, Vpn};
@@ -28,22 +26,18 @@ pub(crate) struct Mmu {
 }
 
 impl Model for Mmu {
-    ghost use Rattle.std.specs.Prelude.{Contains};
-    ghost use Rattle.phys_groups.specs.declared.rows.Row.{Row as RowLem};
-    ghost use Rattle.phys_groups.specs.Memory.{HasFrame};
-    ghost use Rattle.flat_machine.specs.Seen.{Seen, HasOneRowAPage};
+    ghost use Rattle.flat_machine.specs.Seen.{IsMapped, Seen};
 
     ghost Value = { Seen };
 
     ghost view = { λ m. record { memory = m.memory; rows = m.rows; rights = m.rights; space = m.space } };
 
-    ghost invariant = { λ m. ((row : RowLem) → Contains m.rows row → HasFrame m.memory row.frame) × HasOneRowAPage m.rows };
+    ghost invariant = { λ m. IsMapped m.memory m.rows };
 }
 
 impl Mmu {
     pub(crate) fn new(memory: Memory, rows: RowTable, rights: Rights, space: SpaceNo) -> Mmu
-        requires frames { (row : RowLem) → Contains rows row → HasFrame memory row.frame }
-        requires single { HasOneRowAPage rows }
+        requires { IsMapped memory rows }
         ensures { result ≡ record { memory = memory; rows = rows; rights = rights; space = space } }
     {
         Mmu {
@@ -56,7 +50,8 @@ impl Mmu {
 
     /// Memory and rows as the accesses left them.
     pub(crate) fn into_parts(self) -> (Memory, RowTable)
-        ensures { result ≡ (self.memory, self.rows) }
+        ensures parts { result ≡ (self.memory, self.rows) }
+        ensures mapped { IsMapped self.memory self.rows }
     {
         let Mmu { memory, rows, .. } = self;
         (memory, rows)

@@ -6,3 +6,5 @@ pub mod FormedParts
 pub mod StepKeeps
 pub mod FormedEvents
 pub mod WritingBack
+pub mod Found
+pub mod Keeping
