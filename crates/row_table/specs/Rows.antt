@@ -1,0 +1,24 @@
+-- The row of a page among the rows, and what a mark and a removal make of them.
+use Rattle.std.specs.Prelude.{◌≡◌, ℕ, ◌≤◌, Bool, true, false, not, ◌&&◌, ◌||◌, ◌==◌, if◌then◌else◌, List, filter, count_by}
+use Rattle.std.specs.List.{AllPairs}
+use Rattle.cache_ident.specs.declared.names.Frame.{Frame}
+use Rattle.cache_ident.specs.declared.names.SpaceNo.{SpaceNo}
+use Rattle.phys_groups.specs.declared.rows.Row.{Row}
+use Rattle.signal_pages.specs.Signals.{is_signal_row_of}
+
+-- the row is that of the page of the space
+abbrev pub is_row_of : SpaceNo → ℕ → Row → Bool
+is_row_of space vpn row = (row.space.0 == space.0) && (row.vpn.0 == vpn)
+
+-- a row once a step or a store has gone through the row of that page
+abbrev pub marked : SpaceNo → ℕ → Bool → Row → Row
+marked space vpn written row = if is_row_of space vpn row then record row { referenced = true; modified = row.modified || written } else row
+
+-- all rows but those of that page
+abbrev pub without : SpaceNo → ℕ → List Row → List Row
+without space vpn rows = filter (λ row. not (is_row_of space vpn row)) rows
+
+-- no page has two rows, and no frame more than four signal rows
+pub record IsProper (rows : List Row) : Type 0 where
+  pub one_row : AllPairs (λ a b. is_row_of a.space a.vpn.0 b ≡ false) rows
+  pub few_signal_rows : (frame : Frame) → count_by (is_signal_row_of frame) rows ≤ 4
