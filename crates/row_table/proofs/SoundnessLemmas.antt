@@ -1,9 +1,9 @@
 -- The rows and their indexes, as rows come, go and are marked.
-use Rattle.std.proofs.Common.{◌≡◌, ℕ, ◌+◌, ◌<◌, Bool, true, false, not, ◌||◌, if◌then◌else◌, List, [], ◌∷◌, ◌++◌, length, get_or, set, map, filter, count_by, is_some, Some, None, refl, sym, ap, ◌∙◌, inl, inr, subst, arith, length-append}
+use Rattle.std.proofs.Common.{◌≡◌, ℕ, ◌<◌, Bool, true, if◌then◌else◌, List, [], ◌∷◌, ◌++◌, length, get_or, set, map, filter, count_by, is_some, Some, None, sym, ap, ◌∙◌, inl, inr, arith}
 use Rattle.std.specs.List.{Contains, remove}
 use Rattle.std.proofs.lemmas.Bool.{cases_Bool}
 use Rattle.std.proofs.lemmas.List.{get_or_default, get_or-map, length-map}
-use Rattle.std.proofs.lemmas.List.Elements.{All-contains_itself, All-filter, filter_passes}
+use Rattle.std.proofs.lemmas.List.Elements.{All-contains_itself, All-filter}
 use Rattle.std.proofs.lemmas.List.Sums.{length-filter}
 use Rattle.cache_ident.specs.declared.names.Frame.{Frame}
 use Rattle.cache_ident.specs.declared.names.SpaceNo.{SpaceNo}
@@ -17,7 +17,7 @@ use Rattle.row_table.specs.Rows.{is_row_of, marked, without, IsProper}
 use Rattle.row_table.specs.Stamps.{is_of, key_of, AreBelow, IsAdded, IsIndexOf, IsPlaceOf, IsRemoved}
 use Rattle.row_table.specs.SignalPages.{is_page, other_pages, pages_in, IsListed, IsSignalIndexOf, IsUnlisted}
 use Rattle.row_table.specs.Soundness.{IsSound}
-use Rattle.row_table.proofs.OnlyOne.{NonePass, OnlyAt, at_place, filter-none, filter-only, find-only, find-none, map-none, map-only, none_from_find, none_contained, only_contained}
+use Rattle.row_table.proofs.OnlyOne.{NonePass, OnlyAt, at_place, filter-none, filter-only, find-only, map-none, map-only, none_from_find, none_contained, only_contained}
 use Rattle.row_table.proofs.PageLemmas.{is_of-own, only_from_place}
 use Rattle.row_table.proofs.StampLemmas.{IsIndexOf-map, IsIndexOf-push, IsIndexOf-remove}
 use Rattle.row_table.proofs.SignalLemmas.{filter-remove, listed-filter, listed-map, listed-push}

@@ -1,5 +1,5 @@
 -- The stamps of pages, as rows come, go and change.
-use Rattle.std.proofs.Common.{◌≡◌, ℕ, zero, suc, ◌+◌, ◌<◌, ◌≤◌, Bool, true, false, cond, List, [], ◌∷◌, ◌++◌, length, get_or, take, map, Option, Some, None, Result, Err, refl, sym, ap, ◌∙◌, inl, inr, subst, arith, length-append}
+use Rattle.std.proofs.Common.{◌≡◌, ℕ, zero, suc, ◌+◌, ◌<◌, ◌≤◌, Bool, true, false, cond, List, [], ◌∷◌, ◌++◌, length, get_or, take, map, Option, Some, None, Result, Err, refl, sym, ap, ◌∙◌, inl, inr, subst, arith}
 use Rattle.std.specs.List.{AllPairs, Contains, remove}
 use Rattle.std.specs.BTreeMap.{is_at}
 use Rattle.std.proofs.lemmas.Bool.{both_ways, cases_Bool, cases_lt}
@@ -10,15 +10,14 @@ use Rattle.std.proofs.lemmas.List.Quantifiers.{all_pairs_push, all_pairs_remove}
 use Rattle.std.proofs.lemmas.Option.{none-some, same_Some}
 use Rattle.std.specs.List.Sorted.{IsBinarySearchResult}
 use Rattle.std.specs.Ordering.{nat_cmp}
-use Rattle.std.specs.Result.{MatchResult}
 use Rattle.std.proofs.lemmas.List.Sorted.{searched}
 use Rattle.std.proofs.lemmas.Result.{MatchResult-at_err}
 use Rattle.phys_groups.specs.declared.rows.Row.{Row}
 use Rattle.row_table.specs.declared.index.PageKey.{PageKey}
 use Rattle.row_table.specs.declared.index.PageIndex.{PageIndex}
 use Rattle.row_table.specs.Rows.{is_row_of}
-use Rattle.row_table.specs.Stamps.{is_of, key_of, page_cmp, stamp_in, stamp_of, AreBelow, IsAdded, IsIndexOf, IsPlaceIn, IsPlaceOf, IsRemoved, IsSame, IsSearchable}
-use Rattle.row_table.proofs.OnlyOne.{NonePass, OnlyAt, none_agree, none_left}
+use Rattle.row_table.specs.Stamps.{is_of, key_of, page_cmp, stamp_of, AreBelow, IsAdded, IsIndexOf, IsPlaceIn, IsPlaceOf, IsRemoved, IsSame, IsSearchable}
+use Rattle.row_table.proofs.OnlyOne.{NonePass, none_agree, none_left}
 use Rattle.row_table.proofs.PageLemmas.{is_of-own, is_of-row, is_of-same, none_before, only_from_place}
 
 module _ (p : Row → Bool) where

@@ -1,4 +1,4 @@
-use Rattle.std.proofs.Common.{sym, refl}
+use Rattle.std.proofs.Common.{sym}
 use Rattle.row_table.proofs.StampLemmas.{is_not_absent}
 use Rattle.row_table.proofs.index.PageIndex.place.Goals as goal
 

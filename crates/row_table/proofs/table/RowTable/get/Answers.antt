@@ -1,6 +1,4 @@
-use Rattle.std.proofs.Common.{◌≡◌, ◌∙◌, List, Some, sym, subst}
-use Rattle.phys_groups.specs.declared.rows.Row.{Row}
-use Rattle.phys_groups.specs.Translation.{row_of}
+use Rattle.std.proofs.Common.{sym}
 use Rattle.row_table.specs.declared.index.PageKey.{PageKey}
 use Rattle.row_table.specs.Stamps.{IsPlaceOf}
 use Rattle.row_table.proofs.SoundnessLemmas.{row_of-place}

@@ -1,4 +1,4 @@
-use Rattle.std.proofs.Common.{◌≡◌, ◌∙◌, List, map, ap, subst, sym}
+use Rattle.std.proofs.Common.{◌∙◌, List, map, ap, subst, sym}
 use Rattle.phys_groups.specs.declared.rows.Row.{Row}
 use Rattle.row_table.specs.declared.index.PageKey.{PageKey}
 use Rattle.row_table.specs.Rows.{marked}

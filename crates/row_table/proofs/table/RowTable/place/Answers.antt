@@ -1,4 +1,4 @@
-use Rattle.std.proofs.Common.{None, ◌≡◌, ◌∙◌, sym}
+use Rattle.std.proofs.Common.{◌∙◌, sym}
 use Rattle.std.proofs.lemmas.Option.{IfSome_then}
 use Rattle.row_table.specs.Stamps.{is_of}
 use Rattle.row_table.proofs.OnlyOne.{IfNone_then, find-none}

@@ -1,7 +1,5 @@
-use Rattle.std.proofs.Common.{◌≡◌, ◌∙◌, ◌<◌, ◌∷◌, ◌++◌, [], List, None, true, length, count_by, is_some, ap, subst, sym, arith}
-use Rattle.cache_ident.specs.declared.names.Frame.{Frame}
+use Rattle.std.proofs.Common.{◌∙◌, ◌<◌, ◌∷◌, ◌++◌, [], List, length, count_by, ap, subst, sym, arith}
 use Rattle.phys_groups.specs.declared.rows.Row.{Row}
-use Rattle.phys_groups.specs.Translation.{row_of}
 use Rattle.signal_pages.specs.Signals.{is_signal_row_of}
 use Rattle.row_table.specs.declared.index.PageKey.{PageKey}
 use Rattle.row_table.specs.Stamps.{is_of, key_of, IsAdded, IsIndexOf}

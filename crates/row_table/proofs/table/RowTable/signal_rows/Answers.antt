@@ -1,4 +1,4 @@
-use Rattle.std.proofs.Common.{◌≡◌, ◌∙◌, ◌<◌, ◌∷◌, ◌++◌, [], List, length, get_or, filter, take, ap, sym, arith}
+use Rattle.std.proofs.Common.{◌∙◌, ◌<◌, ◌∷◌, ◌++◌, [], List, length, get_or, filter, take, ap, sym, arith}
 use Rattle.std.proofs.lemmas.List.{length-take, take_all, take_more}
 use Rattle.std.proofs.lemmas.List.Sums.{length-filter}
 use Rattle.phys_groups.specs.declared.rows.Row.{Row}
