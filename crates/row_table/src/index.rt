@@ -1,11 +1,11 @@
 //! The index of rows by page.
 
-ghost use Rattle.std.specs.Prelude.{◌≡◌, ◌+◌, ◌<◌, [], ◌∷◌, ◌++◌, List, length, IfOk, IfSome, IfNone, OnOk, OnErr, None, vec_len, vec_capacity, false};
+ghost use Rattle.std.specs.Prelude.{◌≡◌, ◌+◌, ◌<◌, [], ◌∷◌, ◌++◌, length, IfOk, IfSome, IfNone, OnOk, OnErr, None, vec_len, vec_capacity, false};
 ghost use Rattle.std.specs.List.{AllPairs};
 ghost use Rattle.row_table.specs.Rows.{is_row_of};
 ghost use Rattle.row_table.specs.Stamps.{key_of, stamp_in, AreBelow, IsAdded, IsIndexOf, IsPlaceIn, IsRemoved, IsSame, IsSearchable};
 
-use cache_ident::NoMemory;
+use cache_ident::{NoMemory, SpaceNo, Vpn};
 use phys_groups::Row;
 use std::alloc::Global;
 use std::collections::BTreeMap;
@@ -18,14 +18,20 @@ pub(crate) struct PageKey {
 }
 
 impl PageKey {
+    pub(crate) fn new(space: SpaceNo, vpn: Vpn) -> PageKey
+        ensures { result ≡ record { space = space.0; vpn = vpn.0 } }
+    {
+        PageKey {
+            space: space.0,
+            vpn: vpn.0,
+        }
+    }
+
     /// The page of a row.
     pub(crate) fn of(row: &Row) -> PageKey
         ensures { result ≡ key_of row.now }
     {
-        PageKey {
-            space: row.space.0,
-            vpn: row.vpn.0,
-        }
+        PageKey::new(row.space, row.vpn)
     }
 }
 

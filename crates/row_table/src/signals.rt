@@ -21,7 +21,7 @@ pub(crate) struct SignalIndex {
 impl SignalIndex {
     /// The index of no rows. It takes no memory.
     pub(crate) fn new(alloc: Global) -> SignalIndex
-        ensures { (frame : Frame) → pages_in result frame ≡ [] }
+        ensures { IsSignalIndexOf [] result }
     {
         SignalIndex {
             pages: BTreeMap::new(alloc),

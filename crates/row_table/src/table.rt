@@ -66,7 +66,7 @@ impl RowTable {
     pub fn get(&self, space: SpaceNo, vpn: Vpn) -> Option<&Row>
         ensures { option_copied result ≡ row_of self.now space vpn.0 }
     {
-        let place = self.place(page(space, vpn))?;
+        let place = self.place(PageKey::new(space, vpn))?;
         Some(&self.rows[place])
     }
 
@@ -90,7 +90,7 @@ impl RowTable {
     pub fn mark(&mut self, space: SpaceNo, vpn: Vpn, written: bool)
         ensures { self.new ≡ map (marked space vpn.0 written) self.old }
     {
-        if let Some(place) = self.place(page(space, vpn)) {
+        if let Some(place) = self.place(PageKey::new(space, vpn)) {
             let row = &mut self.rows[place];
             row.referenced = true;
             row.modified |= written;
@@ -115,13 +115,14 @@ impl RowTable {
     }
 
     /// Takes out the row of a page, and says whether it had one. Its time is logarithmic in the rows,
-    /// but for moving the rows behind it up by one.
+    /// but for moving the rows behind it up by one. These indexes take no memory to lose a row; the
+    /// answer leaves room for some that do.
     pub fn remove(&mut self, space: SpaceNo, vpn: Vpn) -> Result<bool, NoMemory>
         ensures found { IfOk result (λ found. found ≡ is_some (row_of self.old space vpn.0)) }
         ensures ok { OnOk result (self.new ≡ without space vpn.0 self.old) }
         ensures err { OnErr result (self.new ≡ self.old) }
     {
-        let page = page(space, vpn);
+        let page = PageKey::new(space, vpn);
         match self.place(page) {
             Some(place) => {
                 let row = self.rows.remove(place);
@@ -139,16 +140,6 @@ impl RowTable {
         ensures absent { IfNone result (row_of self.now (record { 0 = page.space }) page.vpn ≡ None) }
     {
         self.index.place(page)
-    }
-}
-
-// A page of a space.
-fn page(space: SpaceNo, vpn: Vpn) -> PageKey
-    ensures { result ≡ record { space = space.0; vpn = vpn.0 } }
-{
-    PageKey {
-        space: space.0,
-        vpn: vpn.0,
     }
 }
 

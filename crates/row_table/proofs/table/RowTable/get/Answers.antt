@@ -8,5 +8,5 @@ pub returns : goal.returns
 returns c =
     let rows = c.self.inside.rows.items in
     let page : PageKey = record { space = c.args.space.0; vpn = c.args.vpn.0 } in
-    let at : IsPlaceOf rows page c.in_ok-place.place = rw (c.self.view_is, ← c.page.ensures) c.in_ok-place.ensures.found in
+    let at : IsPlaceOf rows page c.in_ok-place.place = rw (c.self.view_is, ← c.new.ensures) c.in_ok-place.ensures.found in
     rw (← c.self.view_is) (sym (row_of-place rows page c.in_ok-place.place c.index.result.now c.self.invariant.proper at c.index.ensures))
