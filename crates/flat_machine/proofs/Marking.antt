@@ -5,6 +5,7 @@ use Rattle.std.proofs.Math.Path.{fun_ext}
 use Rattle.std.proofs.lemmas.Bool.{and_parts, cases_Bool}
 use Rattle.cache_ident.specs.declared.names.Frame.{Frame}
 use Rattle.cache_ident.specs.declared.names.SpaceNo.{SpaceNo}
+use Rattle.cache_ident.specs.declared.names.Vpn.{Vpn}
 use Rattle.phys_groups.specs.declared.rows.Row.{Row}
 use Rattle.phys_groups.specs.Memory.{page_at}
 use Rattle.phys_groups.specs.Translation.{is_row_of}
@@ -14,12 +15,7 @@ use Rattle.rv32_exec.specs.Pages.{Page, mark, mark_page}
 use Rattle.flat_state.specs.Pages.{is_in, page_of, pages_in}
 use Rattle.flat_state.specs.Rest.{is_mapped, rest_of, unmapped_page, unmarked}
 use Rattle.row_table.specs.Rows.{marked}
-
--- a write marks the page as written too
-pub writes : Access → Bool
-writes Fetch = false
-writes Read = false
-writes Write = true
+use Rattle.flat_machine.specs.Seen.{writes}
 
 or_false : (b : Bool) → (b || false) ≡ b
 or_false false = refl
@@ -30,11 +26,11 @@ or_true false = refl
 or_true true = refl
 
 -- an element more, in both lists or in neither
-both : {X Y : Type 0} {f : X → Y} {h : Y → Y} {x' x : X} {xs' xs : List X} (a b : Bool) → a ≡ true → b ≡ true → f x' ≡ h (f x) → map f xs' ≡ map h (map f xs) → map f (cond a (x' ∷ xs') xs') ≡ map h (map f (cond b (x ∷ xs) xs))
-both a b yes-a yes-b first rest = rw (yes-a, yes-b, first, rest) refl
+both : {X Y : Type 0} (f : X → Y) (h : Y → Y) (x' x : X) (xs' xs : List X) (a b : Bool) → a ≡ true → b ≡ true → f x' ≡ h (f x) → map f xs' ≡ map h (map f xs) → map f (cond a (x' ∷ xs') xs') ≡ map h (map f (cond b (x ∷ xs) xs))
+both f h x' x xs' xs a b yes-a yes-b first rest = rw (yes-a, yes-b, first, rest) refl
 
-neither : {X Y : Type 0} {f : X → Y} {h : Y → Y} {x' x : X} {xs' xs : List X} (a b : Bool) → a ≡ false → b ≡ false → map f xs' ≡ map h (map f xs) → map f (cond a (x' ∷ xs') xs') ≡ map h (map f (cond b (x ∷ xs) xs))
-neither a b no-a no-b rest = rw (no-a, no-b, rest) refl
+neither : {X Y : Type 0} (f : X → Y) (h : Y → Y) (x' x : X) (xs' xs : List X) (a b : Bool) → a ≡ false → b ≡ false → map f xs' ≡ map h (map f xs) → map f (cond a (x' ∷ xs') xs') ≡ map h (map f (cond b (x ∷ xs) xs))
+neither f h x' x xs' xs a b no-a no-b rest = rw (no-a, no-b, rest) refl
 
 module _ (space : SpaceNo) (n : ℕ) where
   marked-row : (w : Bool) (row : Row) → is_row_of space n row ≡ true → marked space n w row ≡ record row { referenced = true; modified = row.modified || w }
@@ -64,8 +60,8 @@ module _ (space : SpaceNo) (n : ℕ) where
     pub mark-pages : (access : Access) (rows : List Row) → pages_in rights memory (map (marked space n (writes access)) rows) space ≡ map (mark_page n access) (pages_in rights memory rows space)
     mark-pages access [] = refl
     mark-pages access (row ∷ rows) = elim (cases_Bool (is_in space row)) [
-      | inl inside ↦ both (is_in space (marked space n (writes access) row)) (is_in space row) (marked-space (writes access) row ∙ inside) inside (mark-page access row inside) (mark-pages access rows)
-      | inr beside ↦ neither (is_in space (marked space n (writes access) row)) (is_in space row) (marked-space (writes access) row ∙ beside) beside (mark-pages access rows)
+      | inl inside ↦ both (page_of rights memory) (mark_page n access) (marked space n (writes access) row) row (filter (is_in space) (map (marked space n (writes access)) rows)) (filter (is_in space) rows) (is_in space (marked space n (writes access) row)) (is_in space row) (marked-space (writes access) row ∙ inside) inside (mark-page access row inside) (mark-pages access rows)
+      | inr beside ↦ neither (page_of rights memory) (mark_page n access) (marked space n (writes access) row) row (filter (is_in space) (map (marked space n (writes access)) rows)) (filter (is_in space) rows) (is_in space (marked space n (writes access) row)) (is_in space row) (marked-space (writes access) row ∙ beside) beside (mark-pages access rows)
     ]
 
   unmarked-marked : (w : Bool) (row : Row) → unmarked space (marked space n w row) ≡ unmarked space row
@@ -80,8 +76,20 @@ module _ (space : SpaceNo) (n : ℕ) where
   unmarked-map w [] = refl
   unmarked-map w (row ∷ rows) = ap₂ (λ (r : Row) (rs : List Row). r ∷ rs) (unmarked-marked w row) (unmarked-map w rows)
 
-  marked-frame : (w : Bool) (row : Row) → (marked space n w row).frame ≡ row.frame
+  pub marked-frame : (w : Bool) (row : Row) → (marked space n w row).frame ≡ row.frame
   marked-frame w row = elim (cases_Bool (is_row_of space n row)) [ inl own ↦ ap (λ (r : Row). r.frame) (marked-row w row own) | inr other ↦ ap (λ (r : Row). r.frame) (marked-other w row other) ]
+
+  marked-page : (w : Bool) (row : Row) → ((marked space n w row).space ≡ row.space) × ((marked space n w row).vpn ≡ row.vpn)
+  marked-page w row = elim (cases_Bool (is_row_of space n row)) [
+    | inl own ↦ (ap (λ (r : Row). r.space) (marked-row w row own), ap (λ (r : Row). r.vpn) (marked-row w row own))
+    | inr other ↦ (ap (λ (r : Row). r.space) (marked-other w row other), ap (λ (r : Row). r.vpn) (marked-other w row other))
+  ]
+
+  -- marks leave each row at its page
+  pub marked-same : (w : Bool) (a b : Row) → is_row_of (marked space n w a).space (marked space n w a).vpn.0 (marked space n w b) ≡ is_row_of a.space a.vpn.0 b
+  marked-same w a b =
+      ap₂ (λ (s : SpaceNo) (v : Vpn). is_row_of s v.0 (marked space n w b)) (marked-page w a).0 (marked-page w a).1
+      ∙ ap₂ (λ (s : SpaceNo) (v : Vpn). eqb s.0 a.space.0 && eqb v.0 a.vpn.0) (marked-page w b).0 (marked-page w b).1
 
   pub mapped-marked : (w : Bool) (rows : List Row) (f : Frame) → is_mapped (map (marked space n w) rows) space f ≡ is_mapped rows space f
   mapped-marked w [] f = refl
