@@ -1,11 +1,11 @@
 -- Which signals the next step of a thread sends, who holds it back, and what the receivers get.
-use Rattle.std.specs.Prelude.{ℕ, ◌%◌, Bool, true, false, not, ◌&&◌, if◌then◌else◌, is_some, List, [], ◌∷◌, ◌++◌, map, length, Option, Some, None, slice_get, slice_set}
+use Rattle.std.specs.Prelude.{◌≡◌, ℕ, ◌+◌, ◌%◌, ◌<◌, ◌≤◌, Bool, true, false, not, ◌&&◌, if◌then◌else◌, is_some, List, [], ◌∷◌, ◌++◌, map, length, Option, Some, None, slice_get, slice_set}
 use Rattle.std.specs.Option.{option_map, option_and_then}
 use Rattle.cache_ident.specs.declared.names.Frame.{Frame}
 use Rattle.cache_ident.specs.declared.names.ThreadNo.{ThreadNo}
 use Rattle.cache_ident.specs.declared.names.Vpn.{Vpn}
 use Rattle.phys_groups.specs.Translation.{Translated, through, no_row, no_flag, no_right}
-use Rattle.signal_pages.specs.Signals.{is_signalling, address_of, receivers_in, room_in}
+use Rattle.signal_pages.specs.Signals.{is_signalling, address_of, receivers_in, times_in, room_in}
 use Rattle.rv32_isa.specs.Table.{instruction_of}
 use Rattle.rv32_exec.specs.declared.contexts.Context.{Context}
 use Rattle.rv32_exec.specs.declared.statuses.Access.TheVariants.{Write}
@@ -71,6 +71,13 @@ full_among threads to = room_in to (map (queued threads) to) (map (has_ended thr
 -- the first receiver that has no room for what the thread's next step sends
 abbrev pub full_receiver : FlatState → FlatThread → Option ThreadNo
 full_receiver s t = full_among s.threads (map (λ receiver. receiver.0) (receivers_for s (next_signal s t)))
+
+-- each receiver is a thread with room for what it gets, and sees the signal through a page
+abbrev pub HasRoom : List FlatThread → List (ThreadNo × Vpn) → Type 0
+HasRoom threads [] = Unit {0}
+HasRoom threads ((thread, vpn) ∷ rest) =
+    (thread.0 < length threads) × (vpn.0 < 1048576)
+    × (has_ended threads thread ≡ false → queued threads thread + times_in (thread ∷ map (λ r. r.0) rest) thread ≤ 64) × HasRoom threads rest
 
 -- a ready thread is held where a receiver has no room, and else it is runnable
 abbrev pub is_held : FlatState → FlatThread → Bool
