@@ -1,5 +1,5 @@
 -- A change of one part keeps a state well-formed.
-use Rattle.std.proofs.Common.{◌≡◌, ℕ, zero, suc, ◌+◌, ◌*◌, ◌%◌, ◌<◌, ◌≤◌, Bool, true, false, not, cond, List, [], ◌∷◌, ◌++◌, map, length, set, Option, Some, None, slice_get, Contains, filter, count_by, refl, ap, sym, ◌∙◌, subst, ◌⊎◌, inl, inr, arith, length-append, length-set}
+use Rattle.std.proofs.Common.{◌≡◌, ℕ, zero, suc, ◌+◌, ◌*◌, ◌%◌, ◌<◌, ◌≤◌, Bool, true, false, not, cond, List, [], ◌∷◌, ◌++◌, map, length, set, Option, Some, None, slice_get, filter, count_by, refl, ap, sym, ◌∙◌, subst, inl, inr, arith, length-set}
 use Rattle.std.specs.Prelude.{◌==◌, ◌&&◌, ◌||◌, nat_lt, nat_le, is_some}
 use Rattle.std.proofs.lemmas.List.{length-map, length_push, length-replicate}
 use Rattle.std.proofs.lemmas.Bool.{leb-true, leb-false, ltb-true, ltb-false, not-false, or_parts, cases_Bool, cases_eq, eqb-true, eq-eqb, ne_eqb, and_parts, and_from, false≢true}
@@ -24,7 +24,7 @@ use Rattle.flat_state.specs.declared.records.FlatThread.{FlatThread}
 use Rattle.flat_state.specs.State.{FlatState, nothing_declared, groups_of, with_thread, is_ended}
 use Rattle.flat_state.specs.Declaration.{agree, is_receiver_in, thread_is_in, caps_of, locks_granted, breaks, may_lock_kernels, leaves_room, has_no_flag, has_receiver, has_frame, has_four, rule_of_first, rule_of_other, rule_of_machine, rule_by_machine, broken_rule, new_kernel, with_right, new_thread, new_row, declared}
 use Rattle.flat_state.specs.Signals.{HasRoom, has_ended, queued, ended_by, queued_by, with_address, sent_to, sent}
-use Rattle.flat_state.specs.WellFormed.{IsSized, AreKernels, AreSpaces, IsThread, AreThreads, IsRow, AreRows, IsWellFormed}
+use Rattle.flat_state.specs.WellFormed.{AreKernels, AreSpaces, IsThread, AreThreads, IsRow, AreRows, IsWellFormed}
 use Rattle.flat_state.proofs.Places.{Contains-from_get, get_from_Contains, set_cases, get-set_same, get-set_other, get_from_filter, get_from_map, count_by-filter, count_by-map, count_by-cons, sum_by-set_same, push_cases, get-append, fails_if_not_found}
 
 -- before any declaration nothing is there
@@ -105,6 +105,7 @@ module _ (spaces : List KernelNo) (threads : List FlatThread) (n : ℕ) (t u : F
     where
       some_same : (a b : FlatThread) → Some a ≡ Some b → a ≡ b
       some_same a b e = cc
+
       same_thread : (k : ℕ) (v : FlatThread) → slice_get threads k ≡ Some v → k ≡ n → t ≡ v
       same_thread k v there same = some_same t v (sym here ∙ ap (slice_get threads) (sym same) ∙ there)
 
@@ -113,11 +114,11 @@ module _ (spaces : List KernelNo) (threads : List FlatThread) (n : ℕ) (t u : F
     few = rw (length-set threads n u) are.few;
     each = λ k v there. elim (set_cases threads n k u v there) [
       | inl at ↦ subst (λ (w : FlatThread). IsThread spaces k w) at.1 (rw at.0 (record {
-          number = ap (λ (no : ThreadNo). no.0) same_no ∙ (are.each n t here).number;
-          space = rw same_space (are.each n t here).space;
-          aligned = aligned;
-          queued = queued;
-        }))
+        number = ap (λ (no : ThreadNo). no.0) same_no ∙ (are.each n t here).number;
+        space = rw same_space (are.each n t here).space;
+        aligned = aligned;
+        queued = queued;
+      }))
       | inr other ↦ are.each k v other
     ];
   }
@@ -290,7 +291,7 @@ record IsSentOne (spaces : List KernelNo) (before after : List FlatThread) (to :
   keep : KeepSpaces before after
   room : IsRoomFor after to
 
-times_in-le : (a : ThreadNo) (to : List ThreadNo) (b : ThreadNo) → times_in to b ≤ times_in (a ∷ to) b
+pub times_in-le : (a : ThreadNo) (to : List ThreadNo) (b : ThreadNo) → times_in to b ≤ times_in (a ∷ to) b
 times_in-le a to b = omega (arith, times_in-cons a to b)
 
 less_room : (threads : List FlatThread) (a : ThreadNo) (to : List ThreadNo) → IsRoomFor threads (a ∷ to) → IsRoomFor threads to
@@ -417,11 +418,11 @@ kernel_formed s n limits formed e =
       kernels = record {
         few = let lt = leb-false 1024 (length s.kernels) few.0 in omega (arith, lt, more);
         locks = λ some. (
-            rw (sum_by_push (λ (k : FlatKernel). k.limits.kernels) s.kernels (new_kernel limits)) room.0,
-            rw (sum_by_push (λ (k : FlatKernel). k.limits.spaces) s.kernels (new_kernel limits)) room.1,
-            rw (sum_by_push (λ (k : FlatKernel). k.limits.threads) s.kernels (new_kernel limits)) room.2,
-            rw (sum_by_push (λ (k : FlatKernel). k.limits.mappings) s.kernels (new_kernel limits)) room.3
-          );
+          rw (sum_by_push (λ (k : FlatKernel). k.limits.kernels) s.kernels (new_kernel limits)) room.0,
+          rw (sum_by_push (λ (k : FlatKernel). k.limits.spaces) s.kernels (new_kernel limits)) room.1,
+          rw (sum_by_push (λ (k : FlatKernel). k.limits.threads) s.kernels (new_kernel limits)) room.2,
+          rw (sum_by_push (λ (k : FlatKernel). k.limits.mappings) s.kernels (new_kernel limits)) room.3,
+        );
       };
       spaces = more_kernels s.kernels (s.kernels ++ new_kernel limits ∷ []) s.spaces (omega (arith, more)) formed.spaces;
       threads = formed.threads;
@@ -445,11 +446,13 @@ module _ (machine : Option Machine) (kernels : List FlatKernel) (kernel group : 
   with_right_formed None here = (are, refl)
   with_right_formed (Some k) here =
       let u : FlatKernel = record k { rights = set k.rights group right } in
-      let same : length (set kernels kernel u) ≡ length kernels = length-set kernels kernel u in
-      (record {
-        few = rw same are.few;
-        locks = λ some. subst (λ (c : Caps). (c.kernels + 5 ≤ (caps_of machine).kernels) × (c.spaces + 5 ≤ (caps_of machine).spaces) × (c.threads + 5 ≤ (caps_of machine).threads) × (c.mappings + 6 ≤ (caps_of machine).mappings)) (sym (same_locks k u here refl)) (are.locks (omega (arith, same, some)));
-      }, same)
+      let same : length (set kernels kernel u) ≡ length kernels = length-set kernels kernel u in (
+        record {
+          few = rw same are.few;
+          locks = λ some. subst (λ (c : Caps). (c.kernels + 5 ≤ (caps_of machine).kernels) × (c.spaces + 5 ≤ (caps_of machine).spaces) × (c.threads + 5 ≤ (caps_of machine).threads) × (c.mappings + 6 ≤ (caps_of machine).mappings)) (sym (same_locks k u here refl)) (are.locks (omega (arith, same, some)));
+        },
+        same,
+      )
 
 pub right_formed : (s : FlatState) (kernel : KernelNo) (group : ℕ) (read write : Bool) → IsWellFormed s → broken_rule s (decls.Right kernel group read write) ≡ None → IsWellFormed (declared s (decls.Right kernel group read write))
 unfolding broken_rule declared
@@ -521,11 +524,11 @@ thread_declared_formed s n space pc priority a0 a1 formed e =
       each = λ k t there. elim (push_cases s.threads new t k there) [
         | inl before ↦ formed.threads.each k t before
         | inr last ↦ subst (λ (u : FlatThread). IsThread s.spaces k u) last.1 (record {
-            number = eqb-true n.0 (length s.threads) (not-false _ next.0) ∙ sym last.0;
-            space = leb-false (length s.spaces) space.0 owned.0;
-            aligned = eqb-true (pc % 4) 0 (not-false _ aligned);
-            queued = omega arith;
-          })
+          number = eqb-true n.0 (length s.threads) (not-false _ next.0) ∙ sym last.0;
+          space = leb-false (length s.spaces) space.0 owned.0;
+          aligned = eqb-true (pc % 4) 0 (not-false _ aligned);
+          queued = omega arith;
+        })
       ];
     })
     (record { kept = λ k t there. (t, get-append s.threads (new ∷ []) k t there, refl) })
@@ -619,6 +622,7 @@ row_formed s space vpn frame flags receiver formed e =
     none_from : (o : Option Row) → is_some o ≡ false → o ≡ None
     none_from None e = refl
     none_from (Some row) e = absurd (cc)
+
     and_second : (a b : Bool) → a ≡ true → (a && b) ≡ false → b ≡ false
     and_second true b is e = e
     and_second false b is e = absurd (cc)

@@ -1,11 +1,10 @@
 -- What the completion of a thread's call makes of the machine.
-use Rattle.std.specs.Prelude.{ℕ, ◌+◌, ◌-◌, ◌/◌, ◌%◌, ◌^◌, Bool, true, false, not, ◌&&◌, ◌||◌, ◌==◌, nat_lt, is_some, if◌then◌else◌, List, [], ◌∷◌, ◌++◌, length, Option, Some, None, slice_get}
+use Rattle.std.specs.Prelude.{ℕ, ◌-◌, ◌/◌, ◌%◌, ◌^◌, Bool, true, false, not, ◌&&◌, ◌||◌, ◌==◌, nat_lt, is_some, if◌then◌else◌, [], ◌∷◌, ◌++◌, length, Option, Some, None, slice_get}
 use Rattle.std.specs.Fmt.{decimal}
 use Rattle.cache_ident.specs.declared.names.KernelNo.{KernelNo}
 use Rattle.cache_ident.specs.declared.names.ThreadNo.{ThreadNo}
 use Rattle.phys_groups.specs.declared.rows.Flags.{Flags}
 use Rattle.phys_groups.specs.Translation.{row_of, without}
-use Rattle.rv32_exec.specs.declared.statuses.Reason.{Reason}
 use Rattle.rv32_exec.specs.declared.statuses.Status.TheVariants.{Ready, Ended}
 use Rattle.fault_forward.specs.declared.effects.Effect.{Effect}
 use Rattle.fault_forward.specs.declared.effects.Effect.TheVariants as effects

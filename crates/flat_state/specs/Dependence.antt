@@ -1,9 +1,7 @@
 -- What a descriptor depends on, and who owns it.
-use Rattle.std.specs.Prelude.{ℕ, Bool, ◌&&◌, nat_lt, if◌then◌else◌, List, [], ◌∷◌, ◌++◌, length, map, filter, Contains, Option, Some, None, option_to_list, slice_get}
+use Rattle.std.specs.Prelude.{◌&&◌, nat_lt, if◌then◌else◌, List, [], ◌∷◌, ◌++◌, length, map, filter, Contains, Option, Some, None, option_to_list, slice_get}
 use Rattle.std.specs.Option.{option_map}
 use Rattle.cache_ident.specs.declared.names.KernelNo.{KernelNo}
-use Rattle.cache_ident.specs.declared.names.SpaceNo.{SpaceNo}
-use Rattle.cache_ident.specs.declared.names.ThreadNo.{ThreadNo}
 use Rattle.cache_ident.specs.declared.names.Name.{Name}
 use Rattle.cache_ident.specs.declared.names.Name.TheVariants.{Kernel, Space, Thread, Mapping}
 use Rattle.phys_groups.specs.declared.rows.Row.{Row}

@@ -1,5 +1,5 @@
 -- The machine with unlimited tables, as plain lists in declared order.
-use Rattle.std.specs.Prelude.{ℕ, Bool, true, false, List, [], Option, Some, None, slice_get, slice_set}
+use Rattle.std.specs.Prelude.{ℕ, Bool, true, false, List, [], Option, Some, None, slice_set}
 use Rattle.cache_ident.specs.declared.names.KernelNo.{KernelNo}
 use Rattle.phys_groups.specs.declared.rows.Row.{Row}
 use Rattle.rv32_exec.specs.declared.statuses.Status.{Status}

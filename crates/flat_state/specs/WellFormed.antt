@@ -1,6 +1,5 @@
 -- What holds of every state that events can reach.
-use Rattle.std.specs.Prelude.{◌≡◌, ℕ, ◌+◌, ◌*◌, ◌%◌, ◌<◌, ◌≤◌, Bool, true, is_some, List, length, count_by, Contains, Option, Some, None, slice_get}
-use Rattle.cache_ident.specs.declared.names.Caps.{Caps}
+use Rattle.std.specs.Prelude.{◌≡◌, ℕ, ◌+◌, ◌*◌, ◌%◌, ◌<◌, ◌≤◌, true, is_some, List, length, count_by, Contains, Option, Some, slice_get}
 use Rattle.cache_ident.specs.declared.names.Frame.{Frame}
 use Rattle.cache_ident.specs.declared.names.KernelNo.{KernelNo}
 use Rattle.phys_groups.specs.declared.rows.Row.{Row}
