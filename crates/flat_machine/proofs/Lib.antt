@@ -1,1 +1,2 @@
 pub mod DeclareSound
+pub mod CallKeeps
