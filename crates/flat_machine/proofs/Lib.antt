@@ -1,2 +1,3 @@
 pub mod DeclareSound
 pub mod CallKeeps
+pub mod CallSound
