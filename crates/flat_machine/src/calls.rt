@@ -1,6 +1,6 @@
 //! The completion of a thread's call.
 
-ghost use Rattle.std.specs.Prelude.{◌≡◌, ◌<◌, ◌++◌, true, IfOk, IfErr, OnOk, OnErr, length, unwrap_or};
+ghost use Rattle.std.specs.Prelude.{◌≡◌, ◌<◌, ◌==◌, ◌||◌, ◌++◌, true, not, nat_lt, IfOk, IfErr, OnOk, OnErr, length, unwrap_or};
 ghost use Rattle.std.specs.Fmt.{decimal};
 ghost use Rattle.rv32_exec.specs.declared.statuses.Status.TheVariants.{Ready};
 ghost use Rattle.flat_state.specs.State.{with_thread};
@@ -43,6 +43,13 @@ fn flags_of(bits: u32) -> Flags
         x: bit(bits, 4),
         m: bit(bits, 8),
     }
+}
+
+// Whether the bits name a flag, and nothing but flags.
+fn are_flags(bits: u32) -> bool
+    ensures { result ≡ not ((bits == 0) || nat_lt 15 bits) }
+{
+    bits != 0 && bits <= 15
 }
 
 // 0 is no receiver, and any other number is one above the receiver's.
@@ -199,7 +206,7 @@ impl Flat {
             flags: flags_of(flags),
             receiver: receiver_of(receiver),
         };
-        self.make(at, decl, flags != 0 && flags <= 15, 0)
+        self.make(at, decl, are_flags(flags), 0)
     }
 
     fn unmap(&mut self, at: usize, space: SpaceNo, vpn: Vpn) -> Result<(), NoMemory>
@@ -208,7 +215,11 @@ impl Flat {
         ensures err { OnErr result (self.new ≡ self.old) }
     {
         let found = self.rows.remove(space, vpn)?;
-        self.answer_at(at, if found { 0 } else { refusal(1) });
+        if found {
+            self.answer_at(at, 0);
+        } else {
+            self.answer_at(at, refusal(1));
+        }
         Ok(())
     }
 
