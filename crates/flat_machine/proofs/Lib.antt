@@ -1,3 +1,4 @@
 pub mod DeclareSound
 pub mod CallKeeps
 pub mod CallSound
+pub mod CallEnds

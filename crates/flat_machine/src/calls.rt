@@ -117,7 +117,7 @@ impl Flat {
         ensures err { OnErr result (self.new ≡ self.old) }
     {
         let at = no.0 as usize;
-        let Some(thread) = self.threads.get(at) else {
+        let Some(thread) = self.thread(no) else {
             return Ok(());
         };
         if !is_completable(thread) {
