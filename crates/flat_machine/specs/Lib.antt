@@ -1,11 +1,3 @@
-pub mod Instruction
-pub mod State
-pub mod Translation
-pub mod Declaration
-pub mod Bounds
-pub mod Step
-pub mod Call
-pub mod Events
-pub mod Settling
-pub mod AtPlace
-pub mod RowIndex
+pub mod Readings
+pub mod Seen
+pub mod Calls

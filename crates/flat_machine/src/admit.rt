@@ -1,24 +1,82 @@
 //! The rules of a declaration.
 
-ghost use Rattle.std.specs.Prelude.{◌≡◌, None, Some, MatchResult};
-ghost use Rattle.flat_machine.specs.Declaration.{groups_of, has_frame as has_frame_lem, Gives, broken_rule, rule_of_first as rule_of_first_lem, rule_of_kernel as rule_of_kernel_lem, rule_of_right as rule_of_right_lem, rule_of_space as rule_of_space_lem, rule_of_thread as rule_of_thread_lem, rule_of_map as rule_of_map_lem, rule_of_word as rule_of_word_lem};
+ghost use Rattle.std.specs.Prelude.{◌≡◌, ◌+◌, ◌^◌, ◌<◌, None, Some, MatchResult, nat_le};
+ghost use Rattle.flat_state.specs.State.{groups_of};
+ghost use Rattle.flat_state.specs.Declaration.{agree as agree_lem, are_capacities as are_capacities_lem, broken_rule, caps_of, has_four as has_four_lem, has_frame as has_frame_lem, has_no_flag as has_no_flag_lem, has_receiver as has_receiver_lem, is_capacity as is_capacity_lem, is_receiver_in as is_receiver_in_lem, leaves_room as leaves_room_lem, may_lock_kernels as may_lock_kernels_lem, rule_of_kernel as rule_of_kernel_lem, rule_of_machine as rule_of_machine_lem, rule_of_map as rule_of_map_lem, rule_of_right as rule_of_right_lem, rule_of_space as rule_of_space_lem, rule_of_thread as rule_of_thread_lem, rule_of_word as rule_of_word_lem};
+ghost use Rattle.flat_machine.specs.Readings.{Gives};
 
 use crate::flat::Flat;
-use crate::plain::{Decl, Flags, Frame, KernelNo, SpaceNo, ThreadNo, Vpn};
+use cache_ident::{Caps, Frame, KernelNo, SpaceNo, ThreadNo, Vpn};
+use flat_state::{Decl, Machine};
+use phys_groups::Flags;
 
-fn rule_of_first(decl: &Decl) -> Result<(), u32>
-    ensures { Gives result (rule_of_first_lem decl.now) }
+fn is_capacity(most: u32, cap: u32) -> bool
+    ensures { result ≡ is_capacity_lem most cap }
 {
-    match *decl {
-        Decl::Machine { machine } => {
-            if machine.groups == 0 || 16 < machine.groups {
-                Err(6)
-            } else {
-                Ok(())
-            }
-        }
-        _ => Err(5),
+    0 < cap && cap <= most
+}
+
+// Whether each capacity is from 1 to its greatest.
+fn are_capacities(caps: Caps) -> bool
+    ensures { result ≡ are_capacities_lem caps }
+{
+    is_capacity(16, caps.kernels)
+        && is_capacity(64, caps.spaces)
+        && is_capacity(256, caps.threads)
+        && is_capacity(65_536, caps.mappings)
+}
+
+// Whether the capacity has room for what is granted, what is to be granted, and what one step wants.
+fn has_room(cap: u32, granted: u32, limit: u32, step: u64) -> bool
+    requires { step < 2 ^ 32 }
+    ensures { result ≡ nat_le (granted + limit + step) cap }
+{
+    u64::from(granted) + u64::from(limit) + step <= u64::from(cap)
+}
+
+fn leaves_room(caps: Caps, granted: Caps, limits: Caps) -> bool
+    ensures { result ≡ leaves_room_lem caps granted limits }
+{
+    has_room(caps.kernels, granted.kernels, limits.kernels, 5)
+        && has_room(caps.spaces, granted.spaces, limits.spaces, 5)
+        && has_room(caps.threads, granted.threads, limits.threads, 5)
+        && has_room(caps.mappings, granted.mappings, limits.mappings, 6)
+}
+
+// Kernel 0 may lock a kernel, since it is locked itself. No other kernel may.
+fn may_lock_kernels(no: KernelNo, limits: Caps) -> bool
+    ensures { result ≡ may_lock_kernels_lem no.0 limits }
+{
+    if no.0 == 0 {
+        0 < limits.kernels
+    } else {
+        limits.kernels == 0
     }
+}
+
+fn has_no_flag(flags: Flags) -> bool
+    ensures { result ≡ has_no_flag_lem flags }
+{
+    !(flags.r || flags.w || flags.x || flags.m)
+}
+
+// Whether the message flag stands with w and with neither x nor a receiver, and a receiver without x.
+fn agree(flags: Flags, signals: bool) -> bool
+    ensures { result ≡ agree_lem flags signals }
+{
+    (!flags.m || (flags.w && !flags.x && !signals)) && (!signals || !flags.x)
+}
+
+fn rule_of_machine(machine: Machine) -> Result<(), u32>
+    ensures { Gives result (rule_of_machine_lem machine) }
+{
+    if machine.groups == 0 || 16 < machine.groups {
+        return Err(6);
+    }
+    if !are_capacities(machine.caps) {
+        return Err(7);
+    }
+    Ok(())
 }
 
 impl Flat {
@@ -29,32 +87,56 @@ impl Flat {
     /// | 4 | a row has no flag |
     /// | 5 | the machine is declared a second time, or isn't declared yet |
     /// | 6 | the groups aren't 1 to 16 |
+    /// | 7 | a capacity is 0, or above 16 kernels, 64 spaces, 256 threads, 65,536 mappings |
     /// | 8 | the number isn't the next of its kind |
-    /// | 9 | 1,024 kernels, 4,096 spaces, 16,384 threads or 262,144 rows are declared already |
-    /// | 12 | a named kernel or space isn't declared |
+    /// | 9 | there are 1,024 kernels, 4,096 spaces, 16,384 threads or 262,144 rows already |
+    /// | 10 | kernel 0 may lock no kernel, or another kernel may |
+    /// | 11 | the lock limits of a kind, summed, and what one step wants (5 kernels, spaces and threads, 6 mappings) pass its capacity |
+    /// | 12 | a named kernel, space or thread isn't declared |
     /// | 13 | a group or a frame isn't in memory, or a page number is above 1,048,575 |
-    /// | 14 | pc isn't divisible by 4 |
+    /// | 14 | pc isn't divisible by 4, or a priority is above 31 |
     /// | 15 | an offset isn't divisible by 4, or is above 4,092 |
+    /// | 16 | `m` stands without `w`, with `x` or with a receiver, or a receiver with `x` |
     /// | 17 | the page has a row already |
+    /// | 18 | the receiver isn't a thread of the row's space |
+    /// | 19 | there is a receiver, and the frame has four signal rows already |
+    ///
+    /// It costs the logarithm of the rows.
+    #[tactic(auto, unfolding(flat_state::specs::Declaration::broken_rule))]
     pub fn admit(&self, decl: &Decl) -> Result<(), u32>
         ensures { MatchResult result (λ _. broken_rule self.now decl.now ≡ None) (λ rule. broken_rule self.now decl.now ≡ Some rule) }
     {
-        if self.machine.is_none() {
-            return rule_of_first(decl);
-        }
-        match *decl {
-            Decl::Machine { .. } => Err(5),
-            Decl::Kernel { no } => self.rule_of_kernel(no),
-            Decl::Right { kernel, group, .. } => self.rule_of_right(kernel, group),
-            Decl::Space { no, kernel } => self.rule_of_space(no, kernel),
-            Decl::Thread { no, space, pc } => self.rule_of_thread(no, space, pc),
-            Decl::Map {
-                space,
-                vpn,
-                frame,
-                flags,
-            } => self.rule_of_map(space, vpn, frame, flags),
-            Decl::Word { frame, offset, .. } => self.rule_of_word(frame, offset),
+        match (self.machine, *decl) {
+            (None, Decl::Machine { machine }) => rule_of_machine(machine),
+            (None, _) | (Some(_), Decl::Machine { .. }) => Err(5),
+            (Some(machine), Decl::Kernel { no, limits }) => self.rule_of_kernel(
+                machine.caps,
+                no,
+                limits,
+            ),
+            (_, Decl::Right { kernel, group, .. }) => self.rule_of_right(kernel, group),
+            (_, Decl::Space { no, kernel }) => self.rule_of_space(no, kernel),
+            (
+                _,
+                Decl::Thread {
+                    no,
+                    space,
+                    pc,
+                    priority,
+                    ..
+                },
+            ) => self.rule_of_thread(no, space, pc, priority),
+            (
+                _,
+                Decl::Map {
+                    space,
+                    vpn,
+                    frame,
+                    flags,
+                    receiver,
+                },
+            ) => { self.rule_of_map(space, vpn, frame, flags, receiver) }
+            (_, Decl::Word { frame, offset, .. }) => self.rule_of_word(frame, offset),
         }
     }
 
@@ -68,25 +150,32 @@ impl Flat {
     }
 
     fn has_frame(&self, frame: Frame) -> bool
-        ensures { result ≡ has_frame_lem self.now frame.0 }
+        ensures { result ≡ has_frame_lem self.now frame }
     {
         u64::from(frame.0) < 128 * u64::from(self.groups())
     }
 
-    fn rule_of_kernel(&self, no: KernelNo) -> Result<(), u32>
-        ensures { Gives result (rule_of_kernel_lem self.now no.0) }
+    fn rule_of_kernel(&self, caps: Caps, no: KernelNo, limits: Caps) -> Result<(), u32>
+        requires { caps ≡ caps_of self.now.machine }
+        ensures { Gives result (rule_of_kernel_lem self.now no.0 limits) }
     {
         if no.0 as usize != self.kernels.len() {
             return Err(8);
         }
-        if self.kernels.len() >= 1024 {
+        if self.kernels.len() >= 1_024 {
             return Err(9);
+        }
+        if !may_lock_kernels(no, limits) {
+            return Err(10);
+        }
+        if !leaves_room(caps, self.granted, limits) {
+            return Err(11);
         }
         Ok(())
     }
 
     fn rule_of_right(&self, kernel: KernelNo, group: u32) -> Result<(), u32>
-        ensures { Gives result (rule_of_right_lem self.now kernel.0 group) }
+        ensures { Gives result (rule_of_right_lem self.now kernel group) }
     {
         if self.kernels.len() <= kernel.0 as usize {
             return Err(12);
@@ -98,12 +187,12 @@ impl Flat {
     }
 
     fn rule_of_space(&self, no: SpaceNo, kernel: KernelNo) -> Result<(), u32>
-        ensures { Gives result (rule_of_space_lem self.now no.0 kernel.0) }
+        ensures { Gives result (rule_of_space_lem self.now no.0 kernel) }
     {
         if no.0 as usize != self.spaces.len() {
             return Err(8);
         }
-        if self.spaces.len() >= 4096 {
+        if self.spaces.len() >= 4_096 {
             return Err(9);
         }
         if self.kernels.len() <= kernel.0 as usize {
@@ -112,52 +201,103 @@ impl Flat {
         Ok(())
     }
 
-    fn rule_of_thread(&self, no: ThreadNo, space: SpaceNo, pc: u32) -> Result<(), u32>
-        ensures { Gives result (rule_of_thread_lem self.now no.0 space.0 pc) }
+    fn rule_of_thread(
+        &self,
+        no: ThreadNo,
+        space: SpaceNo,
+        pc: u32,
+        priority: u32,
+    ) -> Result<(), u32>
+        ensures { Gives result (rule_of_thread_lem self.now no.0 space pc priority) }
     {
         if no.0 as usize != self.threads.len() {
             return Err(8);
         }
-        if self.threads.len() >= 16384 {
+        if self.threads.len() >= 16_384 {
             return Err(9);
         }
         if self.spaces.len() <= space.0 as usize {
             return Err(12);
         }
-        if pc % 4 != 0 {
+        if pc % 4 != 0 || 31 < priority {
             return Err(14);
         }
         Ok(())
     }
 
-    fn rule_of_map(&self, space: SpaceNo, vpn: Vpn, frame: Frame, flags: Flags) -> Result<(), u32>
-        ensures { Gives result (rule_of_map_lem self.now space.0 vpn.0 frame.0 flags) }
+    fn has_receiver(&self, receiver: Option<ThreadNo>) -> bool
+        ensures { result ≡ has_receiver_lem self.now.threads receiver }
     {
-        if !(flags.r || (flags.w || flags.x)) {
+        match receiver {
+            Some(thread) => (thread.0 as usize) < self.threads.len(),
+            None => true,
+        }
+    }
+
+    // Whether the receiver, if there is one, is a thread of the space.
+    fn is_receiver_in(&self, space: SpaceNo, receiver: Option<ThreadNo>) -> bool
+        ensures { result ≡ is_receiver_in_lem space self.now.threads receiver }
+    {
+        match receiver {
+            Some(thread) => match self.threads.get(thread.0 as usize) {
+                Some(thread) => thread.space == space,
+                None => false,
+            },
+            None => true,
+        }
+    }
+
+    // Whether the frame has as many signal rows as it may have.
+    fn has_four(&self, frame: Frame) -> bool
+        ensures { result ≡ has_four_lem self.now.rows frame }
+    {
+        self.rows.signal_rows(frame).is_full()
+    }
+
+    fn rule_of_map(
+        &self,
+        space: SpaceNo,
+        vpn: Vpn,
+        frame: Frame,
+        flags: Flags,
+        receiver: Option<ThreadNo>,
+    ) -> Result<(), u32>
+        ensures { Gives result (rule_of_map_lem self.now space vpn frame flags receiver) }
+    {
+        if has_no_flag(flags) {
             return Err(4);
         }
-        if self.rows.len() >= 262144 {
+        if self.rows.len() >= 262_144 {
             return Err(9);
         }
-        if self.spaces.len() <= space.0 as usize {
+        if self.spaces.len() <= space.0 as usize || !self.has_receiver(receiver) {
             return Err(12);
         }
-        if !self.has_frame(frame) || 1048575 < vpn.0 {
+        if !self.has_frame(frame) || 1_048_575 < vpn.0 {
             return Err(13);
         }
-        if self.rows.place(space, vpn).is_some() {
+        if !agree(flags, receiver.is_some()) {
+            return Err(16);
+        }
+        if self.rows.get(space, vpn).is_some() {
             return Err(17);
+        }
+        if !self.is_receiver_in(space, receiver) {
+            return Err(18);
+        }
+        if receiver.is_some() && self.has_four(frame) {
+            return Err(19);
         }
         Ok(())
     }
 
     fn rule_of_word(&self, frame: Frame, offset: u32) -> Result<(), u32>
-        ensures { Gives result (rule_of_word_lem self.now frame.0 offset) }
+        ensures { Gives result (rule_of_word_lem self.now frame offset) }
     {
         if !self.has_frame(frame) {
             return Err(13);
         }
-        if offset % 4 != 0 || 4092 < offset {
+        if offset % 4 != 0 || 4_092 < offset {
             return Err(15);
         }
         Ok(())

@@ -1,42 +1,50 @@
-//! The plain program of the machine.
+//! The machine and what can be read off it.
 
-ghost use Rattle.std.specs.Prelude.{◌≡◌, length, slice_get};
-ghost use Rattle.std.specs.Option.{option_copied};
-ghost use Rattle.flat_machine.specs.State.{nothing_declared};
-ghost use Rattle.flat_machine.specs.Translation.{row_place as row_place_lem, row_at as row_at_lem};
-ghost use Rattle.flat_machine.specs.Step.{faults as faults_lem};
-ghost use Rattle.flat_machine.specs.Settling.{settled_of};
+ghost use Rattle.std.specs.Prelude.{◌≡◌, ◌<◌, length, slice_get};
+ghost use Rattle.std.specs.Option.{option_copied, option_map};
+ghost use Rattle.phys_groups.specs.Translation.{row_of};
+ghost use Rattle.flat_state.specs.State.{nothing_declared};
+ghost use Rattle.flat_state.specs.Translation.{is_fit_row as is_fit_row_lem, rights_of as rights_of_lem};
+ghost use Rattle.flat_state.specs.Settling.{settled_of};
+ghost use Rattle.flat_machine.specs.Readings.{is_fit_page};
 
-use crate::fetch::{fetch_through, row_at};
-use crate::plain::{
-    FlatThread, GroupRights, KernelNo, Machine, Row, Settled, SpaceNo, ThreadNo, Vpn,
-};
-use crate::rows::RowTable;
-use crate::thread::{all_ended, any_trapped};
+use cache_ident::{Caps, KernelNo, SpaceNo, ThreadNo, Vpn};
+use flat_state::{FlatKernel, FlatThread, Machine, Settled};
+use phys_groups::{Memory, Rights, Row};
+use row_table::RowTable;
+use rv32_exec::Status;
 use std::alloc::Global;
 use std::marker::Model;
 
 /// The machine with unlimited tables.
+///
+/// A contract sees the state that `flat_state` defines. Nothing is ever displaced, and nothing is bounded by a
+/// capacity.
 #[derive(Drop)]
 pub struct Flat {
     pub(crate) alloc: Global,
     pub(crate) machine: Option<Machine>,
-    pub(crate) memory: Vec<u8>,
-    pub(crate) kernels: Vec<[GroupRights; 16]>,
+    pub(crate) memory: Memory,
+    pub(crate) kernels: Vec<FlatKernel>,
+    // The lock limits of all kernels, summed.
+    pub(crate) granted: Caps,
     pub(crate) spaces: Vec<KernelNo>,
     pub(crate) rows: RowTable,
     pub(crate) threads: Vec<FlatThread>,
 }
 
 impl Model for Flat {
-    ghost use Rattle.flat_machine.specs.State.{FlatState};
-    ghost use Rattle.flat_machine.specs.Bounds.{IsWithinBounds};
+    ghost use Rattle.std.specs.Prelude.{◌≡◌};
+    ghost use Rattle.flat_state.specs.State.{FlatState};
+    ghost use Rattle.flat_state.specs.Declaration.{locks_granted};
+    ghost use Rattle.flat_state.specs.WellFormed.{IsWellFormed};
+    ghost use Rattle.flat_machine.specs.Readings.{IsSound};
 
     ghost Value = { FlatState };
 
-    ghost view = { λ f. record { machine = f.machine; memory = f.memory.items; kernels = f.kernels.items; spaces = f.spaces.items; rows = f.rows; threads = f.threads.items } };
+    ghost view = { λ f. record { machine = f.machine; memory = f.memory; kernels = f.kernels.items; spaces = f.spaces.items; rows = f.rows; threads = f.threads.items } };
 
-    ghost invariant = { λ f. IsWithinBounds f.machine f.memory.items f.spaces.items f.threads.items };
+    ghost invariant = { λ f. IsSound f.machine f.memory f.kernels.items f.granted f.spaces.items f.rows f.threads.items };
 }
 
 impl Flat {
@@ -47,8 +55,9 @@ impl Flat {
         Flat {
             alloc,
             machine: None,
-            memory: Vec::new(alloc),
+            memory: Memory::empty(alloc),
             kernels: Vec::new(alloc),
+            granted: Caps::default(),
             spaces: Vec::new(alloc),
             rows: RowTable::new(alloc),
             threads: Vec::new(alloc),
@@ -76,43 +85,85 @@ impl Flat {
         self.rows.as_slice()
     }
 
-    /// The thread of that number, and none where there is none. It costs one look.
+    /// The thread of that number, and none where there is none. Constant time.
     pub fn thread(&self, no: ThreadNo) -> Option<&FlatThread>
         ensures { option_copied result ≡ slice_get self.now.threads no.0 }
     {
         self.threads.get(no.0 as usize)
     }
 
-    /// The first row of that page, and none where there is none. It costs the logarithm of the rows.
+    /// The row of that page, and none where there is none. It costs the logarithm of the rows.
     pub fn row(&self, space: SpaceNo, vpn: Vpn) -> Option<&Row>
-        ensures { option_copied result ≡ row_at_lem self.now.rows (row_place_lem self.now.rows space.0 vpn.0) }
+        ensures { option_copied result ≡ row_of self.now.rows space vpn.0 }
     {
-        let place = self.rows.place(space, vpn)?;
-        self.rows.as_slice().get(place)
+        self.rows.get(space, vpn)
     }
 
-    /// Whether the address of the thread's next instruction doesn't translate. It costs the logarithm of the rows.
-    pub fn faults(&self, no: ThreadNo) -> bool
-        ensures { result ≡ faults_lem self.now no.0 }
+    /// The capacities that were declared, and none before the machine was. Constant time.
+    pub fn caps(&self) -> Option<Caps>
+        ensures { result ≡ option_map (λ m. m.caps) self.now.machine }
     {
-        let Some(thread) = self.threads.get(no.0 as usize) else {
-            return false;
-        };
-        let page = Vpn(thread.context.pc / 4096);
-        let row = row_at(self.rows.as_slice(), self.rows.place(thread.space, page));
-        fetch_through(&self.kernels, &self.spaces, row).is_err()
+        self.machine.map(|machine| machine.caps)
     }
 
-    /// Whether a run of so many steps is over, at that limit. It looks through the threads.
+    /// The lock limits of a kernel, and none where there is no such kernel. Constant time.
+    pub fn limits(&self, kernel: KernelNo) -> Option<Caps>
+        ensures { result ≡ option_map (λ k. k.limits) (slice_get self.now.kernels kernel.0) }
+    {
+        let kernel = self.kernels.get(kernel.0 as usize)?;
+        Some(kernel.limits)
+    }
+
+    /// The kernel of a space, and none where there is no such space. Constant time.
+    pub fn kernel_of(&self, space: SpaceNo) -> Option<KernelNo>
+        ensures { result ≡ slice_get self.now.spaces space.0 }
+    {
+        self.spaces.get(space.0 as usize).copied()
+    }
+
+    /// Whether there is a row of that page and it is fit: the rights of its space's kernel cover its flags on its
+    /// frame. It costs the logarithm of the rows.
+    pub fn is_fit(&self, space: SpaceNo, vpn: Vpn) -> bool
+        ensures { result ≡ is_fit_page self.now (row_of self.now.rows space vpn.0) }
+    {
+        match self.rows.get(space, vpn) {
+            Some(row) => self.is_fit_row(row),
+            None => false,
+        }
+    }
+
+    /// Whether a run of so many steps is over, at that limit. It goes once over the threads, and looks at the next
+    /// step of each that is ready.
     pub fn settled(&self, steps: u64, limit: u64) -> Settled
         ensures { result ≡ settled_of self.now steps limit }
     {
-        if all_ended(&self.threads) {
+        if self.all_ended() {
             return Settled::Done;
         }
-        if !any_trapped(&self.threads) && steps == limit {
+        if self.all_stuck() {
+            return Settled::Stalled;
+        }
+        if steps == limit && !self.any_completable() {
             return Settled::Spent;
         }
         Settled::Running
+    }
+
+    // The rights of the kernel that owns a space.
+    pub(crate) fn rights_of(&self, space: SpaceNo) -> Rights
+        requires { space.0 < length self.now.spaces }
+        ensures { result ≡ rights_of_lem self.now space }
+    {
+        let kernel = self.spaces[space.0 as usize];
+        self.kernels[kernel.0 as usize].rights
+    }
+
+    // Whether the rights of the row's kernel cover its flags on its frame.
+    pub(crate) fn is_fit_row(&self, row: &Row) -> bool
+        requires space { row.now.space.0 < length self.now.spaces }
+        requires frame { row.now.frame.0 < 2048 }
+        ensures { result ≡ is_fit_row_lem self.now row.now }
+    {
+        self.rights_of(row.space).covers(row.frame, row.flags)
     }
 }

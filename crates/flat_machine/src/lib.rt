@@ -1,26 +1,23 @@
-//! The machine with unlimited tables: memory, kernels, spaces, rows and threads in declared order, and the
-//! events that change them. Nothing in it is ever displaced, so it is what every run is compared with.
+//! The plain program of the machine with unlimited tables: memory, kernels, spaces, rows and threads in declared
+//! order, and the events that change them. What it does is what the definitions of `flat_state` say.
 #![tactic(auto)]
 
 mod admit;
 mod apply;
-mod fetch;
+mod calls;
 mod flat;
-mod instr;
-mod output;
-mod plain;
-mod rows;
-mod thread;
+mod look;
+mod mmu;
+mod reach;
+mod signals;
+mod steps;
+mod threads;
 
+pub use cache_ident::NoMemory;
 pub use flat::Flat;
-pub use output::Output;
-pub use plain::{
-    Access, Context, Decl, Event, FaultKind, Flags, FlatThread, Frame, GroupRights, KernelNo,
-    Machine, Reason, Row, Settled, SpaceNo, Status, ThreadNo, Vpn,
+pub use flat_state::{
+    DataAccess, Decl, Event, FlatKernel, FlatThread, Machine, NextStep, Settled, Signal,
 };
-
-/// The one free answer: memory ran out. What was called is then as it was before.
-pub use std::alloc::AllocError as NoMemory;
 
 #[cfg(test)]
 mod tests;

@@ -1,5 +1,5 @@
 -- Through which row an access goes, and what is missing where it goes through none.
-use Rattle.std.specs.Prelude.{ℕ, ◌+◌, ◌*◌, ◌/◌, ◌%◌, Bool, false, not, ◌&&◌, ◌||◌, ◌==◌, if◌then◌else◌, List, Option, Some, None, find, slice_index_or}
+use Rattle.std.specs.Prelude.{ℕ, ◌+◌, ◌*◌, ◌/◌, ◌%◌, Bool, false, not, ◌&&◌, ◌||◌, ◌==◌, if◌then◌else◌, List, Option, Some, None, find, filter, slice_index_or}
 use Rattle.cache_ident.specs.declared.names.Frame.{Frame}
 use Rattle.cache_ident.specs.declared.names.SpaceNo.{SpaceNo}
 use Rattle.phys_groups.specs.declared.rows.Flags.{Flags}
@@ -23,9 +23,17 @@ covers rights frame flags =
 abbrev pub is_fit : List (Bool × Bool) → Row → Bool
 is_fit rights row = covers rights row.frame row.flags
 
+-- the row is that of the page of the space
+abbrev pub is_row_of : SpaceNo → ℕ → Row → Bool
+is_row_of space vpn row = (row.space.0 == space.0) && (row.vpn.0 == vpn)
+
 -- the row of a page of a space
 abbrev pub row_of : List Row → SpaceNo → ℕ → Option Row
-row_of rows space vpn = find (λ row. (row.space.0 == space.0) && (row.vpn.0 == vpn)) rows
+row_of rows space vpn = find (is_row_of space vpn) rows
+
+-- all rows but that of a page of a space
+abbrev pub without : SpaceNo → ℕ → List Row → List Row
+without space vpn rows = filter (λ row. not (is_row_of space vpn row)) rows
 
 -- the page of an address
 abbrev pub page_of : ℕ → ℕ

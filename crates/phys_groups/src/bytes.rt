@@ -1,6 +1,6 @@
 //! Physical memory.
 
-ghost use Rattle.std.specs.Prelude.{◌≡◌, ◌≢◌, ℕ, ◌+◌, ◌*◌, ◌%◌, ◌<◌, ◌≤◌, ◌⊎◌, ◌↔◌, IsTrue, IfOk, length, replicate, slice_index, slice_set};
+ghost use Rattle.std.specs.Prelude.{◌≡◌, ◌≢◌, ℕ, [], ◌+◌, ◌*◌, ◌%◌, ◌<◌, ◌≤◌, ◌⊎◌, ◌↔◌, IsTrue, IfOk, length, replicate, slice_index, slice_set};
 ghost use Rattle.cache_ident.specs.declared.names.Frame.{Frame};
 ghost use Rattle.phys_groups.specs.Memory.{HasFrame, half_at, half_bytes, page_at, with_page, word_at, word_bytes, written};
 
@@ -43,6 +43,15 @@ impl Memory {
         let size = groups as usize * GROUP_BYTES;
         let bytes = vec![in alloc; 0; size]?;
         Ok(Memory { bytes })
+    }
+
+    /// Memory of no groups, as it is before a machine is declared. It takes no memory.
+    pub fn empty(alloc: Global) -> Memory
+        ensures { result ≡ [] }
+    {
+        Memory {
+            bytes: Vec::new(alloc),
+        }
     }
 
     /// The byte at a place.

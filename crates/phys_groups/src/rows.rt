@@ -15,7 +15,7 @@ pub struct Flags {
 }
 
 /// A page mapping: the page `vpn` of the space is the frame.
-#[derive(Clone, Copy, PartialEq, Eq, Debug)]
+#[derive(Clone, Copy, PartialEq, Eq, Debug, Default)]
 pub struct Row {
     pub space: SpaceNo,
     pub vpn: Vpn,

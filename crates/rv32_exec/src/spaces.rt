@@ -35,8 +35,13 @@ pub struct Hole;
 ///
 /// An access goes through the page of its address's number, if that page has the access's flag.
 /// Two pages of one frame see each other's stores.
+/// What else there is beside the pages, as the frames of other spaces, is `kept` by every access.
 pub trait Space {
     ghost pages: { Self → List Page };
+
+    ghost Kept: { Type 0 };
+
+    ghost kept: { Self → Kept };
 
     /// The word at `va`, for execution. A hole where the fetch does not translate.
     fn fetch(&self, va: u32) -> Result<u32, Hole>
@@ -52,10 +57,12 @@ pub trait Space {
     fn store(&mut self, va: u32, width: Width, value: u32) -> Result<(), Hole>
         requires { va % size_of width ≡ 0 }
         ensures found { is_ok result ≡ translates (pages self.old) va Access.Write }
-        ensures bytes { pages self.new ≡ stored (pages self.old) va width value };
+        ensures bytes { pages self.new ≡ stored (pages self.old) va width value }
+        ensures kept { kept self.new ≡ kept self.old };
 
     /// Marks the page of an access as touched, and for a write also as written.
     fn touch(&mut self, va: u32, access: Access)
         requires { IsTrue (translates (pages self.old) va access) }
-        ensures { pages self.new ≡ touched_at (pages self.old) va access };
+        ensures marks { pages self.new ≡ touched_at (pages self.old) va access }
+        ensures kept { kept self.new ≡ kept self.old };
 }

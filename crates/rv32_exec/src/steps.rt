@@ -32,6 +32,7 @@ pub fn step<S: Space>(context: &mut Context, space: &mut S) -> Stepped
     requires { context.old.pc % 4 ≡ 0 }
     ensures aligned { context.new.pc % 4 ≡ 0 }
     ensures after { IsAfter context.new (S.pages space.new) result (after_step context.old (S.pages space.old)) }
+    ensures kept { S.kept space.new ≡ S.kept space.old }
     ensures missed { OnMiss result ((context.new ≡ context.old) × (S.pages space.new ≡ S.pages space.old)) }
 {
     fetch(context, space)
@@ -43,6 +44,7 @@ fn fetch<S: Space>(context: &mut Context, space: &mut S) -> Stepped
     requires { context.old.pc % 4 ≡ 0 }
     ensures aligned { context.new.pc % 4 ≡ 0 }
     ensures after { IsAfter context.new (S.pages space.new) result (after_step context.old (S.pages space.old)) }
+    ensures kept { S.kept space.new ≡ S.kept space.old }
 {
     let pc = context.pc;
     let Ok(word) = space.fetch(pc) else {
@@ -65,6 +67,7 @@ fn act<S: Space>(context: &mut Context, space: &mut S, action: Action) -> Steppe
     requires fetched { IsTrue (translates (S.pages space.old) context.old.pc Access.Fetch) }
     ensures aligned { context.new.pc % 4 ≡ 0 }
     ensures after { IsAfter context.new (S.pages space.new) result (after_action action context.old (S.pages space.old)) }
+    ensures kept { S.kept space.new ≡ S.kept space.old }
 {
     match action {
         Action::Set { rd, value } => {
@@ -104,7 +107,8 @@ fn act<S: Space>(context: &mut Context, space: &mut S, action: Action) -> Steppe
 /// Ends the thread: its fetch was its last access.
 fn end<S: Space>(context: &Context, space: &mut S, reason: Reason) -> Stepped
     requires { IsTrue (translates (S.pages space.old) context.now.pc Access.Fetch) }
-    ensures { IsAfter context.now (S.pages space.new) result (ended context.now (S.pages space.old) reason) }
+    ensures after { IsAfter context.now (S.pages space.new) result (ended context.now (S.pages space.old) reason) }
+    ensures kept { S.kept space.new ≡ S.kept space.old }
 {
     space.touch(context.pc, Access::Fetch);
     Stepped::Stop(reason)
@@ -117,6 +121,7 @@ fn jump<S: Space>(context: &mut Context, space: &mut S, rd: u32, target: u32) ->
     requires fetched { IsTrue (translates (S.pages space.old) context.old.pc Access.Fetch) }
     ensures aligned { context.new.pc % 4 ≡ 0 }
     ensures after { IsAfter context.new (S.pages space.new) result (after_jump context.old (S.pages space.old) rd target) }
+    ensures kept { S.kept space.new ≡ S.kept space.old }
 {
     if target % 4 != 0 {
         let what = Misaligned::Jump;
@@ -143,6 +148,7 @@ fn load<S: Space>(
     requires fetched { IsTrue (translates (S.pages space.old) context.old.pc Access.Fetch) }
     ensures aligned { context.new.pc % 4 ≡ 0 }
     ensures after { IsAfter context.new (S.pages space.new) result (after_load context.old (S.pages space.old) rd va width signed) }
+    ensures kept { S.kept space.new ≡ S.kept space.old }
 {
     if va % width.size() != 0 {
         let what = Misaligned::Load;
@@ -174,6 +180,7 @@ fn store<S: Space>(
     requires fetched { IsTrue (translates (S.pages space.old) context.old.pc Access.Fetch) }
     ensures aligned { context.new.pc % 4 ≡ 0 }
     ensures after { IsAfter context.new (S.pages space.new) result (after_store context.old (S.pages space.old) va width value) }
+    ensures kept { S.kept space.new ≡ S.kept space.old }
 {
     if va % width.size() != 0 {
         let what = Misaligned::Store;
@@ -206,6 +213,7 @@ fn atomic<S: Space>(
     requires fetched { IsTrue (translates (S.pages space.old) context.old.pc Access.Fetch) }
     ensures aligned { context.new.pc % 4 ≡ 0 }
     ensures after { IsAfter context.new (S.pages space.new) result (after_atomic context.old (S.pages space.old) rd va op operand) }
+    ensures kept { S.kept space.new ≡ S.kept space.old }
 {
     if va % 4 != 0 {
         let what = Misaligned::Store;

@@ -1,6 +1,6 @@
 // Whole programs in a small space: one frame of memory behind two pages, 0 for code and 1 for data.
 
-ghost use Rattle.std.specs.Prelude.{◌≡◌, ◌+◌, ◌%◌, ◌<◌, length, slice_set, true, false, ◌∷◌, []};
+ghost use Rattle.std.specs.Prelude.{◌≡◌, ℕ, ◌+◌, ◌%◌, ◌<◌, length, slice_set, true, false, ◌∷◌, []};
 ghost use Rattle.rv32_exec.specs.Pages.{number_at, put_bytes, size_of};
 ghost use Rattle.rv32_exec.specs.declared.spaces.Width.TheVariants.{Word};
 
@@ -55,6 +55,10 @@ impl Space for Shared {
     ghost pages = { λ s.
         record { number = 0; frame = 0; readable = true; writable = false; executable = true; bytes = s.bytes; touched = s.code_touched; written = false }
         ∷ (record { number = 1; frame = 0; readable = true; writable = true; executable = false; bytes = s.bytes; touched = s.data_touched; written = s.data_written } ∷ []) };
+
+    ghost Kept = { ℕ };
+
+    ghost kept = { λ s. 0 };
 
     #[tactic(auto, unfolding(crate::specs::Pages::read_through, crate::specs::Pages::translation))]
     fn fetch(&self, va: u32) -> Result<u32, Hole> {

@@ -1,0 +1,13 @@
+pub mod State
+pub mod Translation
+pub mod Pages
+pub mod Rest
+pub mod Declaration
+pub mod Signals
+pub mod Step
+pub mod Call
+pub mod Events
+pub mod Settling
+pub mod Dependence
+pub mod NextSteps
+pub mod WellFormed
