@@ -1,9 +1,10 @@
 //! The receivers of a signal, and what they get.
 
-ghost use Rattle.std.specs.Prelude.{◌≡◌, ◌<◌, ◌≤◌, true, false, length, map};
+ghost use Rattle.std.specs.Prelude.{◌≡◌, ◌<◌, ◌≤◌, true, false, length, map, All};
 ghost use Rattle.signal_pages.specs.Signals.{is_signalling};
-ghost use Rattle.flat_state.specs.Signals.{HasRoom, full_among as full_among_lem, full_receiver as full_receiver_lem, receivers_for as receivers_for_lem, receivers_of as receivers_of_lem, sent, with_address};
+ghost use Rattle.flat_state.specs.Signals.{HasRoom, full_among as full_among_lem, has_ended as has_ended_lem, queued as queued_lem, full_receiver as full_receiver_lem, receivers_for as receivers_for_lem, receivers_of as receivers_of_lem, sent, with_address};
 ghost use Rattle.flat_state.specs.State.{is_ended as is_ended_lem};
+ghost use Rattle.flat_state.specs.Translation.{is_fit_row as is_fit_row_lem};
 ghost use Rattle.flat_machine.specs.Readings.{IsThreadOf};
 
 use crate::flat::Flat;
@@ -11,18 +12,65 @@ use crate::threads::{has_ended, is_ended, queued};
 use arrayvec::ArrayVec;
 use cache_ident::{Frame, ThreadNo, Vpn};
 use flat_state::{FlatThread, Signal};
+use phys_groups::Row;
 use signal_pages::{address, receivers, room};
 
+// The threads of receivers.
+fn threads_of(receivers: &[(ThreadNo, Vpn)]) -> ArrayVec<ThreadNo, 4>
+    requires { length receivers.now ≤ 4 }
+    ensures { result.items ≡ map (λ receiver. receiver.0) receivers.now }
+{
+    let mut to = ArrayVec::new();
+    for receiver in receivers {
+        to.push(receiver.0);
+    }
+    to
+}
+
+// How many addresses the queue of each thread holds.
+fn lengths_of(threads: &[FlatThread], to: &[ThreadNo]) -> ArrayVec<u32, 4>
+    requires { length to.now ≤ 4 }
+    ensures { result.items ≡ map (queued_lem threads.now) to.now }
+{
+    let mut lengths = ArrayVec::new();
+    for thread in to {
+        lengths.push(queued(threads, *thread));
+    }
+    lengths
+}
+
+// Of each thread, whether it has ended.
+fn ends_of(threads: &[FlatThread], to: &[ThreadNo]) -> ArrayVec<bool, 4>
+    requires { length to.now ≤ 4 }
+    ensures { result.items ≡ map (has_ended_lem threads.now) to.now }
+{
+    let mut ended = ArrayVec::new();
+    for thread in to {
+        ended.push(has_ended(threads, *thread));
+    }
+    ended
+}
+
 impl Flat {
+    // Of each row, whether it is fit.
+    fn fit_of(&self, rows: &[Row]) -> ArrayVec<bool, 4>
+        requires few { length rows.now ≤ 4 }
+        requires known { All (λ row. (row.space.0 < length self.now.spaces) × (row.frame.0 < 2048)) rows.now }
+        ensures { result.items ≡ map (is_fit_row_lem self.now) rows.now }
+    {
+        let mut fit = ArrayVec::new();
+        for row in rows {
+            fit.push(self.is_fit_row(row));
+        }
+        fit
+    }
+
     // The receivers of a frame, each with the page of its row.
     fn receivers_of(&self, frame: Frame) -> ArrayVec<(ThreadNo, Vpn), 4>
         ensures { result.items ≡ receivers_of_lem self.now frame }
     {
         let rows = self.rows.signal_rows(frame);
-        let mut fit = ArrayVec::<bool, 4>::new();
-        for row in &rows {
-            fit.push(self.is_fit_row(row));
-        }
+        let fit = self.fit_of(&rows);
         receivers(&rows, frame, &fit)
     }
 
@@ -41,14 +89,9 @@ impl Flat {
         requires { length receivers.now ≤ 4 }
         ensures { result ≡ full_among_lem self.now.threads (map (λ receiver. receiver.0) receivers.now) }
     {
-        let mut to = ArrayVec::<ThreadNo, 4>::new();
-        let mut lengths = ArrayVec::<u32, 4>::new();
-        let mut ended = ArrayVec::<bool, 4>::new();
-        for (thread, _) in receivers {
-            to.push(*thread);
-            lengths.push(queued(&self.threads, *thread));
-            ended.push(has_ended(&self.threads, *thread));
-        }
+        let to = threads_of(receivers);
+        let lengths = lengths_of(&self.threads, &to);
+        let ended = ends_of(&self.threads, &to);
         room(&lengths, &ended, &to)
     }
 

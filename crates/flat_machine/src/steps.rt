@@ -1,9 +1,9 @@
 //! The next step of a thread.
 
 ghost use Rattle.std.specs.Prelude.{◌≡◌, ◌%◌, ◌<◌, Some, slice_get, unwrap_or, length};
-ghost use Rattle.std.specs.List.{HoldsAt};
 ghost use Rattle.flat_state.specs.Translation.{fault_kind as fault_kind_lem, reached as reached_lem};
 ghost use Rattle.flat_state.specs.Step.{after_step, outcome};
+ghost use Rattle.flat_machine.specs.Calls.{OfThread};
 ghost use Rattle.flat_machine.specs.Readings.{RanIn, unsignalled};
 
 use crate::flat::Flat;
@@ -42,10 +42,10 @@ impl Flat {
     // Takes the step of a thread, and leaves its signal to the caller.
     fn take_step(&mut self, at: usize) -> Stepped
         requires { at < length self.old.threads }
-        ensures state { HoldsAt (λ t. self.new ≡ unsignalled self.old at t) self.old.threads at }
-        ensures answer { HoldsAt (λ t. result ≡ (outcome self.old t).answer) self.old.threads at }
+        ensures state { OfThread self.old at (λ t. self.new ≡ unsignalled self.old at t) }
+        ensures answer { OfThread self.old at (λ t. result ≡ (outcome self.old t).answer) }
     {
-        let thread = &self.threads[at];
+        let thread = self.thread_at(at);
         let space = thread.space;
         let mut context = thread.context;
         let stepped = self.run_in(space, &mut context);
@@ -67,9 +67,9 @@ impl Flat {
     // Why an access of the thread doesn't translate.
     fn fault_kind(&self, at: usize, access: Access, va: u32) -> FaultKind
         requires { at < length self.now.threads }
-        ensures { HoldsAt (λ t. result ≡ fault_kind_lem (reached_lem self.now access t.space va)) self.now.threads at }
+        ensures { OfThread self.now at (λ t. result ≡ fault_kind_lem (reached_lem self.now access t.space va)) }
     {
-        match self.reached(&self.threads[at], access, va) {
+        match self.reached(self.thread_at(at), access, va) {
             Err(kind) => kind,
             Ok(_) => FaultKind::Rights,
         }

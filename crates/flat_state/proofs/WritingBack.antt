@@ -62,7 +62,7 @@ outside true page target e = grind (arith, e)
 outside false page target e = grind (arith, e)
 
 -- what passes a filter was there
-filter-contains : {X : Type 0} (p : X → Bool) (xs : List X) (x : X) → Contains (filter p xs) x → Contains xs x
+pub filter-contains : {X : Type 0} (p : X → Bool) (xs : List X) (x : X) → Contains (filter p xs) x → Contains xs x
 filter-contains p xs x (j, within, e) = subst (Contains xs) e (All-filter p (Contains xs) xs (All-contains_itself xs) j x within)
 
 -- Memory is the target, where the pages of the space have the target's bytes, and the frames of no page are as they were.
