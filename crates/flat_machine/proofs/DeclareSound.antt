@@ -147,6 +147,7 @@ row_rules s space vpn frame flags receiver e =
     none_from : (o : Option Row) → is_some o ≡ false → o ≡ None
     none_from None e = refl
     none_from (Some row) e = absurd (cc)
+
     and_second : (a b : Bool) → a ≡ true → (a && b) ≡ false → b ≡ false
     and_second true b is e = e
     and_second false b is e = absurd (cc)

@@ -13,5 +13,5 @@ pub returns : goal.returns
 returns c =
     let p = is_signal_row_of c.args.frame in
     let counted : length c.signal_rows.result.items ≡ count_by p c.args.self.now.rows =
-        ap length c.signal_rows.ensures ∙ length-filter p c.self.inside.rows ∙ ap (λ (s : FlatState). count_by p s.rows) c.self.view_is in
+    ap length c.signal_rows.ensures ∙ length-filter p c.self.inside.rows ∙ ap (λ (s : FlatState). count_by p s.rows) c.self.view_is in
     rw (c.is_full.ensures.value, counted) (four_of_few (count_by p c.args.self.now.rows) (rw counted at c.is_full.ensures.fits))
