@@ -1,3 +1,6 @@
+pub mod Marking
+pub mod Places
+pub mod MmuLaws
 pub mod DeclareSound
 pub mod CallKeeps
 pub mod CallSound

@@ -1,15 +1,15 @@
 -- Each event keeps a state well-formed, so each state that events can reach is.
-use Rattle.std.proofs.Common.{◌≡◌, ℕ, zero, suc, ◌+◌, ◌*◌, ◌%◌, ◌<◌, ◌≤◌, Bool, true, false, not, cond, List, [], ◌∷◌, ◌++◌, map, length, take, drop, set, Option, Some, None, slice_get, Contains, filter, refl, ap, sym, ◌∙◌, subst, ◌⊎◌, inl, inr, arith, length-append, length-drop, length-set, length-take-le}
+use Rattle.std.proofs.Common.{◌≡◌, ℕ, zero, suc, ◌+◌, ◌*◌, ◌%◌, ◌<◌, ◌≤◌, Bool, true, false, not, List, [], ◌∷◌, ◌++◌, map, length, take, drop, set, Option, Some, None, slice_get, filter, refl, ap, sym, ◌∙◌, subst, inl, inr, arith, length-append, length-drop, length-set, length-take-le}
 use Rattle.std.specs.Prelude.{if◌then◌else◌, ◌==◌, ◌&&◌, nat_lt, is_some, option_to_list, unwrap_or, find}
 use Rattle.std.specs.Option.{option_map}
-use Rattle.std.proofs.lemmas.Bool.{cases_Bool, cases_eq, and_parts, not-true, ltb-false}
+use Rattle.std.proofs.lemmas.Bool.{cases_eq, and_parts, not-true, ltb-false}
 use Rattle.std.proofs.lemmas.Option.{same_Some, slice_get_within}
 use Rattle.cache_ident.specs.declared.names.Frame.{Frame}
 use Rattle.cache_ident.specs.declared.names.SpaceNo.{SpaceNo}
 use Rattle.cache_ident.specs.declared.names.ThreadNo.{ThreadNo}
 use Rattle.cache_ident.specs.declared.names.Vpn.{Vpn}
 use Rattle.phys_groups.specs.declared.rows.Row.{Row}
-use Rattle.phys_groups.specs.Memory.{page_at, with_page}
+use Rattle.phys_groups.specs.Memory.{with_page}
 use Rattle.phys_groups.specs.Translation.{row_of, without}
 use Rattle.phys_groups.proofs.Pages.{length-page_at}
 use Rattle.signal_pages.specs.Signals.{times_in, receiver_of, receivers_in, would_pass, room_in}
@@ -30,7 +30,7 @@ use Rattle.flat_state.specs.declared.events.Event.TheVariants.{Declare, Step, Co
 use Rattle.flat_state.specs.declared.records.FlatThread.{FlatThread}
 use Rattle.flat_state.specs.declared.records.Signal.{Signal}
 use Rattle.flat_state.specs.State.{FlatState, nothing_declared, with_thread, is_ended, is_ready}
-use Rattle.flat_state.specs.Pages.{page_of, is_in, pages_in, pages_of, with_pages, with_marks_of, with_marks}
+use Rattle.flat_state.specs.Pages.{is_in, pages_of, with_pages, with_marks_of, with_marks}
 use Rattle.flat_state.specs.Signals.{HasRoom, next_signal, receivers_of, receivers_for, full_receiver, is_runnable, delivered, has_ended, queued, queued_by, ended_by, full_among}
 use Rattle.flat_state.specs.Translation.{is_fit_row}
 use Rattle.flat_state.specs.Step.{outcome, faulted, written_back, moved, went_on, stepped_so, step_if, step_of, after_step}
@@ -101,6 +101,7 @@ given s frame row fit r is = by ((row.frame.0 == frame.0) && fit) row.receiver i
     thread_within : (space : SpaceNo) (thread : ThreadNo) (o : Option FlatThread) → slice_get s.threads thread.0 ≡ o → thread_is_in space o ≡ true → thread.0 < length s.threads
     thread_within space thread None here is_in = absurd (cc)
     thread_within space thread (Some t) here is_in = slice_get_within s.threads thread.0 t here
+
     by : (b : Bool) (o : Option ThreadNo) → is_receiver_in row.space s.threads o ≡ true → (if b then option_map (λ thread. (thread, row.vpn)) o else None) ≡ Some r → (r.0.0 < length s.threads) × (r.1.0 < 1048576)
     by true None is_in e = absurd (cc)
     by true (Some thread) is_in e =
@@ -132,14 +133,17 @@ room_behind : (threads : List FlatThread) (to : List ThreadNo) (receivers : List
 room_behind threads to [] fewer are none = tt
 room_behind threads to ((thread, vpn) ∷ rest) fewer are none =
     let first = are.each zero (thread, vpn) refl in
-    let passes = first_passes (would_pass to thread (queued threads thread) (has_ended threads thread)) _ none in
-    (first.0, first.1,
-    λ running. let le = fewer thread in let short = room_for (queued threads thread) (times_in to thread) (has_ended threads thread) running passes.0 in omega (arith, le, short),
-    room_behind threads to rest (λ t. let le = fewer t in let less = times_in-le thread (map (λ r. r.0) rest) t in omega (arith, le, less)) (record { each = λ k r there. are.each (suc k) r there }) passes.1)
+    let passes = first_passes (would_pass to thread (queued threads thread) (has_ended threads thread)) _ none in (
+      first.0,
+      first.1,
+      λ running. let le = fewer thread in let short = room_for (queued threads thread) (times_in to thread) (has_ended threads thread) running passes.0 in omega (arith, le, short),
+      room_behind threads to rest (λ t. let le = fewer t in let less = times_in-le thread (map (λ r. r.0) rest) t in omega (arith, le, less)) (record { each = λ k r there. are.each (suc k) r there }) passes.1,
+    )
   where
     first_passes : (b : Bool) (later : Option ThreadNo) → (if b then Some thread else later) ≡ None → (b ≡ false) × (later ≡ None)
     first_passes true later e = absurd (cc)
     first_passes false later e = (refl, e)
+
     room_for : (queue times : ℕ) (ended : Bool) → ended ≡ false → (not ended && nat_lt 64 (queue + times)) ≡ false → queue + times ≤ 64
     room_for queue times true is e = absurd (cc)
     room_for queue times false is e = ltb-false 64 (queue + times) e
@@ -158,10 +162,12 @@ pub room_kept : (before after : List FlatThread) (receivers : List (ThreadNo × 
 room_kept before after [] at_most has = tt
 room_kept before after ((thread, vpn) ∷ rest) at_most has =
     let many = at_most.many in
-    let lt = has.0 in
-    (omega (arith, many, lt), has.1,
-    λ running. let same = at_most.same thread in let short = has.2 (at_most.running thread running) in omega (arith, same, short),
-    room_kept before after rest at_most has.3)
+    let lt = has.0 in (
+      omega (arith, many, lt),
+      has.1,
+      λ running. let same = at_most.same thread in let short = has.2 (at_most.running thread running) in omega (arith, same, short),
+      room_kept before after rest at_most has.3,
+    )
 
 -- a thread that was ready is replaced by one with its queue
 pub ends_at_most : (threads : List FlatThread) (n : ℕ) (t u : FlatThread) → slice_get threads n ≡ Some t → u.queue ≡ t.queue → is_ended t.status ≡ false → EndAtMost threads (set threads n u)
@@ -179,6 +185,7 @@ ends_at_most threads n t u here same_queue ready = record {
   where
     now : (thread : ThreadNo) → thread.0 ≡ n → slice_get (set threads n u) thread.0 ≡ Some u
     now thread same = rw same (get-set_same threads n u t here)
+
     was : (thread : ThreadNo) → thread.0 ≡ n → slice_get threads thread.0 ≡ Some t
     was thread same = rw same here
 
@@ -192,6 +199,7 @@ runnable_parts s t runs =
     goes_on Ready e = refl
     goes_on Trapped e = refl
     goes_on (Ended reason) e = absurd (cc)
+
     none_from : (o : Option ThreadNo) → is_some o ≡ false → o ≡ None
     none_from None e = refl
     none_from (Some thread) e = absurd (cc)

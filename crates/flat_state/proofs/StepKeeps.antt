@@ -1,5 +1,5 @@
 -- A step keeps pc aligned, and each page its frame and its 4,096 bytes.
-use Rattle.std.proofs.Common.{◌≡◌, ℕ, zero, suc, ◌+◌, ◌*◌, ◌/◌, ◌%◌, ◌≤◌, Bool, true, false, cond, List, [], ◌∷◌, map, length, set, Option, Some, None, slice_get, refl, ap, sym, ◌∙◌, subst, arith, length-set}
+use Rattle.std.proofs.Common.{◌≡◌, ℕ, zero, suc, ◌+◌, ◌*◌, ◌/◌, ◌%◌, ◌≤◌, Bool, true, false, List, map, length, set, Option, Some, None, slice_get, refl, ◌∙◌, subst, arith, length-set}
 use Rattle.std.specs.Prelude.{if◌then◌else◌, ◌==◌}
 use Rattle.std.proofs.lemmas.Bool.{eqb-true}
 use Rattle.rv32_isa.specs.declared.forms.Instr.{Instr}
@@ -14,7 +14,7 @@ use Rattle.rv32_exec.specs.declared.actions.Action.TheVariants as actions
 use Rattle.rv32_exec.specs.Registers.{next_of}
 use Rattle.rv32_exec.specs.Pages.{Page, size_of, translates, translation, fetched, loaded, put_bytes, put_in_frame, stored_through, stored, mark, mark_page, touched_at}
 use Rattle.rv32_exec.specs.Actions.{action_of}
-use Rattle.rv32_exec.specs.Steps.{After, ended, after_jump, load_found, store_found, write_found, read_found, after_action, after_decoding, after_fetch, after_step}
+use Rattle.rv32_exec.specs.Steps.{After, after_jump, load_found, store_found, write_found, read_found, after_action, after_decoding, after_fetch, after_step}
 use Rattle.flat_state.proofs.Places.{get_from_map}
 
 -- a page of a memory of that size, with all its bytes
