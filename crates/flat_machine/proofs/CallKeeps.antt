@@ -1,5 +1,5 @@
 -- What a call leaves of its thread.
-use Rattle.std.proofs.Common.{◌≡◌, ℕ, Bool, true, false, List, [], ◌∷◌, ◌++◌, refl, ap, sym, ◌∙◌, ◌⊎◌, inl, inr, arith}
+use Rattle.std.proofs.Common.{◌≡◌, ℕ, Bool, true, false, List, [], ◌∷◌, refl, ap, ◌∙◌, ◌⊎◌, inl, inr}
 use Rattle.std.specs.Prelude.{◌==◌, if◌then◌else◌}
 use Rattle.arrayvec.specs.ArrayVec.{ArrayVec}
 use Rattle.cache_ident.specs.declared.names.ThreadNo.{ThreadNo}
@@ -8,10 +8,10 @@ use Rattle.rv32_exec.specs.declared.statuses.Reason.{Reason}
 use Rattle.rv32_exec.specs.declared.statuses.Status.TheVariants.{Ready}
 use Rattle.fault_forward.specs.declared.effects.Effect.{Effect}
 use Rattle.fault_forward.specs.declared.effects.Effect.TheVariants as effects
-use Rattle.fault_forward.specs.Calls.{Completion, completion_of, call_number, brings, answers, taken}
+use Rattle.fault_forward.specs.Calls.{Completion, completion_of, call_number, taken}
 use Rattle.flat_state.specs.declared.records.FlatThread.{FlatThread}
 use Rattle.flat_state.specs.Call.{resumed}
-use Rattle.flat_machine.specs.Calls.{call_of, own_part_so, own_part}
+use Rattle.flat_machine.specs.Calls.{call_of, own_part_so}
 
 -- a call by which the thread just goes on, or one that leaves its context and its queue
 abbrev LeavesRest : Context → List ℕ → Completion → Type 0

@@ -1,4 +1,4 @@
-use Rattle.std.proofs.Common.{◌≡◌, None, Some, ◌<◌, ℕ, List, [], length, slice_get, refl, sym, subst, ap, ◌∙◌, arith}
+use Rattle.std.proofs.Common.{◌≡◌, None, ℕ, List, [], refl, sym, subst, ap}
 use Rattle.flat_state.specs.declared.events.Decl.TheVariants as decls
 use Rattle.flat_state.specs.State.{FlatState}
 use Rattle.flat_state.specs.Declaration.{broken_rule, declared}
