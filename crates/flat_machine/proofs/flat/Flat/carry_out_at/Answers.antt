@@ -3,7 +3,6 @@ use Rattle.std.proofs.lemmas.Option.{same_Some, slice_get_read}
 use Rattle.flat_state.specs.State.{FlatState}
 use Rattle.flat_machine.specs.contracts.flat.Flat.{the_view}
 use Rattle.std.proofs.lemmas.Result.{on_ok_weaker, IfOk-weaker}
-use Rattle.std.proofs.lemmas.List.{set-get_or}
 use Rattle.flat_state.specs.declared.records.FlatThread.{FlatThread}
 use Rattle.flat_state.specs.State.{with_thread}
 use Rattle.flat_machine.specs.Calls.{OfThread, call_of, own_part}
