@@ -8,3 +8,6 @@ pub mod CallEnds
 pub mod FlatLaws
 pub mod Missing
 pub mod Looks
+pub mod Quantifiers
+pub mod RunLaws
+pub mod SendLaws

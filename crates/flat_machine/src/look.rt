@@ -12,7 +12,7 @@ ghost use Rattle.flat_state.specs.Translation.{reached as reached_lem};
 ghost use Rattle.flat_state.specs.Pages.{pages_of};
 ghost use Rattle.flat_state.specs.Signals.{next_action as next_action_lem, next_signal as next_signal_lem, signal_of as signal_of_lem, signal_through as signal_through_lem};
 ghost use Rattle.flat_state.specs.Dependence.{row_name as row_name_lem};
-ghost use Rattle.flat_state.specs.NextSteps.{data_access as data_access_lem, data_row as data_row_lem, fetch_row as fetch_row_lem, faults as faults_lem, next_step as next_step_lem};
+ghost use Rattle.flat_state.specs.NextSteps.{data_access as data_access_lem, data_row as data_row_lem, fetch_row as fetch_row_lem, faults as faults_lem, next_step as next_step_lem, next_step_of as next_step_of_lem};
 ghost use Rattle.flat_machine.specs.Looking.{does_any_miss, does_miss, stored_word as stored_word_lem};
 ghost use Rattle.flat_machine.specs.Readings.{IsThreadOf, Reaches};
 ghost use Rattle.flat_machine.specs.Seen.{IsInMemory};
@@ -83,24 +83,35 @@ fn stored_word(action: Action) -> Option<u32>
 impl Flat {
     /// What can be said of a thread's next step, and none where there is no such thread. It costs the logarithm of
     /// the rows.
+    #[tactic(auto, unfolding(flat_state::specs::NextSteps::next_step))]
     pub fn next_step(&self, no: ThreadNo) -> Option<NextStep>
         ensures { result ≡ next_step_lem self.now no.0 }
     {
-        let thread = self.threads.get(no.0 as usize)?;
-        Some(match thread.status {
+        let at = no.0 as usize;
+        if self.threads.len() <= at {
+            return None;
+        }
+        Some(self.next_step_of(self.thread_at(at)))
+    }
+
+    fn next_step_of(&self, thread: &FlatThread) -> NextStep
+        requires { IsThreadOf self.now thread.now }
+        ensures { result ≡ next_step_of_lem self.now thread.now }
+    {
+        match thread.status {
             Status::Ready => NextStep {
                 runnable: self.full_receiver(thread).is_none(),
                 faults: self.faults(thread),
                 fetch_row: self.fetch_row(thread).map(row_name),
                 data_row: self.data_row(thread).map(row_name),
             },
-            _ => NextStep {
+            Status::Trapped | Status::Ended(_) => NextStep {
                 runnable: false,
                 faults: false,
                 fetch_row: None,
                 data_row: None,
             },
-        })
+        }
     }
 
     // What comes of an access of a thread.

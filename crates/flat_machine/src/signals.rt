@@ -1,10 +1,12 @@
 //! The receivers of a signal, and what they get.
 
-ghost use Rattle.std.specs.Prelude.{◌≡◌, ◌<◌, ◌≤◌, true, false, length, map, All};
+ghost use Rattle.std.specs.Prelude.{◌≡◌, ◌<◌, ◌≤◌, true, false, length, map, slice_get, All};
 ghost use Rattle.signal_pages.specs.Signals.{is_signalling};
-ghost use Rattle.flat_state.specs.Signals.{HasRoom, full_among as full_among_lem, has_ended as has_ended_lem, queued as queued_lem, full_receiver as full_receiver_lem, receivers_for as receivers_for_lem, receivers_of as receivers_of_lem, sent, with_address};
+ghost use Rattle.flat_state.specs.Signals.{HasRoom, full_among as full_among_lem, has_ended as has_ended_lem, queued as queued_lem, full_receiver as full_receiver_lem, receivers_for as receivers_for_lem, receivers_of as receivers_of_lem, sent, sent_to, with_address};
 ghost use Rattle.flat_state.specs.State.{is_ended as is_ended_lem};
 ghost use Rattle.flat_state.specs.Translation.{is_fit_row as is_fit_row_lem};
+ghost use Rattle.flat_state.specs.WellFormed.{AreThreads};
+ghost use Rattle.flat_machine.specs.Calls.{OfThread};
 ghost use Rattle.flat_machine.specs.Readings.{IsThreadOf};
 
 use crate::flat::Flat;
@@ -103,6 +105,28 @@ impl Flat {
         let receivers = self.receivers_for(self.next_signal(thread));
         self.full_among(&receivers)
     }
+
+    // Gives each receiver in turn the address of the message slot in its own page. There is room for all.
+    pub(crate) fn send(&mut self, offset: u32, receivers: &[(ThreadNo, Vpn)])
+        requires page { offset < 4096 }
+        requires signalling { is_signalling offset ≡ true }
+        requires threads { AreThreads self.old.spaces self.old.threads }
+        requires room { HasRoom self.old.threads receivers.now }
+        ensures { self.new ≡ record self.old { threads = sent self.old.threads offset receivers.now } }
+    {
+        for receiver in receivers {
+            self.give_to(receiver.0, address(receiver.1, offset));
+        }
+    }
+
+    // Gives a thread an address.
+    fn give_to(&mut self, thread: ThreadNo, va: u32)
+        requires there { thread.0 < length self.old.threads }
+        requires room { OfThread self.old thread.0 (λ t. is_ended_lem t.status ≡ false → length t.queue.items < 64) }
+        ensures { self.new ≡ record self.old { threads = sent_to self.old.threads thread va (slice_get self.old.threads thread.0) } }
+    {
+        give(&mut self.threads[thread.0 as usize], va);
+    }
 }
 
 // Appends an address to the thread's queue, unless the thread has ended.
@@ -113,18 +137,4 @@ fn give(thread: &mut FlatThread, va: u32)
     if !is_ended(thread.status) {
         thread.queue.push(va);
     }
-}
-
-// Gives each receiver in turn the address of the message slot in its own page. There is room for all.
-pub(crate) fn send(threads: &mut [FlatThread], offset: u32, receivers: &[(ThreadNo, Vpn)])
-    requires page { offset < 4096 }
-    requires signalling { is_signalling offset ≡ true }
-    requires room { HasRoom threads.old receivers.now }
-    ensures { threads.new ≡ sent threads.old offset receivers.now }
-{
-    let Some(((thread, vpn), rest)) = receivers.split_first() else {
-        return;
-    };
-    give(&mut threads[thread.0 as usize], address(*vpn, offset));
-    send(threads, offset, rest);
 }

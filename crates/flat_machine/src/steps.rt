@@ -8,7 +8,6 @@ ghost use Rattle.flat_machine.specs.Readings.{RanIn, unsignalled};
 
 use crate::flat::Flat;
 use crate::mmu::Mmu;
-use crate::signals::send;
 use crate::threads::is_ready;
 use cache_ident::{SpaceNo, ThreadNo};
 use phys_groups::Memory;
@@ -35,7 +34,7 @@ impl Flat {
         }
         match (self.take_step(at), signal) {
             (Stepped::Miss { .. }, _) | (_, None) => {}
-            (_, Some(signal)) => send(&mut self.threads, signal.offset, &receivers),
+            (_, Some(signal)) => self.send(signal.offset, &receivers),
         }
     }
 

@@ -96,8 +96,8 @@ impl Flat {
     pub(crate) fn all_stuck(&self) -> bool
         ensures { result ≡ list_all (is_stuck_lem self.now) self.now.threads }
     {
-        for at in 0..self.threads.len() {
-            if !self.is_stuck(self.thread_at(at)) {
+        for at in 0..self.threads() {
+            if !self.is_stuck(self.thread_at(at as usize)) {
                 return false;
             }
         }
