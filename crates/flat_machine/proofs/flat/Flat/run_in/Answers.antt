@@ -9,7 +9,7 @@ use Rattle.flat_state.specs.Rest.{rest_of}
 use Rattle.flat_machine.specs.Readings.{RanIn}
 use Rattle.flat_machine.specs.Seen.{IsMapped, Seen, pages_seen, rest_seen}
 use Rattle.flat_machine.proofs.FlatLaws.{rows_mapped}
-use Rattle.flat_machine.proofs.RunLaws.{ran_formed, ran_in}
+use Rattle.flat_machine.proofs.RunLaws.{missed-map, ran_formed, ran_in, ran_unchanged}
 use Rattle.flat_machine.proofs.flat.Flat.run_in.Goals as goal
 
 pub new-mmu-requires : goal.new-mmu-requires
@@ -47,3 +47,9 @@ pub returns-clause-ran : goal.returns-clause-ran
 returns-clause-ran c =
     let ran = ran_in (s c) c.self.invariant.formed c.args.space (new c) c.into_parts-memory.ensures.mapped (kept c) c.args.context.now c.step-stepped.new.context c.step-stepped.result (after c) in
     subst (λ (t : FlatState). RanIn t c.args.space c.args.context.now (record (s c) { memory = c.into_parts-memory.result.0; rows = c.into_parts-memory.result.1 }) c.step-stepped.new.context c.step-stepped.result) c.self.view_is (subst₂ (λ (m : List ℕ) (rs : List Row). RanIn (s c) c.args.space c.args.context.now (record (s c) { memory = m; rows = rs }) c.step-stepped.new.context c.step-stepped.result) (sym (ap (λ p. p.0) c.into_parts-memory.ensures.parts)) (sym (ap (λ p. p.1) c.into_parts-memory.ensures.parts)) ran)
+
+pub returns-clause-missed : goal.returns-clause-missed
+returns-clause-missed c =
+    missed-map c.step-stepped.result (λ same.
+    let unchanged = ran_unchanged (s c) c.self.invariant.formed c.args.space (new c) c.into_parts-memory.ensures.mapped (kept c) (same.1 ∙ ap pages_seen (unit_was c)) in
+    (same.0, subst₂ (λ (m : List ℕ) (rs : List Row). record (s c) { memory = m; rows = rs } ≡ s c) (sym (ap (λ p. p.0) c.into_parts-memory.ensures.parts)) (sym (ap (λ p. p.1) c.into_parts-memory.ensures.parts)) unchanged ∙ c.self.view_is)) c.step-stepped.ensures.missed

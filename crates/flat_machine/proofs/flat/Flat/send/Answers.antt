@@ -45,8 +45,7 @@ loop-receiver-preserved c =
     let more = sending_more before.spaces c.args.offset before.threads now.threads rs i r (slice_get-get_or rs i (record { 0 = 0 }, record { 0 = 0 }) c.loop-receiver-test.true) (drop_more rs i (record { 0 = 0 }, record { 0 = 0 }) c.loop-receiver-test.true) c.loop-receiver.invariant.1 in
     let sent_one : c.give_to.new.self ≡ record now { threads = sent_to now.threads r.0 c.address.result (slice_get now.threads r.0.0) } = c.give_to.ensures in
     let threads : c.give_to.new.self.threads ≡ sent_to now.threads r.0 (address_of r.1 c.args.offset) (slice_get now.threads r.0.0) =
-        ap (λ (t : FlatState). t.threads) sent_one ∙ ap (λ (va : ℕ). sent_to now.threads r.0 va (slice_get now.threads r.0.0)) c.address.ensures in
-    (
+    ap (λ (t : FlatState). t.threads) sent_one ∙ ap (λ (va : ℕ). sent_to now.threads r.0 va (slice_get now.threads r.0.0)) c.address.ensures in (
       sent_one ∙ ap (λ (t : FlatState). record t { threads = sent_to now.threads r.0 c.address.result (slice_get now.threads r.0.0) }) c.loop-receiver.invariant.0 ∙ ap (λ (ts : List FlatThread). record before { threads = ts }) (sym (ap (λ (t : FlatState). t.threads) sent_one)),
       subst (λ (ts : List FlatThread). IsSending before.spaces c.args.offset before.threads ts rs (i + 1)) (sym threads) more,
     )
