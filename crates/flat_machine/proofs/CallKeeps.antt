@@ -1,6 +1,6 @@
 -- What a call leaves of its thread.
-use Rattle.std.proofs.Common.{◌≡◌, ℕ, Bool, true, false, List, [], ◌∷◌, ◌++◌, refl, ap, sym, ◌∙◌, ◌⊎◌, inl, inr, arith}
-use Rattle.std.specs.Prelude.{◌==◌, if◌then◌else◌}
+use Rattle.std.proofs.Common.{◌≡◌, Result, Ok, Err, ℕ, Bool, true, false, List, [], ◌∷◌, refl, ap, ◌∙◌, ◌⊎◌, inl, inr}
+use Rattle.std.specs.Prelude.{OnErr, ◌==◌, if◌then◌else◌}
 use Rattle.arrayvec.specs.ArrayVec.{ArrayVec}
 use Rattle.cache_ident.specs.declared.names.ThreadNo.{ThreadNo}
 use Rattle.rv32_exec.specs.declared.contexts.Context.{Context}
@@ -8,10 +8,10 @@ use Rattle.rv32_exec.specs.declared.statuses.Reason.{Reason}
 use Rattle.rv32_exec.specs.declared.statuses.Status.TheVariants.{Ready}
 use Rattle.fault_forward.specs.declared.effects.Effect.{Effect}
 use Rattle.fault_forward.specs.declared.effects.Effect.TheVariants as effects
-use Rattle.fault_forward.specs.Calls.{Completion, completion_of, call_number, brings, answers, taken}
+use Rattle.fault_forward.specs.Calls.{Completion, completion_of, call_number, taken}
 use Rattle.flat_state.specs.declared.records.FlatThread.{FlatThread}
 use Rattle.flat_state.specs.Call.{resumed}
-use Rattle.flat_machine.specs.Calls.{call_of, own_part_so, own_part}
+use Rattle.flat_machine.specs.Calls.{call_of, own_part_so}
 
 -- a call by which the thread just goes on, or one that leaves its context and its queue
 abbrev LeavesRest : Context → List ℕ → Completion → Type 0
@@ -64,3 +64,8 @@ left_over t x (effects.Map vpn frame flags receiver) no_ready no_put no_decimal 
 left_over t x (effects.Unmap vpn) no_ready no_put no_decimal no_end = refl
 left_over t x (effects.Spawn pc a0 priority) no_ready no_put no_decimal no_end = refl
 left_over t x (effects.Grant kernel group bits) no_ready no_put no_decimal no_end = refl
+
+-- what holds also holds on an error
+pub on_err : {T E P : Type 0} (r : Result T E) → P → OnErr r P
+on_err (Ok x) p = tt
+on_err (Err e) p = p

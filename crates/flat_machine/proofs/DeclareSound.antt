@@ -18,8 +18,7 @@ use Rattle.flat_state.specs.declared.events.Decl.TheVariants as decls
 use Rattle.flat_state.specs.declared.events.Machine.{Machine}
 use Rattle.flat_state.specs.declared.records.FlatKernel.{FlatKernel}
 use Rattle.flat_state.specs.State.{FlatState, groups_of}
-use Rattle.flat_state.specs.Declaration.{agree, are_capacities, breaks, broken_rule, declared, has_four, has_frame, has_no_flag, has_receiver, is_receiver_in, locks_granted, new_kernel, with_right, rule_of_other, rule_of_machine}
-use Rattle.flat_state.specs.WellFormed.{IsWellFormed}
+use Rattle.flat_state.specs.Declaration.{agree, broken_rule, declared, has_four, has_frame, has_no_flag, has_receiver, is_receiver_in, locks_granted, new_kernel, with_right}
 use Rattle.flat_state.proofs.Places.{sum_by-set_same}
 use Rattle.flat_state.proofs.FormedParts.{breaks_none, other_rule, first_rule, machine_formed, kernel_formed, right_formed, space_formed, thread_declared_formed, row_formed, word_formed}
 use Rattle.flat_machine.specs.Readings.{IsSound}
@@ -147,6 +146,7 @@ row_rules s space vpn frame flags receiver e =
     none_from : (o : Option Row) → is_some o ≡ false → o ≡ None
     none_from None e = refl
     none_from (Some row) e = absurd (cc)
+
     and_second : (a b : Bool) → a ≡ true → (a && b) ≡ false → b ≡ false
     and_second true b is e = e
     and_second false b is e = absurd (cc)

@@ -5,3 +5,9 @@ pub mod DeclareSound
 pub mod CallKeeps
 pub mod CallSound
 pub mod CallEnds
+pub mod FlatLaws
+pub mod Missing
+pub mod Looks
+pub mod Quantifiers
+pub mod RunLaws
+pub mod SendLaws

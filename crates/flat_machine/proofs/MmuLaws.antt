@@ -68,12 +68,12 @@ mapped_marked memory rows space n w mapped =
     record {
       few = mapped.few;
       frames = λ row there.
-        let at : slice_get (map (marked space n w) rows) there.0 ≡ Some row = slice_get-get_or (map (marked space n w) rows) there.0 row there.1 ∙ ap Some there.2 in
-        let before = get_from_map (marked space n w) rows there.0 row at in
-        let here : Contains rows before.0 = (there.0, slice_get_within rows there.0 before.0 before.1, get_or_from_slice_get rows there.0 before.0 before.0 before.1) in
-        subst (λ (f : Frame). HasFrame memory f) (sym (marked-frame space n w before.0) ∙ ap (λ (r : Row). r.frame) before.2) (mapped.frames before.0 here);
+          let at : slice_get (map (marked space n w) rows) there.0 ≡ Some row = slice_get-get_or (map (marked space n w) rows) there.0 row there.1 ∙ ap Some there.2 in
+          let before = get_from_map (marked space n w) rows there.0 row at in
+          let here : Contains rows before.0 = (there.0, slice_get_within rows there.0 before.0 before.1, get_or_from_slice_get rows there.0 before.0 before.0 before.1) in
+          subst (λ (f : Frame). HasFrame memory f) (sym (marked-frame space n w before.0) ∙ ap (λ (r : Row). r.frame) before.2) (mapped.frames before.0 here);
       single = λ i j a b at-a at-b same.
-        let x = get_from_map (marked space n w) rows i a at-a in
-        let y = get_from_map (marked space n w) rows j b at-b in
-        mapped.single i j x.0 y.0 x.1 y.1 (sym (marked-same space n w x.0 y.0) ∙ ap₂ (λ (p q : Row). is_row_of p.space p.vpn.0 q) x.2 y.2 ∙ same);
+          let x = get_from_map (marked space n w) rows i a at-a in
+          let y = get_from_map (marked space n w) rows j b at-b in
+          mapped.single i j x.0 y.0 x.1 y.1 (sym (marked-same space n w x.0 y.0) ∙ ap₂ (λ (p q : Row). is_row_of p.space p.vpn.0 q) x.2 y.2 ∙ same);
     }

@@ -1,5 +1,5 @@
 -- What the parts of a completion answer.
-use Rattle.std.specs.Prelude.{◌≡◌, ℕ, ◌<◌, List, [], ◌∷◌, ◌++◌, Option, Some, slice_get}
+use Rattle.std.specs.Prelude.{◌≡◌, ℕ, ◌<◌, [], ◌∷◌, ◌++◌, Some, slice_get}
 use Rattle.std.specs.Fmt.{decimal}
 use Rattle.rv32_exec.specs.declared.statuses.Status.TheVariants.{Ended}
 use Rattle.fault_forward.specs.declared.effects.Effect.{Effect}

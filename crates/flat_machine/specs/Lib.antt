@@ -1,3 +1,4 @@
 pub mod Readings
 pub mod Seen
 pub mod Calls
+pub mod Looking

@@ -1,12 +1,16 @@
 -- What the program keeps, and what its parts answer.
-use Rattle.std.specs.Prelude.{◌≡◌, ℕ, Bool, false, not, List, Option, Some, None, Result, Ok, Err}
+use Rattle.std.specs.Prelude.{◌≡◌, ℕ, Bool, false, not, if◌then◌else◌, List, Option, Some, None, Result, Ok, Err}
 use Rattle.cache_ident.specs.declared.names.Caps.{Caps}
 use Rattle.cache_ident.specs.declared.names.KernelNo.{KernelNo}
 use Rattle.cache_ident.specs.declared.names.SpaceNo.{SpaceNo}
+use Rattle.cache_ident.specs.declared.names.ThreadNo.{ThreadNo}
+use Rattle.cache_ident.specs.declared.names.Vpn.{Vpn}
 use Rattle.phys_groups.specs.declared.rows.Row.{Row}
 use Rattle.phys_groups.specs.Translation.{Translated, through}
 use Rattle.rv32_exec.specs.declared.contexts.Context.{Context}
 use Rattle.rv32_exec.specs.declared.statuses.FaultKind.{FaultKind}
+use Rattle.rv32_exec.specs.declared.statuses.Reason.TheVariants.{Fault}
+use Rattle.rv32_exec.specs.declared.statuses.Status.{Status}
 use Rattle.rv32_exec.specs.declared.statuses.Status.TheVariants.{Ready, Trapped, Ended}
 use Rattle.rv32_exec.specs.declared.steps.Stepped.{Stepped}
 use Rattle.rv32_exec.specs.declared.steps.Stepped.TheVariants.{Next, Call, Stop, Miss}
@@ -15,10 +19,12 @@ use Rattle.flat_state.specs.declared.events.Decl.{Decl}
 use Rattle.flat_state.specs.declared.events.Machine.{Machine}
 use Rattle.flat_state.specs.declared.records.FlatKernel.{FlatKernel}
 use Rattle.flat_state.specs.declared.records.FlatThread.{FlatThread}
+use Rattle.flat_state.specs.declared.records.Signal.{Signal}
 use Rattle.flat_state.specs.State.{FlatState}
-use Rattle.flat_state.specs.Translation.{is_fit_row, row_through, fault_kind}
+use Rattle.flat_state.specs.Translation.{is_fit_row, reached, row_through, fault_kind}
 use Rattle.flat_state.specs.Declaration.{breaks, broken_rule, locks_granted}
 use Rattle.flat_state.specs.Pages.{pages_of}
+use Rattle.flat_state.specs.Signals.{delivered}
 use Rattle.flat_state.specs.Step.{outcome, written_back, moved, faulted}
 use Rattle.flat_state.specs.WellFormed.{IsWellFormed, IsThread}
 
@@ -45,6 +51,17 @@ pub record RanIn (old : FlatState) (space : SpaceNo) (before : Context) (new : F
   pub context : after ≡ (after_instruction before (pages_of old space)).context
   pub answered : answer ≡ (after_instruction before (pages_of old space)).answer
   pub state : new ≡ written_back old space (after_instruction before (pages_of old space)).pages
+
+-- what a thread does after a step that came to that
+abbrev pub status_so : FlatState → FlatThread → Stepped → Status
+status_so s t Next = Ready
+status_so s t Call = Trapped
+status_so s t (Stop reason) = Ended reason
+status_so s t (Miss va access) = Ended (Fault (fault_kind (reached s access t.space va)) access va)
+
+-- a step that missed sends nothing
+abbrev pub delivered_unless : Bool → List FlatThread → Option Signal → List (ThreadNo × Vpn) → List FlatThread
+delivered_unless missed threads signal receivers = if missed then threads else delivered threads signal receivers
 
 -- the state after the step of a thread whose signals aren't delivered yet
 abbrev pub unsignalled_so : FlatState → ℕ → FlatThread → After → Stepped → FlatState

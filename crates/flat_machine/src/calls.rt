@@ -142,6 +142,7 @@ impl Flat {
         }
     }
 
+    // Carries the call of a thread out as far as that goes without the rest of the machine.
     fn carry_out_at(&mut self, at: usize) -> Result<Effect, NoMemory>
         requires there { at < length self.old.threads }
         requires completable { OfThread self.old at (λ t. is_completable_lem t ≡ true) }
@@ -152,6 +153,7 @@ impl Flat {
         carry_out(&mut self.threads[at])
     }
 
+    // A thread goes on with an answer in a0.
     fn answer_at(&mut self, at: usize, value: u32)
         requires { at < length self.old.threads }
         ensures { OfThread self.old at (λ t. self.new ≡ with_thread self.old at (answered t value)) }

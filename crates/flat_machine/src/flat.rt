@@ -134,6 +134,7 @@ impl Flat {
 
     /// Whether a run of so many steps is over, at that limit. It goes once over the threads, and looks at the next
     /// step of each that is ready.
+    #[tactic(auto, unfolding(flat_state::specs::Settling::settled_of))]
     pub fn settled(&self, steps: u64, limit: u64) -> Settled
         ensures { result ≡ settled_of self.now steps limit }
     {

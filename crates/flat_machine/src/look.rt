@@ -1,21 +1,28 @@
 //! What the next step of a thread would do, without taking it.
 
-ghost use Rattle.std.specs.Prelude.{◌≡◌};
+ghost use Rattle.std.specs.Prelude.{◌≡◌, ◌%◌, IfSome, not};
+ghost use Rattle.std.specs.Option.{option_map};
+ghost use Rattle.phys_groups.specs.Memory.{word_at as word_at_lem};
+ghost use Rattle.phys_groups.specs.Translation.{place_in};
+ghost use Rattle.rv32_isa.specs.Table.{instruction_of};
 ghost use Rattle.rv32_exec.specs.declared.statuses.Access.TheVariants.{Write};
-ghost use Rattle.rv32_exec.specs.Steps.{after_action};
+ghost use Rattle.rv32_exec.specs.Actions.{action_of};
+ghost use Rattle.rv32_exec.specs.Pages.{fetched, translates};
 ghost use Rattle.flat_state.specs.Translation.{reached as reached_lem};
 ghost use Rattle.flat_state.specs.Pages.{pages_of};
-ghost use Rattle.flat_state.specs.Signals.{next_action as next_action_lem, next_signal as next_signal_lem, signal_through as signal_through_lem};
+ghost use Rattle.flat_state.specs.Signals.{next_action as next_action_lem, next_signal as next_signal_lem, signal_of as signal_of_lem, signal_through as signal_through_lem};
 ghost use Rattle.flat_state.specs.Dependence.{row_name as row_name_lem};
-ghost use Rattle.flat_state.specs.NextSteps.{data_access as data_access_lem, data_row as data_row_lem, fetch_row as fetch_row_lem, faults as faults_lem, is_miss, next_step as next_step_lem};
+ghost use Rattle.flat_state.specs.NextSteps.{data_access as data_access_lem, data_row as data_row_lem, fetch_row as fetch_row_lem, faults as faults_lem, next_step as next_step_lem, next_step_of as next_step_of_lem};
+ghost use Rattle.flat_machine.specs.Looking.{does_any_miss, does_miss, stored_word as stored_word_lem};
 ghost use Rattle.flat_machine.specs.Readings.{IsThreadOf, Reaches};
+ghost use Rattle.flat_machine.specs.Seen.{IsInMemory};
 
 use crate::flat::Flat;
 use crate::reach::reach;
 use cache_ident::{Name, ThreadNo};
 use flat_state::{DataAccess, FlatThread, NextStep, Signal};
 use phys_groups::Row;
-use rv32_exec::{Access, Action, FaultKind, Status, Width, action_for};
+use rv32_exec::{Access, Action, Context, FaultKind, Status, Width, action_for};
 use rv32_isa::decode;
 use signal_pages::signals;
 
@@ -44,27 +51,67 @@ fn row_name(row: Row) -> Name
     Name::Mapping(row.space, row.vpn)
 }
 
+// What the instruction that a word is asks for.
+fn asked(context: &Context, word: u32) -> Option<Action>
+    ensures { result ≡ option_map (λ instr. action_of instr context.now) (instruction_of word) }
+{
+    match decode(word) {
+        Some(instr) => Some(action_for(context, instr)),
+        None => None,
+    }
+}
+
+// Where an action stores a word.
+fn stored_word(action: Action) -> Option<u32>
+    ensures { result ≡ stored_word_lem action }
+{
+    match action {
+        Action::Store { va, width, .. } => match width {
+            Width::Word => Some(va),
+            Width::Byte | Width::Half => None,
+        },
+        Action::Set { .. }
+        | Action::Pass
+        | Action::Jump { .. }
+        | Action::Load { .. }
+        | Action::Atomic { .. }
+        | Action::Call
+        | Action::Break => None,
+    }
+}
+
 impl Flat {
     /// What can be said of a thread's next step, and none where there is no such thread. It costs the logarithm of
     /// the rows.
+    #[tactic(auto, unfolding(flat_state::specs::NextSteps::next_step))]
     pub fn next_step(&self, no: ThreadNo) -> Option<NextStep>
         ensures { result ≡ next_step_lem self.now no.0 }
     {
-        let thread = self.threads.get(no.0 as usize)?;
-        Some(match thread.status {
+        let at = no.0 as usize;
+        if self.threads.len() <= at {
+            return None;
+        }
+        Some(self.next_step_of(self.thread_at(at)))
+    }
+
+    fn next_step_of(&self, thread: &FlatThread) -> NextStep
+        requires { IsThreadOf self.now thread.now }
+        ensures { result ≡ next_step_of_lem self.now thread.now }
+    {
+        match thread.status {
             Status::Ready => NextStep {
                 runnable: self.full_receiver(thread).is_none(),
                 faults: self.faults(thread),
                 fetch_row: self.fetch_row(thread).map(row_name),
                 data_row: self.data_row(thread).map(row_name),
             },
-            _ => NextStep {
+            Status::Trapped | Status::Ended(_) => NextStep {
                 runnable: false,
                 faults: false,
                 fetch_row: None,
                 data_row: None,
             },
-        })
+        }
     }
 
     // What comes of an access of a thread.
@@ -88,8 +135,11 @@ impl Flat {
 
     fn fetch_row(&self, thread: &FlatThread) -> Option<Row>
         requires { IsThreadOf self.now thread.now }
-        ensures { result ≡ fetch_row_lem self.now thread.now }
+        ensures row { result ≡ fetch_row_lem self.now thread.now }
+        ensures in_memory { IfSome result (λ row. IsInMemory self.now.memory row.frame) }
     {
+        // The row is one of the machine's, so its frame is in memory.
+        let _ = &self.rows;
         self.reached(thread, Access::Fetch, thread.context.pc).ok()
     }
 
@@ -101,17 +151,37 @@ impl Flat {
         self.reached(thread, access.access, access.va).ok()
     }
 
+    // The word at the thread's pc, where its fetch translates.
+    fn next_word(&self, thread: &FlatThread) -> Option<u32>
+        requires { IsThreadOf self.now thread.now }
+        ensures { result ≡ fetched (pages_of self.now thread.now.space) thread.now.context.pc }
+    {
+        match self.fetch_row(thread) {
+            Some(row) => Some(self.word_at(&row, thread.context.pc)),
+            None => None,
+        }
+    }
+
+    // The word at an address of the row's page.
+    fn word_at(&self, row: &Row, va: u32) -> u32
+        requires in_memory { IsInMemory self.now.memory row.now.frame }
+        requires aligned { va % 4 ≡ 0 }
+        ensures { result ≡ word_at_lem self.now.memory (place_in row.now.frame va) }
+    {
+        self.memory.word(row.frame.0 * 4_096 + va % 4_096)
+    }
+
     // What the thread's next instruction asks for; none where its fetch doesn't translate, or the word is no
     // instruction.
+    #[tactic(auto, unfolding(flat_state::specs::Signals::next_action))]
     fn next_action(&self, thread: &FlatThread) -> Option<Action>
         requires { IsThreadOf self.now thread.now }
         ensures { result ≡ next_action_lem thread.now.context (pages_of self.now thread.now.space) }
     {
-        let pc = thread.context.pc;
-        let row = self.fetch_row(thread)?;
-        let word = self.memory.word(row.frame.0 * 4_096 + pc % 4_096);
-        let instr = decode(word)?;
-        Some(action_for(&thread.context, instr))
+        match self.next_word(thread) {
+            Some(word) => asked(&thread.context, word),
+            None => None,
+        }
     }
 
     // Whether an access of the thread's next step doesn't translate.
@@ -119,44 +189,77 @@ impl Flat {
         requires { IsThreadOf self.now thread.now }
         ensures { result ≡ faults_lem self.now thread.now }
     {
-        if self.fetch_row(thread).is_none() {
-            return true;
+        match self.next_word(thread) {
+            Some(word) => self.misses_any(thread, asked(&thread.context, word)),
+            None => true,
         }
-        match self.next_action(thread) {
+    }
+
+    // Whether an access to data of the action, if there is one, doesn't translate.
+    fn misses_any(&self, thread: &FlatThread, action: Option<Action>) -> bool
+        requires { IsThreadOf self.now thread.now }
+        ensures { result ≡ does_any_miss thread.now.context (pages_of self.now thread.now.space) action }
+    {
+        match action {
             Some(action) => self.misses(thread, action),
             None => false,
         }
     }
 
     // Whether an access to data of the action doesn't translate.
+    #[tactic(auto, using(crate::proofs::Missing::missing), unfolding(rv32_exec::specs::Steps::after_action))]
     fn misses(&self, thread: &FlatThread, action: Action) -> bool
         requires thread { IsThreadOf self.now thread.now }
-        ensures { result ≡ is_miss (after_action action thread.now.context (pages_of self.now thread.now.space)).answer }
+        ensures { result ≡ does_miss thread.now.context (pages_of self.now thread.now.space) action }
     {
-        match data_access(action) {
-            Some(access) => {
-                self.reached(thread, access.access, access.va).is_err()
-                    || (matches!(action, Action::Atomic { .. })
-                        && self.reached(thread, Access::Write, access.va).is_err())
+        match action {
+            Action::Load { va, width, .. } => {
+                va % width.size() == 0 && self.lacks(thread, Access::Read, va)
             }
-            None => false,
+            Action::Store { va, width, .. } => {
+                va % width.size() == 0 && self.lacks(thread, Access::Write, va)
+            }
+            Action::Atomic { va, .. } => {
+                va % 4 == 0
+                    && (self.lacks(thread, Access::Read, va)
+                        || self.lacks(thread, Access::Write, va))
+            }
+            Action::Set { .. }
+            | Action::Pass
+            | Action::Jump { .. }
+            | Action::Call
+            | Action::Break => false,
         }
     }
 
+    // Whether an access of the thread doesn't translate.
+    fn lacks(&self, thread: &FlatThread, access: Access, va: u32) -> bool
+        requires { IsThreadOf self.now thread.now }
+        ensures { result ≡ not (translates (pages_of self.now thread.now.space) va access) }
+    {
+        self.reached(thread, access, va).is_err()
+    }
+
     // The signal that the thread's next step sends.
+    #[tactic(auto, unfolding(flat_state::specs::Signals::next_signal))]
     pub(crate) fn next_signal(&self, thread: &FlatThread) -> Option<Signal>
         requires { IsThreadOf self.now thread.now }
         ensures { result ≡ next_signal_lem self.now thread.now }
     {
-        match self.next_action(thread) {
-            Some(
-                Action::Store {
-                    va,
-                    width: Width::Word,
-                    ..
-                },
-            ) => self.signal_through(thread, va),
-            _ => None,
+        self.signal_of(thread, self.next_action(thread))
+    }
+
+    // The signal that an action of the thread sends, if there is an action.
+    fn signal_of(&self, thread: &FlatThread, action: Option<Action>) -> Option<Signal>
+        requires { IsThreadOf self.now thread.now }
+        ensures { result ≡ signal_of_lem self.now thread.now action }
+    {
+        match action {
+            Some(action) => match stored_word(action) {
+                Some(va) => self.signal_through(thread, va),
+                None => None,
+            },
+            None => None,
         }
     }
 

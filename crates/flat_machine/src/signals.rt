@@ -1,9 +1,12 @@
 //! The receivers of a signal, and what they get.
 
-ghost use Rattle.std.specs.Prelude.{◌≡◌, ◌<◌, ◌≤◌, true, false, length, map};
+ghost use Rattle.std.specs.Prelude.{◌≡◌, ◌<◌, ◌≤◌, true, false, length, map, slice_get, All};
 ghost use Rattle.signal_pages.specs.Signals.{is_signalling};
-ghost use Rattle.flat_state.specs.Signals.{HasRoom, full_among as full_among_lem, full_receiver as full_receiver_lem, receivers_for as receivers_for_lem, receivers_of as receivers_of_lem, sent, with_address};
+ghost use Rattle.flat_state.specs.Signals.{HasRoom, full_among as full_among_lem, has_ended as has_ended_lem, queued as queued_lem, full_receiver as full_receiver_lem, receivers_for as receivers_for_lem, receivers_of as receivers_of_lem, sent, sent_to, with_address};
 ghost use Rattle.flat_state.specs.State.{is_ended as is_ended_lem};
+ghost use Rattle.flat_state.specs.Translation.{is_fit_row as is_fit_row_lem};
+ghost use Rattle.flat_state.specs.WellFormed.{AreThreads};
+ghost use Rattle.flat_machine.specs.Calls.{OfThread};
 ghost use Rattle.flat_machine.specs.Readings.{IsThreadOf};
 
 use crate::flat::Flat;
@@ -11,18 +14,65 @@ use crate::threads::{has_ended, is_ended, queued};
 use arrayvec::ArrayVec;
 use cache_ident::{Frame, ThreadNo, Vpn};
 use flat_state::{FlatThread, Signal};
+use phys_groups::Row;
 use signal_pages::{address, receivers, room};
 
+// The threads of receivers.
+fn threads_of(receivers: &[(ThreadNo, Vpn)]) -> ArrayVec<ThreadNo, 4>
+    requires { length receivers.now ≤ 4 }
+    ensures { result.items ≡ map (λ receiver. receiver.0) receivers.now }
+{
+    let mut to = ArrayVec::new();
+    for receiver in receivers {
+        to.push(receiver.0);
+    }
+    to
+}
+
+// How many addresses the queue of each thread holds.
+fn lengths_of(threads: &[FlatThread], to: &[ThreadNo]) -> ArrayVec<u32, 4>
+    requires { length to.now ≤ 4 }
+    ensures { result.items ≡ map (queued_lem threads.now) to.now }
+{
+    let mut lengths = ArrayVec::new();
+    for thread in to {
+        lengths.push(queued(threads, *thread));
+    }
+    lengths
+}
+
+// Of each thread, whether it has ended.
+fn ends_of(threads: &[FlatThread], to: &[ThreadNo]) -> ArrayVec<bool, 4>
+    requires { length to.now ≤ 4 }
+    ensures { result.items ≡ map (has_ended_lem threads.now) to.now }
+{
+    let mut ended = ArrayVec::new();
+    for thread in to {
+        ended.push(has_ended(threads, *thread));
+    }
+    ended
+}
+
 impl Flat {
+    // Of each row, whether it is fit.
+    fn fit_of(&self, rows: &[Row]) -> ArrayVec<bool, 4>
+        requires few { length rows.now ≤ 4 }
+        requires known { All (λ row. (row.space.0 < length self.now.spaces) × (row.frame.0 < 2048)) rows.now }
+        ensures { result.items ≡ map (is_fit_row_lem self.now) rows.now }
+    {
+        let mut fit = ArrayVec::new();
+        for row in rows {
+            fit.push(self.is_fit_row(row));
+        }
+        fit
+    }
+
     // The receivers of a frame, each with the page of its row.
     fn receivers_of(&self, frame: Frame) -> ArrayVec<(ThreadNo, Vpn), 4>
         ensures { result.items ≡ receivers_of_lem self.now frame }
     {
         let rows = self.rows.signal_rows(frame);
-        let mut fit = ArrayVec::<bool, 4>::new();
-        for row in &rows {
-            fit.push(self.is_fit_row(row));
-        }
+        let fit = self.fit_of(&rows);
         receivers(&rows, frame, &fit)
     }
 
@@ -41,14 +91,9 @@ impl Flat {
         requires { length receivers.now ≤ 4 }
         ensures { result ≡ full_among_lem self.now.threads (map (λ receiver. receiver.0) receivers.now) }
     {
-        let mut to = ArrayVec::<ThreadNo, 4>::new();
-        let mut lengths = ArrayVec::<u32, 4>::new();
-        let mut ended = ArrayVec::<bool, 4>::new();
-        for (thread, _) in receivers {
-            to.push(*thread);
-            lengths.push(queued(&self.threads, *thread));
-            ended.push(has_ended(&self.threads, *thread));
-        }
+        let to = threads_of(receivers);
+        let lengths = lengths_of(&self.threads, &to);
+        let ended = ends_of(&self.threads, &to);
         room(&lengths, &ended, &to)
     }
 
@@ -60,6 +105,28 @@ impl Flat {
         let receivers = self.receivers_for(self.next_signal(thread));
         self.full_among(&receivers)
     }
+
+    // Gives each receiver in turn the address of the message slot in its own page. There is room for all.
+    pub(crate) fn send(&mut self, offset: u32, receivers: &[(ThreadNo, Vpn)])
+        requires page { offset < 4096 }
+        requires signalling { is_signalling offset ≡ true }
+        requires threads { AreThreads self.old.spaces self.old.threads }
+        requires room { HasRoom self.old.threads receivers.now }
+        ensures { self.new ≡ record self.old { threads = sent self.old.threads offset receivers.now } }
+    {
+        for receiver in receivers {
+            self.give_to(receiver.0, address(receiver.1, offset));
+        }
+    }
+
+    // Gives a thread an address.
+    fn give_to(&mut self, thread: ThreadNo, va: u32)
+        requires there { thread.0 < length self.old.threads }
+        requires room { OfThread self.old thread.0 (λ t. is_ended_lem t.status ≡ false → length t.queue.items < 64) }
+        ensures { self.new ≡ record self.old { threads = sent_to self.old.threads thread va (slice_get self.old.threads thread.0) } }
+    {
+        give(&mut self.threads[thread.0 as usize], va);
+    }
 }
 
 // Appends an address to the thread's queue, unless the thread has ended.
@@ -70,18 +137,4 @@ fn give(thread: &mut FlatThread, va: u32)
     if !is_ended(thread.status) {
         thread.queue.push(va);
     }
-}
-
-// Gives each receiver in turn the address of the message slot in its own page. There is room for all.
-pub(crate) fn send(threads: &mut [FlatThread], offset: u32, receivers: &[(ThreadNo, Vpn)])
-    requires page { offset < 4096 }
-    requires signalling { is_signalling offset ≡ true }
-    requires room { HasRoom threads.old receivers.now }
-    ensures { threads.new ≡ sent threads.old offset receivers.now }
-{
-    let Some(((thread, vpn), rest)) = receivers.split_first() else {
-        return;
-    };
-    give(&mut threads[thread.0 as usize], address(*vpn, offset));
-    send(threads, offset, rest);
 }

@@ -1,8 +1,7 @@
 //! What is asked of threads one by one.
 
-ghost use Rattle.std.specs.Prelude.{◌≡◌, ◌<◌, ◌≤◌, Contains};
+ghost use Rattle.std.specs.Prelude.{◌≡◌, ◌<◌, Some, length, slice_get};
 ghost use Rattle.std.specs.List.{list_all, list_any};
-ghost use Rattle.flat_state.specs.declared.records.FlatThread.{FlatThread as FlatThreadLem};
 ghost use Rattle.flat_state.specs.State.{is_ready as is_ready_lem, is_trapped as is_trapped_lem, is_ended as is_ended_lem};
 ghost use Rattle.flat_state.specs.Signals.{queued as queued_lem, has_ended as has_ended_lem};
 ghost use Rattle.flat_state.specs.Call.{waits as waits_lem, is_completable as is_completable_lem};
@@ -97,6 +96,20 @@ impl Flat {
     pub(crate) fn all_stuck(&self) -> bool
         ensures { result ≡ list_all (is_stuck_lem self.now) self.now.threads }
     {
-        self.threads.iter().all(|thread| self.is_stuck(thread))
+        for at in 0..self.threads() {
+            if !self.is_stuck(self.thread_at(at as usize)) {
+                return false;
+            }
+        }
+        true
+    }
+
+    // The thread at a place where there is one.
+    pub(crate) fn thread_at(&self, at: usize) -> &FlatThread
+        requires { at < length self.now.threads }
+        ensures thread { slice_get self.now.threads at ≡ Some result.now }
+        ensures of { IsThreadOf self.now result.now }
+    {
+        &self.threads[at]
     }
 }

@@ -245,7 +245,7 @@ same_number a b e = ap (λ (n : ℕ). let t : ThreadNo = record { 0 = n } in t) 
 times_in-cons : (a : ThreadNo) (to : List ThreadNo) (b : ThreadNo) → times_in (a ∷ to) b ≡ cond (a.0 == b.0) 1 0 + times_in to b
 times_in-cons a to b = count_by-cons (λ (other : ThreadNo). other.0 == b.0) a to
 
-times_in-here : (a : ThreadNo) (to : List ThreadNo) (b : ThreadNo) → a.0 ≡ b.0 → times_in (a ∷ to) b ≡ 1 + times_in to b
+pub times_in-here : (a : ThreadNo) (to : List ThreadNo) (b : ThreadNo) → a.0 ≡ b.0 → times_in (a ∷ to) b ≡ 1 + times_in to b
 times_in-here a to b same = rw (times_in-cons a to b, eq-eqb a.0 b.0 same) refl
 
 times_in-other : (a : ThreadNo) (to : List ThreadNo) (b : ThreadNo) → (a.0 ≡ b.0 → ⊥) → times_in (a ∷ to) b ≡ times_in to b
@@ -290,10 +290,10 @@ keeps_on a b c first then = record {
 }
 
 -- what is left of the threads when one receiver got its address
-record IsSentOne (spaces : List KernelNo) (before after : List FlatThread) (to : List ThreadNo) : Type 0 where
-  are : AreThreads spaces after
-  keep : KeepSpaces before after
-  room : IsRoomFor after to
+pub record IsSentOne (spaces : List KernelNo) (before after : List FlatThread) (to : List ThreadNo) : Type 0 where
+  pub are : AreThreads spaces after
+  pub keep : KeepSpaces before after
+  pub room : IsRoomFor after to
 
 pub times_in-le : (a : ThreadNo) (to : List ThreadNo) (b : ThreadNo) → times_in to b ≤ times_in (a ∷ to) b
 times_in-le a to b = omega (arith, times_in-cons a to b)
@@ -308,7 +308,7 @@ less_room threads a to room = record {
 -- one receiver gets its address
 module _ (spaces : List KernelNo) (threads : List FlatThread) (thread : ThreadNo) (to : List ThreadNo) (va : ℕ) (are : AreThreads spaces threads) (room : IsRoomFor threads (thread ∷ to)) where
   module _ (t : FlatThread) (here : slice_get threads thread.0 ≡ Some t) where
-    room_here : is_ended t.status ≡ false → length t.queue.items + times_in (thread ∷ to) thread ≤ 64
+    pub room_here : is_ended t.status ≡ false → length t.queue.items + times_in (thread ∷ to) thread ≤ 64
     room_here running =
         let same : queued threads thread ≡ length t.queue.items = ap queued_by here in
         let some : 0 < times_in (thread ∷ to) thread = rw (times_in-here thread to thread refl) (omega arith) in
@@ -347,7 +347,7 @@ module _ (spaces : List KernelNo) (threads : List FlatThread) (thread : ThreadNo
       room = record { room = room_after };
     }
 
-  sent_one : (o : Option FlatThread) → slice_get threads thread.0 ≡ o → IsSentOne spaces threads (sent_to threads thread va o) to
+  pub sent_one : (o : Option FlatThread) → slice_get threads thread.0 ≡ o → IsSentOne spaces threads (sent_to threads thread va o) to
   sent_one None none = record { are = are; keep = keeps_all threads; room = less_room threads thread to room }
   sent_one (Some t) here = sent_some t here
 

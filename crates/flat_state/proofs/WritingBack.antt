@@ -23,8 +23,8 @@ use Rattle.flat_state.proofs.Finding.{find-map-filter}
 same_frames : (k : ℕ) (m n : List ℕ) → length m ≡ 4096 * k → length n ≡ 4096 * k → ((f : Frame) → f.0 < k → page_at m f ≡ page_at n f) → m ≡ n
 same_frames k m n size-m size-n same =
     ext_get_or 0 m n (size-m ∙ sym size-n) (λ i within.
-      let f : Frame = record { 0 = i / 4096 } in
-      subst (λ (j : ℕ). get_or m j 0 ≡ get_or n j 0) {x = 4096 * (i / 4096) + i % 4096} (omega arith) (sym (get_or-page_at m f (i % 4096) 0 (omega arith)) ∙ ap (λ (page : List ℕ). get_or page (i % 4096) 0) (same f (omega (arith, within, size-m))) ∙ get_or-page_at n f (i % 4096) 0 (omega arith)))
+    let f : Frame = record { 0 = i / 4096 } in
+    subst (λ (j : ℕ). get_or m j 0 ≡ get_or n j 0) {x = 4096 * (i / 4096) + i % 4096} (omega arith) (sym (get_or-page_at m f (i % 4096) 0 (omega arith)) ∙ ap (λ (page : List ℕ). get_or page (i % 4096) 0) (same f (omega (arith, within, size-m))) ∙ get_or-page_at n f (i % 4096) 0 (omega arith)))
 
 length-with_page : (m : List ℕ) (f : Frame) (page : List ℕ) → 4096 * f.0 + 4096 ≤ length m → length page ≡ 4096 → length (with_page m f page) ≡ length m
 length-with_page m f page within whole = rw (length-append, length-append, length-take-le (4096 * f.0) m (omega arith), whole, length-drop) (omega arith)
@@ -62,7 +62,7 @@ outside true page target e = grind (arith, e)
 outside false page target e = grind (arith, e)
 
 -- what passes a filter was there
-filter-contains : {X : Type 0} (p : X → Bool) (xs : List X) (x : X) → Contains (filter p xs) x → Contains xs x
+pub filter-contains : {X : Type 0} (p : X → Bool) (xs : List X) (x : X) → Contains (filter p xs) x → Contains xs x
 filter-contains p xs x (j, within, e) = subst (Contains xs) e (All-filter p (Contains xs) xs (All-contains_itself xs) j x within)
 
 -- Memory is the target, where the pages of the space have the target's bytes, and the frames of no page are as they were.

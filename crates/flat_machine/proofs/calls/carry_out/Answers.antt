@@ -1,7 +1,7 @@
 use Rattle.std.proofs.Common.{◌≡◌, refl, ap, sym, ◌∙◌}
 use Rattle.flat_machine.specs.Calls.{call_of, own_part_so}
 use Rattle.fault_forward.specs.declared.effects.Effect.TheVariants as effects
-use Rattle.flat_machine.proofs.CallKeeps.{carried, left_over, queue_stays}
+use Rattle.flat_machine.proofs.CallKeeps.{carried, left_over, on_err, queue_stays}
 use Rattle.flat_machine.proofs.calls.carry_out.Goals as goal
 
 pub returns-in-Ready-clause-effect : goal.returns-in-Ready-clause-effect
@@ -59,3 +59,17 @@ returns-in_default-clause-ok c =
     let e = c.effect-effect.ensures.effect in
     let rest = left_over t (call_of t) (call_of t).effect (λ is. c.in_default.not-Ready (e ∙ is)) (λ byte is. c.in_default.not-Put byte (e ∙ is)) (λ number is. c.in_default.not-Decimal number (e ∙ is)) (λ reason is. c.in_default.not-End reason (e ∙ is)) in
     rw (queue_stays t c.effect-effect.new.queue c.effect-effect.ensures.queue (λ is. c.in_default.not-Ready (e ∙ is))) (sym rest)
+
+pub returns-in_err-append-in-Put-clause-err : goal.returns-in_err-append-in-Put-clause-err
+unfolding call_of
+returns-in_err-append-in-Put-clause-err c =
+    let t = c.args.thread.now in
+    let e : (call_of t).effect ≡ effects.Put c.in-Put.byte = sym c.effect-effect.ensures.effect ∙ c.in-Put.is in
+    on_err c.from_residual.result (rw (queue_stays t c.effect-effect.new.queue c.effect-effect.ensures.queue (λ ready. let other = sym ready ∙ e in cc), c.in_err-append-in-Put.ensures.err) refl)
+
+pub returns-in_err-put_decimal-in-Decimal-clause-err : goal.returns-in_err-put_decimal-in-Decimal-clause-err
+unfolding call_of
+returns-in_err-put_decimal-in-Decimal-clause-err c =
+    let t = c.args.thread.now in
+    let e : (call_of t).effect ≡ effects.Decimal c.in-Decimal.number = sym c.effect-effect.ensures.effect ∙ c.in-Decimal.is in
+    on_err c.from_residual-in_err-put_decimal-in-Decimal.result (rw (queue_stays t c.effect-effect.new.queue c.effect-effect.ensures.queue (λ ready. let other = sym ready ∙ e in cc), c.in_err-put_decimal-in-Decimal.ensures.err) refl)

@@ -3,7 +3,6 @@ use Rattle.std.proofs.lemmas.Option.{same_Some, slice_get_read}
 use Rattle.flat_state.specs.State.{FlatState}
 use Rattle.flat_machine.specs.contracts.flat.Flat.{the_view}
 use Rattle.std.proofs.lemmas.Result.{on_ok_weaker, IfOk-weaker}
-use Rattle.std.proofs.lemmas.List.{set-get_or}
 use Rattle.flat_state.specs.declared.records.FlatThread.{FlatThread}
 use Rattle.flat_state.specs.State.{with_thread}
 use Rattle.flat_machine.specs.Calls.{OfThread, call_of, own_part}
@@ -27,8 +26,8 @@ returns-clause-effect c =
     let there = slice_get_read threads (length threads) c.args.at c.index_mut.result.now refl within c.index_mut.ensures.value in
     IfOk-weaker c.carry_out.result (λ effect. effect ≡ (call_of c.index_mut.result.now).effect) (λ effect. OfThread c.args.self.now c.args.at (λ t. effect ≡ (call_of t).effect))
     (λ effect is t here.
-        let was = subst (λ (s : FlatState). slice_get s.threads c.args.at ≡ Some t) (sym c.self.view_is) here in
-        is ∙ ap (λ (u : FlatThread). (call_of u).effect) (same_Some _ _ (sym there ∙ was)))
+    let was = subst (λ (s : FlatState). slice_get s.threads c.args.at ≡ Some t) (sym c.self.view_is) here in
+    is ∙ ap (λ (u : FlatThread). (call_of u).effect) (same_Some _ _ (sym there ∙ was)))
     c.carry_out.ensures.effect
 
 pub returns-clause-ok : goal.returns-clause-ok
@@ -39,7 +38,7 @@ returns-clause-ok c =
     let there = slice_get_read threads (length threads) c.args.at c.index_mut.result.now refl within c.index_mut.ensures.value in
     on_ok_weaker c.carry_out.result
     (λ done t here.
-        let was = subst (λ (s : FlatState). slice_get s.threads c.args.at ≡ Some t) (sym c.self.view_is) here in
-        let same : c.index_mut.result.now ≡ t = same_Some _ _ (sym there ∙ was) in
-        ap (λ (u : FlatThread). with_thread s c.args.at u) (done ∙ ap own_part same) ∙ ap (λ (x : FlatState). with_thread x c.args.at (own_part t)) c.self.view_is)
+    let was = subst (λ (s : FlatState). slice_get s.threads c.args.at ≡ Some t) (sym c.self.view_is) here in
+    let same : c.index_mut.result.now ≡ t = same_Some _ _ (sym there ∙ was) in
+    ap (λ (u : FlatThread). with_thread s c.args.at u) (done ∙ ap own_part same) ∙ ap (λ (x : FlatState). with_thread x c.args.at (own_part t)) c.self.view_is)
     c.carry_out.ensures.ok

@@ -1,0 +1,56 @@
+-- What a look at rows tells of the pages of a space.
+use Rattle.std.proofs.Common.{◌≡◌, ℕ, ◌/◌, ◌%◌, Bool, true, false, not, List, Option, Some, None, Result, Ok, Err, refl, sym, ◌∙◌, ap, subst, arith}
+use Rattle.std.specs.Option.{is_some, option_map, IfSome}
+use Rattle.std.specs.Result.{is_err, result_ok}
+use Rattle.cache_ident.specs.declared.names.SpaceNo.{SpaceNo}
+use Rattle.phys_groups.specs.declared.rows.Row.{Row}
+use Rattle.phys_groups.specs.Memory.{word_at}
+use Rattle.phys_groups.specs.Translation.{Translated, place_in, row_of}
+use Rattle.rv32_exec.specs.declared.statuses.Access.{Access}
+use Rattle.rv32_exec.specs.declared.statuses.Access.TheVariants.{Fetch}
+use Rattle.rv32_exec.specs.declared.statuses.FaultKind.{FaultKind}
+use Rattle.rv32_exec.specs.declared.spaces.Width.TheVariants.{Word}
+use Rattle.rv32_exec.specs.Pages.{fetched, translates}
+use Rattle.flat_state.specs.State.{FlatState}
+use Rattle.flat_state.specs.Translation.{reached, rights_of, row_through, wants}
+use Rattle.flat_state.specs.Pages.{page_of, pages_of}
+use Rattle.flat_state.specs.WellFormed.{IsWellFormed}
+use Rattle.flat_state.proofs.Found.{found-contains}
+use Rattle.flat_state.proofs.Storing.{read-none, read-pages}
+use Rattle.flat_state.proofs.Translating.{translation-pages}
+use Rattle.flat_machine.specs.Readings.{Reaches}
+use Rattle.flat_machine.specs.Seen.{IsInMemory}
+use Rattle.flat_machine.proofs.FlatLaws.{row_in_memory}
+
+answer_fails : (r : Result Row FaultKind) (t : Translated) → Reaches r t → is_err r ≡ not (is_some (row_through t))
+answer_fails (Ok row) t e = rw e refl
+answer_fails (Err kind) t e = rw e.0 refl
+
+translates-mapped : {X : Type 0} (f : Row → X) (found : Option Row) → is_some (option_map f found) ≡ is_some found
+translates-mapped f None = refl
+translates-mapped f (Some row) = refl
+
+-- an access that isn't reached doesn't translate
+pub unreached : (s : FlatState) (access : Access) (space : SpaceNo) (va : ℕ) (r : Result Row FaultKind) (fails : Bool) → Reaches r (reached s access space va) → fails ≡ is_err r → fails ≡ not (translates (pages_of s space) va access)
+unfolding translates
+unreached s access space va r fails reaches e =
+    e ∙ answer_fails r (reached s access space va) reaches
+    ∙ ap not (sym (ap is_some (translation-pages (rights_of s space) s.memory s.rows space va access) ∙ translates-mapped (page_of (rights_of s space) s.memory) (row_through (reached s access space va))))
+
+answer_row : (r : Result Row FaultKind) (t : Translated) → Reaches r t → result_ok r ≡ row_through t
+answer_row (Ok row) t e = rw e refl
+answer_row (Err kind) t e = sym e.0
+
+in-memory : (s : FlatState) → IsWellFormed s → (access : Access) (space : SpaceNo) (va : ℕ) (found : Option Row) → found ≡ row_through (reached s access space va) → IfSome found (λ row. IsInMemory s.memory row.frame)
+in-memory s formed access space va None e = tt
+in-memory s formed access space va (Some row) e = row_in_memory s formed row (found-contains (rights_of s space) s.rows (wants access) space va row (sym e))
+
+-- the row that an access goes through is in memory
+pub reached_in_memory : (s : FlatState) → IsWellFormed s → (access : Access) (space : SpaceNo) (va : ℕ) (r : Result Row FaultKind) (found : Option Row) → Reaches r (reached s access space va) → found ≡ result_ok r → IfSome found (λ row. IsInMemory s.memory row.frame)
+reached_in_memory s formed access space va r found reaches e = in-memory s formed access space va found (e ∙ answer_row r (reached s access space va) reaches)
+
+pub fetched_word : (s : FlatState) (space : SpaceNo) (pc : ℕ) (row : Row) → pc % 4 ≡ 0 → row_through (reached s Fetch space pc) ≡ Some row → Some (word_at s.memory (place_in row.frame pc)) ≡ fetched (pages_of s space) pc
+fetched_word s space pc row aligned found = sym (read-pages (rights_of s space) space Fetch s.memory s.rows pc Word row aligned found)
+
+pub fetched_none : (s : FlatState) (space : SpaceNo) (pc : ℕ) → row_through (reached s Fetch space pc) ≡ None → None ≡ fetched (pages_of s space) pc
+fetched_none s space pc lost = sym (read-none (rights_of s space) space Fetch s.memory s.rows pc Word lost)
