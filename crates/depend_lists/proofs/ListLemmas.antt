@@ -78,7 +78,8 @@ module _ {X : Type 0} where
 pub Contains-map : {X Y : Type 0} (f : X → Y) (xs : List X) (x : X) → Contains xs x → Contains (map f xs) (f x)
 Contains-map f xs x there = (there.0, omega (arith, there.1, length-map xs f), get_or-map f xs there.0 x (f x) there.1 ∙ ap f there.2)
 
-some_item : {X : Type 0} (xs : List X) → 0 < length xs → X
+-- an item of a list that has one
+pub some_item : {X : Type 0} (xs : List X) → 0 < length xs → X
 some_item [] some = absurd (omega arith)
 some_item (x ∷ xs) some = x
 

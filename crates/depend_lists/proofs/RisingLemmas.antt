@@ -12,6 +12,7 @@ use Rattle.std.proofs.lemmas.List.{append-nil, get_or-drop, get_or-take, length-
 use Rattle.std.proofs.lemmas.List.Elements.{All-head, All-tail, filter-append}
 use Rattle.std.proofs.lemmas.List.Edits.{length-insert, get_or-insert_below, get_or-insert_at, get_or-insert_above, get_or-between, length-between, split_between}
 use Rattle.depend_lists.specs.Rising.{IsRising, by_parts}
+use Rattle.depend_lists.proofs.ListLemmas.{some_item}
 
 -- an element between those to which it is related
 pub AllPairs-insert : {X : Type 0} (R : X → X → Type 0) (xs : List X) (at : ℕ) (y : X) → at ≤ length xs → AllPairs R xs → ((k : ℕ) (d : X) → k < at → R (get_or xs k d) y) → ((k : ℕ) (d : X) → at ≤ k → k < length xs → R y (get_or xs k d)) → AllPairs R (insert xs at y)
@@ -117,11 +118,6 @@ module _ {K V : Type 0} (first : K → K → Ordering) (o : IsTotalOrder first) 
       by_both (inl rises) (inl below) = ap is_le (o.trans _ _ key rises below)
       by_both (inl rises) (inr ties) = ap is_le (sym (alike_right o _ key _ ties) ∙ rises)
       by_both (inr same) last = rw (o.congr _ _ key same) upto
-
--- an item of a list that has one
-some_item : {X : Type 0} (xs : List X) → 0 < length xs → X
-some_item [] some = absurd (omega arith)
-some_item (x ∷ xs) some = x
 
 module _ {K V : Type 0} (first : K → K → Ordering) (xs : List (K × V)) (key : K) (from to : ℕ) (from_within : from ≤ length xs) (to_within : to ≤ length xs) (below : IsPartitionPoint (λ item. is_lt (first item.0 key) ≡ true) (λ item. is_lt (first item.0 key) ≡ false) xs from) (upto : IsPartitionPoint (λ item. is_le (first item.0 key) ≡ true) (λ item. is_le (first item.0 key) ≡ false) xs to) where
   -- the run ends no sooner than it begins
