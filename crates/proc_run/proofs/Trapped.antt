@@ -1,5 +1,5 @@
 -- How many threads are in a call.
-use Rattle.std.proofs.Common.{◌≡◌, ℕ, ◌+◌, ◌<◌, ◌≤◌, Bool, true, false, not, ◌&&◌, cond, List, [], ◌∷◌, ◌++◌, length, get_or, Option, Some, None, refl, sym, ap, ◌∙◌, subst, arith}
+use Rattle.std.proofs.Common.{◌≡◌, ℕ, ◌+◌, ◌<◌, ◌≤◌, Bool, true, false, not, cond, List, [], ◌∷◌, ◌++◌, length, get_or, Option, Some, None, refl, sym, ap, ◌∙◌, subst, arith}
 use Rattle.std.specs.Prelude.{slice_get, slice_set, unwrap_or, is_some, count_by}
 use Rattle.std.proofs.lemmas.Bool.{and_parts}
 use Rattle.std.proofs.lemmas.List.{length-append}
@@ -8,8 +8,6 @@ use Rattle.std.proofs.lemmas.Option.{slice_get_within, get_or_from_slice_get, sl
 use Rattle.std.proofs.Math.ListN.{get_or-append}
 use Rattle.cache_ident.specs.declared.names.ThreadNo.{ThreadNo}
 use Rattle.cache_ident.specs.declared.names.Vpn.{Vpn}
-use Rattle.rv32_exec.specs.declared.statuses.Reason.TheVariants.{Fault}
-use Rattle.rv32_exec.specs.declared.statuses.Access.{Access}
 use Rattle.rv32_exec.specs.declared.statuses.Status.{Status}
 use Rattle.rv32_exec.specs.declared.statuses.Status.TheVariants.{Ready, Trapped, Ended}
 use Rattle.rv32_exec.specs.declared.steps.Stepped.{Stepped}
@@ -24,10 +22,10 @@ use Rattle.flat_state.specs.declared.events.Event.TheVariants.{Step, Complete}
 use Rattle.flat_state.specs.declared.records.FlatThread.{FlatThread}
 use Rattle.flat_state.specs.declared.records.Signal.{Signal}
 use Rattle.flat_state.specs.State.{FlatState, is_ended, is_trapped}
-use Rattle.flat_state.specs.Declaration.{broken_rule, declared, new_thread}
+use Rattle.flat_state.specs.Declaration.{declared, new_thread}
 use Rattle.flat_state.specs.Signals.{with_address, sent_to, sent, delivered, next_signal, receivers_for, is_runnable}
-use Rattle.flat_state.specs.Step.{outcome, moved, went_on, stepped_so, step_if, step_of, after_step}
-use Rattle.flat_state.specs.Call.{waits, is_completable, resumed, answered, refusal, made, spawning, spawned, mapping, mapped, unmapped, granting, granted, rule_of_mapping, rule_of_granting, is_first, completed_so, complete_if, completion_for, after_completion}
+use Rattle.flat_state.specs.Step.{outcome, went_on, stepped_so, step_if, step_of, after_step}
+use Rattle.flat_state.specs.Call.{waits, is_completable, answered, refusal, made, granting, rule_of_granting, is_first, completed_so, completion_for, after_completion}
 use Rattle.flat_state.specs.Events.{applied}
 use Rattle.phys_groups.specs.Translation.{row_of}
 use Rattle.signal_pages.specs.Signals.{address_of}

@@ -147,8 +147,8 @@ fn due<S: Source>(alloc: Global, words: &Words, source: &mut S) -> Result<DueTex
 /// have ended, none can go on, or 1,000,000 steps are taken, and writes the report to the sink. No words are
 /// accepted. All text is made before the first write.
 ///
-/// It costs the steps, each of them the logarithm of the rows, and memory for the scenario, the machine, one entry for
-/// every 256 steps and each thread call, and the report.
+/// It costs the steps, each of them the logarithm of the rows, a pass over the threads for each entry of the journal,
+/// and memory for the scenario, the machine, one entry for every 256 steps and each thread call, and the report.
 pub fn run_machine<S: Source, W: Sink>(
     alloc: Global,
     words: &Words,

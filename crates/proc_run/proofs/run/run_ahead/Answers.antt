@@ -1,4 +1,4 @@
-use Rattle.std.proofs.Common.{◌≡◌, ◌∙◌, false, sym, ap, subst, arith}
+use Rattle.std.proofs.Common.{◌∙◌, false, sym, ap, subst, arith}
 use Rattle.flat_state.specs.declared.events.Event.TheVariants.{Step}
 use Rattle.flat_state.specs.State.{FlatState}
 use Rattle.flat_state.specs.NextSteps.{next_step}
