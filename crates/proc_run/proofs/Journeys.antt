@@ -3,15 +3,15 @@ use Rattle.std.proofs.Common.{◌≡◌, ◌≢◌, ℕ, ◌+◌, ◌<◌, lengt
 use Rattle.std.specs.Prelude.{count_by}
 use Rattle.std.proofs.lemmas.List.{append-nil}
 use Rattle.std.proofs.lemmas.List.Sums.{sum_by-append}
-use Rattle.flat_machine.specs.declared.plain.Decl.{Decl}
-use Rattle.flat_machine.specs.declared.plain.Decl.TheVariants as decls
-use Rattle.flat_machine.specs.declared.plain.Event.TheVariants.{Declare}
-use Rattle.flat_machine.specs.declared.plain.Settled.{Settled}
-use Rattle.flat_machine.specs.declared.plain.Settled.TheVariants.{Running}
-use Rattle.flat_machine.specs.State.{FlatState, nothing_declared}
-use Rattle.flat_machine.specs.Declaration.{broken_rule, declared}
-use Rattle.flat_machine.specs.Events.{AllFit, applied, after_events, after_declarations, flat}
-use Rattle.flat_machine.specs.Settling.{settled_of}
+use Rattle.flat_state.specs.declared.events.Decl.{Decl}
+use Rattle.flat_state.specs.declared.events.Decl.TheVariants as decls
+use Rattle.flat_state.specs.declared.events.Event.TheVariants.{Declare}
+use Rattle.flat_state.specs.declared.records.Settled.{Settled}
+use Rattle.flat_state.specs.declared.records.Settled.TheVariants.{Running}
+use Rattle.flat_state.specs.State.{FlatState, nothing_declared}
+use Rattle.flat_state.specs.Declaration.{broken_rule, declared}
+use Rattle.flat_state.specs.Events.{AllFit, applied, after_events, after_declarations, flat}
+use Rattle.flat_state.specs.Settling.{settled_of}
 use Rattle.proc_run.specs.declared.journal.Entry.{Entry}
 use Rattle.proc_run.specs.Journals.{events_of, erase, is_step, steps_in, opening}
 use Rattle.proc_run.specs.Legality.{EntryIsLegal, AreLegal, BeginsWithMachine, IsLegal}
@@ -42,6 +42,12 @@ extends_one s j e legal = record {
   state = ap (after_events s) (sym (append-nil (events_of e)));
   count = ap (count_by is_step) (sym (append-nil (events_of e)));
 }
+
+-- an entry that was written down behind what it tells of
+pub written_down : (s t : FlatState) (j k : List Entry) (e : Entry) → EntryIsLegal s true e → t ≡ after_events s (events_of e) → k ≡ j ++ e ∷ [] → Extends s j t k (count_by is_step (events_of e))
+written_down s t j k e legal happened written =
+    let n = count_by is_step (events_of e) in
+    subst (λ (x : FlatState). Extends s j x k n) (sym happened) (subst (λ (x : List Entry). Extends s j (after_events s (events_of e)) x n) (sym written) (extends_one s j e legal))
 
 steps_in-append : (j k : List Entry) → steps_in (j ++ k) ≡ steps_in j + steps_in k
 steps_in-append j k = ap (count_by is_step) (erase-append j k) ∙ sum_by-append (λ e. cond (is_step e) 1 0) (erase j) (erase k)
@@ -81,13 +87,14 @@ some_is_none rule P e = absurd cc
 
 -- the first declaration that fits is the machine's
 machine_first : (ds : List Decl) (rest : List Entry) → 0 < length ds → AllFit nothing_declared ds → BeginsWithMachine (opening ds ++ rest)
+unfolding broken_rule
 machine_first [] rest some fit = absurd (omega arith)
 machine_first (decls.Machine machine ∷ ds) rest some fit = tt
-machine_first (decls.Kernel n ∷ ds) rest some fit = some_is_none 5 _ fit.0
+machine_first (decls.Kernel n limits ∷ ds) rest some fit = some_is_none 5 _ fit.0
 machine_first (decls.Right kernel group read write ∷ ds) rest some fit = some_is_none 5 _ fit.0
 machine_first (decls.Space n kernel ∷ ds) rest some fit = some_is_none 5 _ fit.0
-machine_first (decls.Thread n space pc ∷ ds) rest some fit = some_is_none 5 _ fit.0
-machine_first (decls.Map space vpn frame flags ∷ ds) rest some fit = some_is_none 5 _ fit.0
+machine_first (decls.Thread n space pc priority a0 a1 ∷ ds) rest some fit = some_is_none 5 _ fit.0
+machine_first (decls.Map space vpn frame flags receiver ∷ ds) rest some fit = some_is_none 5 _ fit.0
 machine_first (decls.Word frame offset value ∷ ds) rest some fit = some_is_none 5 _ fit.0
 
 -- a run goes on from the seal to its end

@@ -1,5 +1,6 @@
 pub mod Texts
 pub mod Steps
 pub mod Trapped
+pub mod Choices
 pub mod Journeys
 pub mod Answered

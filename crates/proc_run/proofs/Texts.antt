@@ -4,9 +4,9 @@ use Rattle.std.specs.List.{slice_get}
 use Rattle.std.proofs.lemmas.Option.{slice_get_cases}
 use Rattle.std.specs.List.{flat_map}
 use Rattle.std.proofs.Math.Seq.{drop-cons}
-use Rattle.flat_machine.specs.declared.plain.KernelNo.{KernelNo}
-use Rattle.flat_machine.specs.declared.plain.FlatThread.{FlatThread}
-use Rattle.flat_machine.specs.declared.plain.Row.{Row}
+use Rattle.cache_ident.specs.declared.names.KernelNo.{KernelNo}
+use Rattle.flat_state.specs.declared.records.FlatThread.{FlatThread}
+use Rattle.phys_groups.specs.declared.rows.Row.{Row}
 use Rattle.proc_run.specs.Reports.{space_text, spaces_text, thread_text}
 
 -- one line, and then the rest

@@ -1,38 +1,49 @@
 -- How many threads are in a call.
-use Rattle.std.proofs.Common.{◌≡◌, ◌≢◌, ℕ, ◌+◌, ◌<◌, ◌≤◌, ◌%◌, Bool, true, false, not, ◌&&◌, cond, List, [], ◌∷◌, ◌++◌, length, take, Option, Some, None, Result, Ok, Err, refl, sym, ap, ◌∙◌, subst, inl, inr, arith}
-use Rattle.std.specs.Prelude.{slice_get, slice_set, slice_index, unwrap_or, count_by, ◌==◌, ◌||◌}
-use Rattle.std.specs.List.{list_any, list_all}
-use Rattle.std.proofs.lemmas.List.Sums.{sum_by-set}
-use Rattle.std.proofs.lemmas.Option.{slice_get_within, get_or_from_slice_get, slice_get_cases}
-use Rattle.std.proofs.lemmas.List.Folds.{list_any_more}
-use Rattle.std.proofs.lemmas.Bool.{eqb-false}
-use Rattle.flat_machine.specs.declared.plain.ThreadNo.{ThreadNo}
-use Rattle.flat_machine.specs.declared.plain.Row.{Row}
-use Rattle.flat_machine.specs.declared.plain.FaultKind.{FaultKind}
-use Rattle.flat_machine.specs.declared.plain.Access.TheVariants.{Fetch}
-use Rattle.flat_machine.specs.declared.plain.Reason.TheVariants.{Exited, Fault, BadCall}
-use Rattle.flat_machine.specs.declared.plain.Status.{Status}
-use Rattle.flat_machine.specs.declared.plain.Status.TheVariants.{Ready, Trapped, Ended}
-use Rattle.flat_machine.specs.declared.plain.Event.TheVariants.{Step, Complete}
-use Rattle.flat_machine.specs.declared.plain.FlatThread.{FlatThread}
-use Rattle.flat_machine.specs.State.{FlatState}
-use Rattle.flat_machine.specs.Translation.{fetch_row}
-use Rattle.flat_machine.specs.Step.{is_ready, ended, after_fetch, stepped, step_if_ready, step_of_thread}
-use Rattle.flat_machine.specs.Call.{is_trapped, after_call, completion_of_thread}
-use Rattle.flat_machine.specs.Events.{applied}
-use Rattle.flat_machine.specs.Settling.{is_ended, settled_of}
-use Rattle.flat_machine.specs.declared.plain.Settled.TheVariants.{Done, Spent, Running}
+use Rattle.std.proofs.Common.{◌≡◌, ℕ, ◌+◌, ◌<◌, ◌≤◌, Bool, true, false, not, cond, List, [], ◌∷◌, ◌++◌, length, get_or, Option, Some, None, refl, sym, ap, ◌∙◌, subst, arith}
+use Rattle.std.specs.Prelude.{slice_get, slice_set, unwrap_or, is_some, count_by}
+use Rattle.std.proofs.lemmas.Bool.{and_parts}
+use Rattle.std.proofs.lemmas.List.{length-append}
+use Rattle.std.proofs.lemmas.List.Sums.{sum_by-set, sum_by-append}
+use Rattle.std.proofs.lemmas.Option.{slice_get_within, get_or_from_slice_get, slice_get_read}
+use Rattle.std.proofs.Math.ListN.{get_or-append}
+use Rattle.cache_ident.specs.declared.names.ThreadNo.{ThreadNo}
+use Rattle.cache_ident.specs.declared.names.Vpn.{Vpn}
+use Rattle.rv32_exec.specs.declared.statuses.Status.{Status}
+use Rattle.rv32_exec.specs.declared.statuses.Status.TheVariants.{Ready, Trapped, Ended}
+use Rattle.rv32_exec.specs.declared.steps.Stepped.{Stepped}
+use Rattle.rv32_exec.specs.declared.steps.Stepped.TheVariants.{Next, Call, Stop, Miss}
+use Rattle.rv32_exec.specs.Steps.{After}
+use Rattle.fault_forward.specs.declared.effects.Effect.{Effect}
+use Rattle.fault_forward.specs.declared.effects.Effect.TheVariants as effects
+use Rattle.fault_forward.specs.Calls.{Completion, completion_of}
+use Rattle.flat_state.specs.declared.events.Decl.{Decl}
+use Rattle.flat_state.specs.declared.events.Decl.TheVariants as decls
+use Rattle.flat_state.specs.declared.events.Event.TheVariants.{Step, Complete}
+use Rattle.flat_state.specs.declared.records.FlatThread.{FlatThread}
+use Rattle.flat_state.specs.declared.records.Signal.{Signal}
+use Rattle.flat_state.specs.State.{FlatState, is_ended, is_trapped}
+use Rattle.flat_state.specs.Declaration.{declared, new_thread}
+use Rattle.flat_state.specs.Signals.{with_address, sent_to, sent, delivered, next_signal, receivers_for, is_runnable}
+use Rattle.flat_state.specs.Step.{outcome, went_on, stepped_so, step_if, step_of, after_step}
+use Rattle.flat_state.specs.Call.{waits, is_completable, answered, refusal, made, granting, rule_of_granting, is_first, completed_so, completion_for, after_completion}
+use Rattle.flat_state.specs.Events.{applied}
+use Rattle.phys_groups.specs.Translation.{row_of}
+use Rattle.signal_pages.specs.Signals.{address_of}
 use Rattle.proc_run.specs.Running.{stands_so, trapped_count}
 
 abbrev in_call : FlatThread → Bool
 in_call t = is_trapped t.status
 
+-- how many of some threads are in a call
+abbrev calls : List FlatThread → ℕ
+calls ts = count_by in_call ts
+
 -- a count of a list with one element changed
 count_at : (ts : List FlatThread) (n : ℕ) (old new : FlatThread) → slice_get ts n ≡ Some old
-    → count_by in_call (slice_set ts n new) + cond (in_call old) 1 0 ≡ count_by in_call ts + cond (in_call new) 1 0
+    → calls (slice_set ts n new) + cond (in_call old) 1 0 ≡ calls ts + cond (in_call new) 1 0
 count_at ts n old new e =
     let f : FlatThread → ℕ = λ t. cond (in_call t) 1 0 in
-    subst (λ (y : FlatThread). count_by in_call (slice_set ts n new) + f y ≡ count_by in_call ts + f new)
+    subst (λ (y : FlatThread). calls (slice_set ts n new) + f y ≡ calls ts + f new)
     (get_or_from_slice_get ts n old old e)
     (sum_by-set f ts n new old (slice_get_within ts n old e))
 
@@ -40,93 +51,128 @@ at_most_one : (b : Bool) → cond b 1 0 ≤ 1
 at_most_one true = omega arith
 at_most_one false = omega arith
 
-one_more : (ts : List FlatThread) (n : ℕ) (old new : FlatThread) → slice_get ts n ≡ Some old → count_by in_call (slice_set ts n new) ≤ count_by in_call ts + 1
+one_more : (ts : List FlatThread) (n : ℕ) (old new : FlatThread) → slice_get ts n ≡ Some old → calls (slice_set ts n new) ≤ calls ts + 1
 one_more ts n old new e = omega (arith, count_at ts n old new e, at_most_one (in_call new))
 
-stepped_count : (s : FlatState) (n : ℕ) (t : FlatThread) (row : Result Row FaultKind) → slice_get s.threads n ≡ Some t → trapped_count (stepped s n t row) ≤ trapped_count s + 1
-stepped_count s n t (Err kind) e = one_more s.threads n t (ended t (Fault kind Fetch t.context.pc)) e
-stepped_count s n t (Ok row) e = one_more s.threads n t (after_fetch s.memory t row) e
+-- a thread that is in a call no more
+one_less : (ts : List FlatThread) (n : ℕ) (old new : FlatThread) → slice_get ts n ≡ Some old → in_call old ≡ true → in_call new ≡ false → calls (slice_set ts n new) + 1 ≡ calls ts
+one_less ts n old new e was isnt =
+    let one : ◌≡◌ {A = ℕ} (cond (in_call old) 1 0) 1 = rw was refl in
+    let none : ◌≡◌ {A = ℕ} (cond (in_call new) 1 0) 0 = rw isnt refl in
+    omega (arith, count_at ts n old new e, one, none)
 
-ready_count : (s : FlatState) (n : ℕ) (t : FlatThread) (ready : Bool) → slice_get s.threads n ≡ Some t → trapped_count (unwrap_or (step_if_ready s n t ready) s) ≤ trapped_count s + 1
-ready_count s n t false e = omega arith
-ready_count s n t true e = stepped_count s n t (fetch_row s t.space.0 t.context.pc) e
+same_count : (ts : List FlatThread) (n : ℕ) (old new : FlatThread) → slice_get ts n ≡ Some old → in_call new ≡ in_call old → calls (slice_set ts n new) ≡ calls ts
+same_count ts n old new e same =
+    let change = ap {B = ℕ} (λ (b : Bool). cond b 1 0) same in
+    omega (arith, count_at ts n old new e, change)
 
-step_count : (s : FlatState) (n : ℕ) (o : Option FlatThread) → slice_get s.threads n ≡ o → trapped_count (unwrap_or (step_of_thread s n o) s) ≤ trapped_count s + 1
+-- ---- a step
+
+signal_in_call : (va : ℕ) (t : FlatThread) (ended : Bool) → in_call (cond ended t (record t { queue = record { items = t.queue.items ++ va ∷ [] } })) ≡ in_call t
+signal_in_call va t true = refl
+signal_in_call va t false = refl
+
+sent_to_count : (ts : List FlatThread) (thread : ThreadNo) (va : ℕ) (o : Option FlatThread) → slice_get ts thread.0 ≡ o → calls (sent_to ts thread va o) ≡ calls ts
+sent_to_count ts thread va None e = refl
+sent_to_count ts thread va (Some t) e = same_count ts thread.0 t (with_address va t) e (signal_in_call va t (is_ended t.status))
+
+sent_count : (ts : List FlatThread) (offset : ℕ) (receivers : List (ThreadNo × Vpn)) → calls (sent ts offset receivers) ≡ calls ts
+sent_count ts offset [] = refl
+sent_count ts offset ((thread, vpn) ∷ rest) =
+    sent_count (sent_to ts thread (address_of vpn offset) (slice_get ts thread.0)) offset rest ∙ sent_to_count ts thread (address_of vpn offset) (slice_get ts thread.0) refl
+
+delivered_count : (ts : List FlatThread) (signal : Option Signal) (receivers : List (ThreadNo × Vpn)) → calls (delivered ts signal receivers) ≡ calls ts
+delivered_count ts None receivers = refl
+delivered_count ts (Some signal) receivers = sent_count ts signal.offset receivers
+
+went_count : (s : FlatState) (n : ℕ) (t : FlatThread) (after : After) (status : Status) → slice_get s.threads n ≡ Some t → trapped_count (went_on s n t after status) ≤ trapped_count s + 1
+went_count s n t after status e =
+    let new : FlatThread = record t { context = after.context; status = status } in
+    omega (arith, delivered_count (slice_set s.threads n new) (next_signal s t) (receivers_for s (next_signal s t)), one_more s.threads n t new e)
+
+stepped_count : (s : FlatState) (n : ℕ) (t : FlatThread) (after : After) (answer : Stepped) → slice_get s.threads n ≡ Some t → trapped_count (stepped_so s n t after answer) ≤ trapped_count s + 1
+stepped_count s n t after Next e = went_count s n t after Ready e
+stepped_count s n t after Call e = went_count s n t after Trapped e
+stepped_count s n t after (Stop reason) e = went_count s n t after (Ended reason) e
+stepped_count s n t after (Miss va access) e = one_more s.threads n t _ e
+
+runnable_count : (s : FlatState) (n : ℕ) (t : FlatThread) (runnable : Bool) → slice_get s.threads n ≡ Some t → trapped_count (unwrap_or (step_if runnable s n t) s) ≤ trapped_count s + 1
+runnable_count s n t false e = omega arith
+runnable_count s n t true e = stepped_count s n t (outcome s t) (outcome s t).answer e
+
+step_count : (s : FlatState) (n : ℕ) (o : Option FlatThread) → slice_get s.threads n ≡ o → trapped_count (unwrap_or (step_of s n o) s) ≤ trapped_count s + 1
 step_count s n None e = omega arith
-step_count s n (Some t) e = ready_count s n t (is_ready t.status) e
+step_count s n (Some t) e = runnable_count s n t (is_runnable s t) e
 
 -- a step brings one thread into a call at the most
 pub trapped_step : (s : FlatState) (t : ThreadNo) → trapped_count (applied s (Step t)) ≤ trapped_count s + 1
+unfolding after_step
 trapped_step s t = step_count s t.0 (slice_get s.threads t.0) refl
 
-one_of_three : (a b : Bool) (x y z : FlatThread) → in_call x ≡ false → in_call y ≡ false → in_call z ≡ false → in_call (cond a x (cond b y z)) ≡ false
-one_of_three true b x y z p q r = p
-one_of_three false true x y z p q r = q
-one_of_three false false x y z p q r = r
+-- ---- a completion
 
--- a call that was completed is over
-call_ends : (t : FlatThread) → in_call (after_call t) ≡ false
-call_ends t =
-    let number = slice_index t.context.regs 17 in
-    let argument = slice_index t.context.regs 10 in
-    one_of_three (number == 0) (number == 1) (ended t (Exited argument)) (record t { status = Ready; output = t.output ++ (argument % 256) ∷ [] }) (ended t (BadCall number)) refl refl refl
+found_in_front : (ts more : List FlatThread) (n : ℕ) (t : FlatThread) → slice_get ts n ≡ Some t → slice_get (ts ++ more) n ≡ Some t
+found_in_front ts more n t e =
+    let lt : n < length ts = slice_get_within ts n t e in
+    let there : get_or (ts ++ more) n t ≡ t = get_or-append ts more t n lt ∙ get_or_from_slice_get ts n t t e in
+    slice_get_read (ts ++ more) (length (ts ++ more)) n t refl (omega (arith, length-append ts more)) (sym there)
 
-completion_count : (s : FlatState) (n : ℕ) (o : Option FlatThread) → slice_get s.threads n ≡ o → stands_so is_trapped o ≡ true → trapped_count (unwrap_or (completion_of_thread s n o) s) + 1 ≤ trapped_count s
-completion_count s n None e trapped = absurd cc
-completion_count s n (Some t) e trapped =
-    let change : count_by in_call (slice_set s.threads n (after_call t)) + 1 ≡ count_by in_call s.threads + 0 = subst (λ (b : Bool). count_by in_call (slice_set s.threads n (after_call t)) + 1 ≡ count_by in_call s.threads + cond b 1 0) (call_ends t) (subst (λ (b : Bool). count_by in_call (slice_set s.threads n (after_call t)) + cond b 1 0 ≡ count_by in_call s.threads + cond (in_call (after_call t)) 1 0) trapped (count_at s.threads n t (after_call t) e)) in
-    rw trapped (omega (arith, change))
+-- a declaration leaves the threads that there are, and brings none into a call
+record Keeps (s u : FlatState) : Type 0 where
+  found : (n : ℕ) (t : FlatThread) → slice_get s.threads n ≡ Some t → slice_get u.threads n ≡ Some t
+  count : trapped_count u ≡ trapped_count s
+
+declared_keeps : (s : FlatState) (d : Decl) → Keeps s (declared s d)
+unfolding declared
+declared_keeps s (decls.Machine machine) = record { found = λ n t e. e; count = refl }
+declared_keeps s (decls.Kernel kernel limits) = record { found = λ n t e. e; count = refl }
+declared_keeps s (decls.Right kernel group read write) = record { found = λ n t e. e; count = refl }
+declared_keeps s (decls.Space space kernel) = record { found = λ n t e. e; count = refl }
+declared_keeps s (decls.Thread thread space pc priority a0 a1) =
+    let new : FlatThread = new_thread thread space pc priority a0 a1 in
+    record {
+      found = λ n t e. found_in_front s.threads (new ∷ []) n t e;
+      count = omega (arith, sum_by-append (λ t. cond (in_call t) 1 0) s.threads (new ∷ []));
+    }
+declared_keeps s (decls.Map space vpn frame flags receiver) = record { found = λ n t e. e; count = refl }
+declared_keeps s (decls.Word frame offset value) = record { found = λ n t e. e; count = refl }
+
+made_count : (s : FlatState) (n : ℕ) (t : FlatThread) (d : Decl) (answer : ℕ) (rule : Option ℕ) → slice_get s.threads n ≡ Some t → in_call t ≡ true → trapped_count (made s n t d answer rule) + 1 ≡ trapped_count s
+made_count s n t d answer None e was =
+    let kept = declared_keeps s d in
+    one_less (declared s d).threads n t (answered t answer) (kept.found n t e) was refl ∙ kept.count
+made_count s n t d answer (Some rule) e was = one_less s.threads n t _ e was refl
+
+-- of two states that both have one thread less in a call
+either_less : (s u v : FlatState) (test : Bool) → trapped_count u + 1 ≡ trapped_count s → trapped_count v + 1 ≡ trapped_count s → trapped_count (cond test u v) + 1 ≡ trapped_count s
+either_less s u v true p q = p
+either_less s u v false p q = q
+
+completed_count : (s : FlatState) (n : ℕ) (t : FlatThread) (c : Completion) (effect : Effect) → slice_get s.threads n ≡ Some t → in_call t ≡ true → trapped_count (completed_so s n t c effect) + 1 ≡ trapped_count s
+completed_count s n t c effects.Ready e was = one_less s.threads n t _ e was refl
+completed_count s n t c (effects.Put byte) e was = one_less s.threads n t _ e was refl
+completed_count s n t c (effects.Decimal number) e was = one_less s.threads n t _ e was refl
+completed_count s n t c (effects.End reason) e was = one_less s.threads n t _ e was refl
+completed_count s n t c (effects.Map vpn frame flags receiver) e was = made_count s n t _ 0 _ e was
+completed_count s n t c (effects.Unmap vpn) e was =
+    either_less s _ _ (is_some (row_of s.rows t.space vpn)) (one_less s.threads n t (answered t 0) e was refl) (one_less s.threads n t (answered t (refusal 1)) e was refl)
+completed_count s n t c (effects.Spawn pc a0 priority) e was = made_count s n t _ _ _ e was
+completed_count s n t c (effects.Grant kernel group bits) e was =
+    let d = granting kernel group bits in
+    either_less s _ _ (is_first (slice_get s.spaces t.space.0)) (made_count s n t d 0 (rule_of_granting s d bits) e was) (one_less s.threads n t (answered t (refusal 1)) e was refl)
+
+-- a thread whose call can be completed is in one
+completable_in_call : (t : FlatThread) → is_completable t ≡ true → in_call t ≡ true
+completable_in_call t completable = (and_parts (in_call t) (not (waits t)) completable).0
+
+completion_count : (s : FlatState) (n : ℕ) (o : Option FlatThread) → slice_get s.threads n ≡ o → stands_so is_completable o ≡ true → trapped_count (unwrap_or (completion_for s n o) s) + 1 ≤ trapped_count s
+completion_count s n None e completable = absurd cc
+completion_count s n (Some t) e completable =
+    let c = completion_of t.no t.context t.queue.items in
+    let change = completed_count s n t c c.effect e (completable_in_call t completable) in
+    rw completable (omega (arith, change))
 
 -- a completion brings one out of it
-pub trapped_completion : (s : FlatState) (t : ThreadNo) → stands_so is_trapped (slice_get s.threads t.0) ≡ true → trapped_count (applied s (Complete t)) + 1 ≤ trapped_count s
-trapped_completion s t trapped = completion_count s t.0 (slice_get s.threads t.0) refl trapped
-
-or_false : (a b : Bool) → (a || b) ≡ false → (a ≡ false) × (b ≡ false)
-or_false true b e = absurd cc
-or_false false b e = (refl, e)
-
-else_ended : (status : Status) → is_trapped status ≡ false → is_ready status ≡ false → is_ended status ≡ true
-else_ended Ready trapped ready = absurd cc
-else_ended Trapped trapped ready = absurd cc
-else_ended (Ended reason) trapped ready = refl
-
--- where none is in a call and none is ready, all have ended
-pub none_left : (ts : List FlatThread) → list_any (λ t. is_trapped t.status) ts ≡ false → list_any (λ t. is_ready t.status) ts ≡ false → list_all (λ t. is_ended t.status) ts ≡ true
-none_left [] trapped ready = refl
-none_left (t ∷ ts) trapped ready =
-    let first = or_false (is_trapped t.status) (list_any (λ u. is_trapped u.status) ts) trapped in
-    let second = or_false (is_ready t.status) (list_any (λ u. is_ready u.status) ts) ready in
-    rw (else_ended t.status first.0 second.0) (none_left ts first.1 second.1)
-
-true_is_false : true ≡ false → ⊥
-true_is_false e = cc
-
-settled_cases : (a b : Bool) → cond a Done (cond b Spent Running) ≡ Running → (a ≡ false) × (b ≡ false)
-settled_cases true b e = absurd cc
-settled_cases false true e = absurd cc
-settled_cases false false e = (refl, refl)
-
--- while the run isn't over, some thread is in a call or ready
-pub not_running : (s : FlatState) (steps limit : ℕ) → list_any (λ t. is_trapped t.status) s.threads ≡ false → list_any (λ t. is_ready t.status) s.threads ≡ false → settled_of s steps limit ≡ Running → ⊥
-not_running s steps limit trapped ready running =
-    let all : list_all (λ t. is_ended t.status) s.threads ≡ true = none_left s.threads trapped ready in
-    let not_all = (settled_cases (list_all (λ t. is_ended t.status) s.threads) (not (list_any (λ t. is_trapped t.status) s.threads) && (steps == limit)) running).0 in
-    true_is_false (sym all ∙ not_all)
-
--- while the run isn't over and no thread is in a call, there are steps left
-pub steps_left : (s : FlatState) (steps limit : ℕ) → list_any (λ t. is_trapped t.status) s.threads ≡ false → settled_of s steps limit ≡ Running → steps ≤ limit → steps < limit
-steps_left s steps limit trapped running within =
-    let other : (not (list_any (λ t. is_trapped t.status) s.threads) && (steps == limit)) ≡ false = (settled_cases (list_all (λ t. is_ended t.status) s.threads) (not (list_any (λ t. is_trapped t.status) s.threads) && (steps == limit)) running).1 in
-    let apart : (steps == limit) ≡ false = sym (ap (λ (b : Bool). not b && (steps == limit)) trapped) ∙ other in
-    let differ : steps ≢ limit = eqb-false _ _ apart in
-    omega arith
-
--- one thread more doesn't pass the test
-pub any_more : (p : Status → Bool) (ts : List FlatThread) (i : ℕ) → i < length ts → list_any (λ t. p t.status) (take i ts) ≡ false → stands_so p (slice_get ts i) ≡ false → list_any (λ t. p t.status) (take (i + 1) ts) ≡ false
-any_more p ts i lt so_far here =
-    elim (slice_get_cases ts i).1 [
-      | inl h ↦
-          let last : p h.0.status ≡ false = sym (ap (stands_so p) h.2) ∙ here in
-          list_any_more (λ t. p t.status) ts i h.0 h.1 ∙ rw (so_far, h.3, last) refl
-      | inr h ↦ absurd (omega arith)
-    ]
+pub trapped_completion : (s : FlatState) (t : ThreadNo) → stands_so is_completable (slice_get s.threads t.0) ≡ true → trapped_count (applied s (Complete t)) + 1 ≤ trapped_count s
+unfolding after_completion
+trapped_completion s t completable = completion_count s t.0 (slice_get s.threads t.0) refl completable

@@ -1,12 +1,12 @@
 -- What is told of a text before it is written.
 use Rattle.std.specs.Prelude.{◌≡◌, ℕ, List, Option, Result, Err, IfSome, ◌≤◌, length}
 use Rattle.std.specs.Io.KnownBytes.{IsAtEnd}
-use Rattle.flat_machine.specs.declared.plain.Decl.{Decl}
-use Rattle.flat_machine.specs.declared.plain.Settled.{Settled}
-use Rattle.flat_machine.specs.declared.plain.Settled.TheVariants as settled
+use Rattle.flat_state.specs.declared.events.Decl.{Decl}
+use Rattle.flat_state.specs.declared.records.Settled.{Settled}
+use Rattle.flat_state.specs.declared.records.Settled.TheVariants as settled
 use Rattle.scenario_text.specs.Spelling.{IsBuilt}
 use Rattle.proc_run.specs.declared.outcome.RunStatus.{RunStatus}
-use Rattle.proc_run.specs.declared.outcome.RunStatus.TheVariants.{Done, Spent, NoMemory}
+use Rattle.proc_run.specs.declared.outcome.RunStatus.TheVariants.{Done, Stalled, Spent, NoMemory}
 use Rattle.proc_run.specs.declared.outcome.Kept.{Kept}
 use Rattle.proc_run.specs.declared.machine.NoText.{NoText}
 use Rattle.proc_run.specs.declared.machine.NoText.TheVariants as none
@@ -15,6 +15,7 @@ use Rattle.proc_run.specs.Outcomes.{IsDue, most_bytes}
 -- the status of a run that is settled so
 abbrev pub status_of : Settled → RunStatus
 status_of settled.Done = Done
+status_of settled.Stalled = Stalled
 status_of settled.Spent = Spent
 status_of settled.Running = NoMemory
 

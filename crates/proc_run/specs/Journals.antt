@@ -1,8 +1,8 @@
 -- What happened to a machine, and the events that are left of it.
 use Rattle.std.specs.Prelude.{ℕ, Bool, true, false, List, [], ◌∷◌, ◌++◌, map, replicate, count_by}
-use Rattle.flat_machine.specs.declared.plain.Decl.{Decl}
-use Rattle.flat_machine.specs.declared.plain.Event.{Event}
-use Rattle.flat_machine.specs.declared.plain.Event.TheVariants.{Declare, Step, Complete}
+use Rattle.flat_state.specs.declared.events.Decl.{Decl}
+use Rattle.flat_state.specs.declared.events.Event.{Event}
+use Rattle.flat_state.specs.declared.events.Event.TheVariants.{Declare, Step, Complete}
 use Rattle.proc_run.specs.declared.journal.Entry.{Entry}
 use Rattle.proc_run.specs.declared.journal.Entry.TheVariants.{Declared, Sealed, Ran, Ended, Completed}
 

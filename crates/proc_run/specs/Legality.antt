@@ -1,19 +1,25 @@
 -- When a journal is legal.
-use Rattle.std.specs.Prelude.{◌≡◌, ℕ, ◌<◌, ◌≤◌, Bool, true, false, ◌||◌, List, [], ◌∷◌, None, IsSome, replicate}
-use Rattle.flat_machine.specs.declared.plain.ThreadNo.{ThreadNo}
-use Rattle.flat_machine.specs.declared.plain.Decl.TheVariants.{Machine}
-use Rattle.flat_machine.specs.declared.plain.Event.TheVariants.{Step, Complete}
-use Rattle.flat_machine.specs.State.{FlatState, nothing_declared}
-use Rattle.flat_machine.specs.Declaration.{broken_rule}
-use Rattle.flat_machine.specs.Step.{faults}
-use Rattle.flat_machine.specs.Events.{after_event, after_events}
+use Rattle.std.specs.Prelude.{◌≡◌, ℕ, ◌<◌, ◌≤◌, Bool, true, false, ◌||◌, List, [], ◌∷◌, Option, Some, None, IsSome, replicate}
+use Rattle.cache_ident.specs.declared.names.ThreadNo.{ThreadNo}
+use Rattle.flat_state.specs.declared.events.Decl.TheVariants.{Machine}
+use Rattle.flat_state.specs.declared.events.Event.TheVariants.{Step, Complete}
+use Rattle.flat_state.specs.declared.records.NextStep.{NextStep}
+use Rattle.flat_state.specs.State.{FlatState, nothing_declared}
+use Rattle.flat_state.specs.Declaration.{broken_rule}
+use Rattle.flat_state.specs.Events.{after_event, after_events}
+use Rattle.flat_state.specs.NextSteps.{next_step}
 use Rattle.proc_run.specs.declared.journal.Entry.{Entry}
 use Rattle.proc_run.specs.declared.journal.Entry.TheVariants.{Declared, Sealed, Ran, Ended, Completed}
 use Rattle.proc_run.specs.Journals.{events_of, is_seal}
 
+-- does the step end its thread because an access doesn't translate? Not where there is no such thread.
+abbrev pub is_faulty : Option NextStep → Bool
+is_faulty None = false
+is_faulty (Some next) = next.faults
+
 -- the next step of the thread fits, and whether it faults
 abbrev pub TakesStep : FlatState → ThreadNo → Bool → Type 0
-TakesStep s thread faulty = IsSome (after_event s (Step thread)) × (faults s thread.0 ≡ faulty)
+TakesStep s thread faulty = IsSome (after_event s (Step thread)) × (is_faulty (next_step s thread.0) ≡ faulty)
 
 -- the machine after so many steps of a thread
 abbrev pub after_steps : FlatState → ThreadNo → ℕ → FlatState

@@ -3,15 +3,15 @@ use Rattle.std.specs.Prelude.{◌≡◌, ◌≢◌, ℕ, ◌<◌, ◌≤◌, Lis
 use Rattle.std.specs.Fmt.{decimal}
 use Rattle.std.specs.Io.KnownBytes.{IsAtEnd, Keeps}
 use Rattle.byte_ports.specs.Whole.{TakesMore}
-use Rattle.flat_machine.specs.declared.plain.Decl.{Decl}
-use Rattle.flat_machine.specs.declared.plain.Settled.{Settled}
-use Rattle.flat_machine.specs.declared.plain.Settled.TheVariants as settled
-use Rattle.flat_machine.specs.Events.{flat}
-use Rattle.flat_machine.specs.Settling.{settled_of}
+use Rattle.flat_state.specs.declared.events.Decl.{Decl}
+use Rattle.flat_state.specs.declared.records.Settled.{Settled}
+use Rattle.flat_state.specs.declared.records.Settled.TheVariants as settled
+use Rattle.flat_state.specs.Events.{flat}
+use Rattle.flat_state.specs.Settling.{settled_of}
 use Rattle.scenario_text.specs.Spelling.{IsBuilt}
 use Rattle.proc_run.specs.declared.journal.Entry.{Entry}
 use Rattle.proc_run.specs.declared.outcome.RunStatus.{RunStatus}
-use Rattle.proc_run.specs.declared.outcome.RunStatus.TheVariants.{Done, Spent, ReadFault, WriteFault, NoMemory, Usage, TooLong, Unbuilt}
+use Rattle.proc_run.specs.declared.outcome.RunStatus.TheVariants.{Done, Stalled, Spent, ReadFault, WriteFault, NoMemory, Usage, TooLong, Unbuilt}
 use Rattle.proc_run.specs.declared.outcome.Kept.{Kept}
 use Rattle.proc_run.specs.declared.outcome.Kept.TheVariants as kept
 use Rattle.proc_run.specs.Journals.{erase, steps_in, opening}
@@ -37,6 +37,7 @@ unbuilt_line line = codes "unbuilt line " ++ decimal line ++ codes "\n"
 
 abbrev pub exit_status : RunStatus → ℕ
 exit_status Done = 0
+exit_status Stalled = 1
 exit_status Spent = 2
 exit_status ReadFault = 3
 exit_status WriteFault = 4
@@ -66,6 +67,7 @@ IsNotBuilt bytes = (ds : List Decl) → IsBuilt bytes ds → ⊥
 -- it has left.
 abbrev pub IsDue : List (List ℕ) → Option (List ℕ) → Option (List ℕ) → RunStatus → Kept → List ℕ → Type 0
 IsDue words bytes left Done (kept.Journal j) text = IsAtEnd left × IsRunOf bytes settled.Done j text
+IsDue words bytes left Stalled (kept.Journal j) text = IsAtEnd left × IsRunOf bytes settled.Stalled j text
 IsDue words bytes left Spent (kept.Journal j) text = IsAtEnd left × IsRunOf bytes settled.Spent j text
 IsDue words bytes left Usage kept.Nothing text = (words ≢ []) × Keeps bytes left × (text ≡ usage_line)
 IsDue words bytes left TooLong kept.Nothing text =
@@ -107,6 +109,7 @@ UnlessWriteFault _ P = P
 -- the run of a machine came to its end
 abbrev pub IsRan : RunStatus → Type 0
 IsRan Done = Unit {0}
+IsRan Stalled = Unit {0}
 IsRan Spent = Unit {0}
 IsRan _ = ⊥
 

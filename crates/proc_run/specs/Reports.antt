@@ -2,20 +2,22 @@
 use Rattle.std.specs.Prelude.{ℕ, ◌+◌, ◌/◌, ◌%◌, nat_lt, Bool, ◌&&◌, ◌==◌, if◌then◌else◌, List, [], ◌∷◌, ◌++◌, length, count_by, codes, slice_index}
 use Rattle.std.specs.Fmt.{decimal}
 use Rattle.std.specs.List.{flat_map}
-use Rattle.flat_machine.specs.declared.plain.KernelNo.{KernelNo}
-use Rattle.flat_machine.specs.declared.plain.Row.{Row}
-use Rattle.flat_machine.specs.declared.plain.Access.{Access}
-use Rattle.flat_machine.specs.declared.plain.Access.TheVariants as accesses
-use Rattle.flat_machine.specs.declared.plain.FaultKind.{FaultKind}
-use Rattle.flat_machine.specs.declared.plain.FaultKind.TheVariants as kinds
-use Rattle.flat_machine.specs.declared.plain.Reason.{Reason}
-use Rattle.flat_machine.specs.declared.plain.Reason.TheVariants.{Exited, Fault, Illegal, BadCall}
-use Rattle.flat_machine.specs.declared.plain.Status.{Status}
-use Rattle.flat_machine.specs.declared.plain.Status.TheVariants.{Ready, Trapped, Ended}
-use Rattle.flat_machine.specs.declared.plain.FlatThread.{FlatThread}
-use Rattle.flat_machine.specs.declared.plain.Settled.{Settled}
-use Rattle.flat_machine.specs.declared.plain.Settled.TheVariants.{Done, Spent, Running}
-use Rattle.flat_machine.specs.State.{FlatState}
+use Rattle.cache_ident.specs.declared.names.KernelNo.{KernelNo}
+use Rattle.phys_groups.specs.declared.rows.Row.{Row}
+use Rattle.rv32_exec.specs.declared.statuses.Access.{Access}
+use Rattle.rv32_exec.specs.declared.statuses.Access.TheVariants as accesses
+use Rattle.rv32_exec.specs.declared.statuses.FaultKind.{FaultKind}
+use Rattle.rv32_exec.specs.declared.statuses.FaultKind.TheVariants as kinds
+use Rattle.rv32_exec.specs.declared.statuses.Reason.{Reason}
+use Rattle.rv32_exec.specs.declared.statuses.Misaligned.{Misaligned}
+use Rattle.rv32_exec.specs.declared.statuses.Misaligned.TheVariants as misaligned
+use Rattle.rv32_exec.specs.declared.statuses.Reason.TheVariants as reasons
+use Rattle.rv32_exec.specs.declared.statuses.Status.{Status}
+use Rattle.rv32_exec.specs.declared.statuses.Status.TheVariants.{Ready, Trapped, Ended}
+use Rattle.flat_state.specs.declared.records.FlatThread.{FlatThread}
+use Rattle.flat_state.specs.declared.records.Settled.{Settled}
+use Rattle.flat_state.specs.declared.records.Settled.TheVariants.{Done, Stalled, Spent, Running}
+use Rattle.flat_state.specs.State.{FlatState}
 
 -- a hexadecimal digit, in lower case
 abbrev pub hex_digit : ℕ → ℕ
@@ -29,6 +31,7 @@ word_text word =
 
 abbrev pub settled_text : Settled → List ℕ
 settled_text Done = codes "done"
+settled_text Stalled = codes "stalled"
 settled_text Spent = codes "spent"
 settled_text Running = codes "running"
 
@@ -42,11 +45,18 @@ access_text accesses.Fetch = codes "fetch"
 access_text accesses.Read = codes "read"
 access_text accesses.Write = codes "write"
 
+abbrev pub misaligned_text : Misaligned → List ℕ
+misaligned_text misaligned.Jump = codes "jump"
+misaligned_text misaligned.Load = codes "load"
+misaligned_text misaligned.Store = codes "store"
+
 abbrev pub reason_text : Reason → List ℕ
-reason_text (Exited code) = codes "exit " ++ decimal code
-reason_text (Fault kind access va) = codes "fault " ++ kind_text kind ++ codes " " ++ access_text access ++ codes " " ++ word_text va
-reason_text (Illegal word) = codes "illegal " ++ word_text word
-reason_text (BadCall number) = codes "badcall " ++ decimal number
+reason_text (reasons.Exited code) = codes "exit " ++ decimal code
+reason_text (reasons.Fault kind access va) = codes "fault " ++ kind_text kind ++ codes " " ++ access_text access ++ codes " " ++ word_text va
+reason_text (reasons.Illegal word) = codes "illegal " ++ word_text word
+reason_text (reasons.Misaligned what va) = codes "misaligned " ++ misaligned_text what ++ codes " " ++ word_text va
+reason_text reasons.Breakpoint = codes "break"
+reason_text (reasons.BadCall number) = codes "badcall " ++ decimal number
 
 -- where a thread stands. The number of a call is in a7, which is x17
 abbrev pub state_text : Status → List ℕ → List ℕ

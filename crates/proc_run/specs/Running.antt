@@ -1,22 +1,30 @@
 -- What a part of a run does to the machine and to the journal.
-use Rattle.std.specs.Prelude.{◌≡◌, ◌≢◌, ℕ, Bool, true, false, List, ◌++◌, Option, Some, None, count_by}
-use Rattle.flat_machine.specs.declared.plain.Decl.{Decl}
-use Rattle.flat_machine.specs.declared.plain.Status.{Status}
-use Rattle.flat_machine.specs.declared.plain.FlatThread.{FlatThread}
-use Rattle.flat_machine.specs.declared.plain.Settled.{Settled}
-use Rattle.flat_machine.specs.declared.plain.Settled.TheVariants.{Running}
-use Rattle.flat_machine.specs.State.{FlatState}
-use Rattle.flat_machine.specs.Call.{is_trapped}
-use Rattle.flat_machine.specs.Events.{after_events, flat}
-use Rattle.flat_machine.specs.Settling.{settled_of}
+use Rattle.std.specs.Prelude.{◌≡◌, ◌≢◌, ℕ, Bool, true, false, not, ◌&&◌, List, ◌++◌, Option, Some, None, count_by}
+use Rattle.flat_state.specs.declared.events.Decl.{Decl}
+use Rattle.flat_state.specs.declared.records.FlatThread.{FlatThread}
+use Rattle.flat_state.specs.declared.records.NextStep.{NextStep}
+use Rattle.flat_state.specs.declared.records.Settled.{Settled}
+use Rattle.flat_state.specs.declared.records.Settled.TheVariants.{Running}
+use Rattle.flat_state.specs.State.{FlatState, is_trapped}
+use Rattle.flat_state.specs.Events.{after_events, flat}
+use Rattle.flat_state.specs.Settling.{settled_of}
 use Rattle.proc_run.specs.declared.journal.Entry.{Entry}
 use Rattle.proc_run.specs.Journals.{erase, steps_in, opening}
-use Rattle.proc_run.specs.Legality.{AreLegal, IsLegal}
+use Rattle.proc_run.specs.Legality.{is_faulty, AreLegal, IsLegal}
 
--- is there a thread, and does its status pass a test?
-abbrev pub stands_so : (Status → Bool) → Option FlatThread → Bool
+-- is there a thread, and does it pass a test?
+abbrev pub stands_so : (FlatThread → Bool) → Option FlatThread → Bool
 stands_so test None = false
-stands_so test (Some t) = test t.status
+stands_so test (Some t) = test t
+
+-- may the step be taken? Not where there is no such thread.
+abbrev pub may_step : Option NextStep → Bool
+may_step None = false
+may_step (Some next) = next.runnable
+
+-- may it be taken, without a fault?
+abbrev pub goes_on : Option NextStep → Bool
+goes_on next = may_step next && not (is_faulty next)
 
 -- how many threads are in a call
 abbrev pub trapped_count : FlatState → ℕ

@@ -2,7 +2,8 @@
 
 ghost use Rattle.std.specs.Prelude.{◌≡◌, ◌∷◌, ◌++◌, [], ◌↔◌, IsTrue, OnOk, OnErr, length, slice_get};
 
-use flat_machine::{Decl, NoMemory, ThreadNo};
+use cache_ident::ThreadNo;
+use flat_machine::{Decl, NoMemory};
 use std::alloc::Global;
 use std::marker::Model;
 

@@ -4,9 +4,9 @@ ghost use Rattle.std.specs.Prelude.{◌≡◌, ◌≢◌, ◌<◌, ◌≤◌, []
 ghost use Rattle.std.specs.Io.KnownBytes.{Appends, Keeps};
 ghost use Rattle.byte_ports.specs.Faults.{HasRisen};
 ghost use Rattle.byte_ports.specs.Whole.{AppendsFront};
-ghost use Rattle.flat_machine.specs.declared.plain.Decl.{Decl as DeclLem};
-ghost use Rattle.flat_machine.specs.State.{nothing_declared};
-ghost use Rattle.flat_machine.specs.Events.{AllFit};
+ghost use Rattle.flat_state.specs.declared.events.Decl.{Decl as DeclLem};
+ghost use Rattle.flat_state.specs.State.{nothing_declared};
+ghost use Rattle.flat_state.specs.Events.{AllFit};
 ghost use Rattle.scenario_text.specs.Spelling.{IsBuilt};
 ghost use Rattle.proc_run.specs.declared.outcome.RunStatus.{RunStatus as RunStatusLem};
 ghost use Rattle.proc_run.specs.declared.outcome.Kept.TheVariants.{Nothing};
@@ -60,6 +60,7 @@ fn status_of(settled: Settled) -> RunStatus
 {
     match settled {
         Settled::Done => RunStatus::Done,
+        Settled::Stalled => RunStatus::Stalled,
         Settled::Spent => RunStatus::Spent,
         Settled::Running => unreachable!(),
     }
@@ -143,11 +144,11 @@ fn due<S: Source>(alloc: Global, words: &Words, source: &mut S) -> Result<DueTex
 }
 
 /// Reads a scenario from the source to its end, runs it on the machine with unlimited tables until all its threads
-/// have ended or 1,000,000 steps are taken, and writes the report to the sink. No words are accepted. All text is
-/// made before the first write.
+/// have ended, none can go on, or 1,000,000 steps are taken, and writes the report to the sink. No words are
+/// accepted. All text is made before the first write.
 ///
-/// It costs the steps, each of them the logarithm of the rows, and memory for the scenario, the machine, one entry for
-/// every 256 steps and each thread call, and the report.
+/// It costs the steps, each of them the logarithm of the rows, a pass over the threads for each entry of the journal,
+/// and memory for the scenario, the machine, one entry for every 256 steps and each thread call, and the report.
 pub fn run_machine<S: Source, W: Sink>(
     alloc: Global,
     words: &Words,

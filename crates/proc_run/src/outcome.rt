@@ -10,7 +10,9 @@ use crate::journal::Journal;
 pub enum RunStatus {
     /// All threads have ended.
     Done,
-    /// The step limit is reached, and no thread is in a call.
+    /// Some haven't, and each of these is held or waits for a signal.
+    Stalled,
+    /// Neither, the step limit is reached, and no thread's call can be completed.
     Spent,
     /// The source failed. Nothing was written.
     ReadFault,
@@ -33,6 +35,7 @@ impl RunStatus {
     {
         match self {
             RunStatus::Done => 0,
+            RunStatus::Stalled => 1,
             RunStatus::Spent => 2,
             RunStatus::ReadFault => 3,
             RunStatus::WriteFault => 4,
@@ -51,8 +54,8 @@ pub enum Kept {
     Journal(Journal),
 }
 
-/// How a run came out, and what is kept of it: for `Done` and `Spent`, and for a `WriteFault` in place of them,
-/// the journal.
+/// How a run came out, and what is kept of it: for `Done`, `Stalled` and `Spent`, and for a `WriteFault` in place of
+/// them, the journal.
 #[derive(Drop)]
 pub struct Outcome {
     pub status: RunStatus,

@@ -3,11 +3,12 @@
 ghost use Rattle.std.specs.Prelude.{◌≡◌, ◌<◌, ◌++◌, OnOk, IfOk, count_by};
 ghost use Rattle.std.specs.Fmt.{decimal};
 ghost use Rattle.std.specs.List.{flat_map};
-ghost use Rattle.proc_run.specs.Reports.{hex_digit as hex_digit_lem, word_text as word_text_lem, settled_text as settled_text_lem, kind_text as kind_text_lem, access_text as access_text_lem, reason_text, state_text, output_text, thread_text, is_of, is_referenced_of, is_modified_of, count_text, space_text, spaces_text, report as report_lem};
+ghost use Rattle.proc_run.specs.Reports.{hex_digit as hex_digit_lem, word_text as word_text_lem, settled_text as settled_text_lem, kind_text as kind_text_lem, access_text as access_text_lem, misaligned_text as misaligned_text_lem, reason_text, state_text, output_text, thread_text, is_of, is_referenced_of, is_modified_of, count_text, space_text, spaces_text, report as report_lem};
 
-use flat_machine::{
-    Access, Context, FaultKind, Flat, FlatThread, NoMemory, Reason, Row, Settled, Status, ThreadNo,
-};
+use cache_ident::ThreadNo;
+use flat_machine::{Flat, FlatThread, NoMemory, Settled};
+use phys_groups::Row;
+use rv32_exec::{Access, Context, FaultKind, Misaligned, Reason, Status};
 use std::alloc::Global;
 
 fn settled_text(settled: Settled) -> &'static str
@@ -15,6 +16,7 @@ fn settled_text(settled: Settled) -> &'static str
 {
     match settled {
         Settled::Done => "done",
+        Settled::Stalled => "stalled",
         Settled::Spent => "spent",
         Settled::Running => "running",
     }
@@ -37,6 +39,16 @@ fn access_text(access: Access) -> &'static str
         Access::Fetch => "fetch",
         Access::Read => "read",
         Access::Write => "write",
+    }
+}
+
+fn misaligned_text(what: Misaligned) -> &'static str
+    ensures { result.now ≡ misaligned_text_lem what }
+{
+    match what {
+        Misaligned::Jump => "jump",
+        Misaligned::Load => "load",
+        Misaligned::Store => "store",
     }
 }
 
@@ -97,6 +109,13 @@ fn put_reason(out: &mut Vec<u8>, alloc: Global, reason: Reason) -> Result<(), No
             put(out, "illegal ")?;
             put_word(out, word)
         }
+        Reason::Misaligned { what, va } => {
+            put(out, "misaligned ")?;
+            put(out, misaligned_text(what))?;
+            put(out, " ")?;
+            put_word(out, va)
+        }
+        Reason::Breakpoint => put(out, "break"),
         Reason::BadCall { number } => {
             put(out, "badcall ")?;
             put_number(out, alloc, u64::from(number))

@@ -2,17 +2,20 @@
 
 ghost use Rattle.std.specs.Prelude.{◌≡◌, ◌≢◌, ◌<◌, ◌≤◌, ◌+◌, ◌*◌, ◌++◌, true, false, IfSome, IfNone, OnOk, IfOk, length, map, slice_get};
 ghost use Rattle.std.specs.List.{list_any};
-ghost use Rattle.flat_machine.specs.State.{nothing_declared};
-ghost use Rattle.flat_machine.specs.Step.{is_ready as is_ready_lem, faults};
-ghost use Rattle.flat_machine.specs.Call.{is_trapped as is_trapped_lem};
-ghost use Rattle.flat_machine.specs.Events.{AllFit, after_declarations};
-ghost use Rattle.flat_machine.specs.Settling.{settled_of};
+ghost use Rattle.flat_state.specs.State.{nothing_declared};
+ghost use Rattle.flat_state.specs.Signals.{is_runnable as is_runnable_lem};
+ghost use Rattle.flat_state.specs.Call.{waits as waits_lem, is_completable as is_completable_lem};
+ghost use Rattle.flat_state.specs.Events.{AllFit, after_declarations};
+ghost use Rattle.flat_state.specs.NextSteps.{next_step};
+ghost use Rattle.flat_state.specs.Settling.{settled_of};
 ghost use Rattle.proc_run.specs.declared.journal.Entry.TheVariants.{Declared};
-ghost use Rattle.proc_run.specs.Legality.{TakesSteps, after_steps};
-ghost use Rattle.proc_run.specs.Running.{stands_so, trapped_count, Extends, IsRun};
+ghost use Rattle.proc_run.specs.Legality.{is_faulty, TakesSteps, after_steps};
+ghost use Rattle.proc_run.specs.Running.{stands_so, may_step, goes_on as goes_on_lem, trapped_count, Extends, IsRun};
 
 use crate::journal::{Entry, Journal};
-use flat_machine::{Decl, Event, Flat, NoMemory, Settled, Status, ThreadNo};
+use cache_ident::ThreadNo;
+use flat_machine::{Decl, Event, Flat, FlatThread, NoMemory, Settled};
+use rv32_exec::Status;
 use std::alloc::Global;
 
 /// How many steps one entry stands for at most.
@@ -27,62 +30,79 @@ pub struct Finished {
     pub steps: u64,
 }
 
-fn is_ready(flat: &Flat, no: ThreadNo) -> bool
-    ensures { result ≡ stands_so is_ready_lem (slice_get flat.now.threads no.0) }
+// Whether the thread is in call 3, and its queue is empty.
+fn waits(thread: &FlatThread) -> bool
+    ensures { result ≡ waits_lem thread.now }
+{
+    thread.context.regs[17] == 3 && thread.queue.is_empty()
+}
+
+fn is_completable(flat: &Flat, no: ThreadNo) -> bool
+    ensures { result ≡ stands_so is_completable_lem (slice_get flat.now.threads no.0) }
 {
     match flat.thread(no) {
-        Some(thread) => matches!(thread.status, Status::Ready),
+        Some(thread) => matches!(thread.status, Status::Trapped) && !waits(thread),
         None => false,
     }
 }
 
-fn is_trapped(flat: &Flat, no: ThreadNo) -> bool
-    ensures { result ≡ stands_so is_trapped_lem (slice_get flat.now.threads no.0) }
+fn is_runnable(flat: &Flat, no: ThreadNo) -> bool
+    ensures { result ≡ may_step (next_step flat.now no.0) }
 {
-    match flat.thread(no) {
-        Some(thread) => matches!(thread.status, Status::Trapped),
+    match flat.next_step(no) {
+        Some(next) => next.runnable,
         None => false,
     }
 }
 
-// The first thread that is in a call.
-fn first_trapped(flat: &Flat) -> Option<ThreadNo>
-    ensures some { IfSome result (λ no. stands_so is_trapped_lem (slice_get flat.now.threads no.0) ≡ true) }
-    ensures none { IfNone result (list_any (λ t. is_trapped_lem t.status) flat.now.threads ≡ false) }
+// Whether the thread can take a step that doesn't fault.
+fn goes_on(flat: &Flat, no: ThreadNo) -> bool
+    ensures { result ≡ goes_on_lem (next_step flat.now no.0) }
+{
+    match flat.next_step(no) {
+        Some(next) => next.runnable && !next.faults,
+        None => false,
+    }
+}
+
+// The first thread whose call can be completed.
+fn first_completable(flat: &Flat) -> Option<ThreadNo>
+    ensures some { IfSome result (λ no. stands_so is_completable_lem (slice_get flat.now.threads no.0) ≡ true) }
+    ensures none { IfNone result (list_any is_completable_lem flat.now.threads ≡ false) }
 {
     let count = flat.threads();
     for no in 0..count {
-        if is_trapped(flat, ThreadNo(no)) {
+        if is_completable(flat, ThreadNo(no)) {
             return Some(ThreadNo(no));
         }
     }
     None
 }
 
-// The first thread that is ready.
-fn first_ready(flat: &Flat) -> Option<ThreadNo>
-    ensures some { IfSome result (λ no. stands_so is_ready_lem (slice_get flat.now.threads no.0) ≡ true) }
-    ensures none { IfNone result (list_any (λ t. is_ready_lem t.status) flat.now.threads ≡ false) }
+// The first thread that is runnable.
+fn first_runnable(flat: &Flat) -> Option<ThreadNo>
+    ensures some { IfSome result (λ no. may_step (next_step flat.now no.0) ≡ true) }
+    ensures none { IfNone result (list_any (is_runnable_lem flat.now) flat.now.threads ≡ false) }
 {
     let count = flat.threads();
     for no in 0..count {
-        if is_ready(flat, ThreadNo(no)) {
+        if is_runnable(flat, ThreadNo(no)) {
             return Some(ThreadNo(no));
         }
     }
     None
 }
 
-// Takes steps of a thread while it is ready and they don't fault, so many at most, and answers how many.
+// Takes steps of a thread while it is runnable and they don't fault, so many at most, and answers how many.
 fn run_ahead(flat: &mut Flat, no: ThreadNo, most: u32) -> Result<u32, NoMemory>
     ensures within { IfOk result (λ n. n ≤ most) }
     ensures taken { IfOk result (λ n. TakesSteps flat.old no n) }
     ensures state { IfOk result (λ n. flat.new ≡ after_steps flat.old no n) }
     ensures trapped { IfOk result (λ n. trapped_count flat.new ≤ trapped_count flat.old + n) }
-    ensures none { IfOk result (λ n. n ≡ 0 → 0 < most → stands_so is_ready_lem (slice_get flat.old.threads no.0) ≡ true → faults flat.old no.0 ≡ true) }
+    ensures none { IfOk result (λ n. n ≡ 0 → 0 < most → may_step (next_step flat.old no.0) ≡ true → is_faulty (next_step flat.old no.0) ≡ true) }
 {
     let mut n = 0;
-    while n < most && is_ready(flat, no) && !flat.faults(no) {
+    while n < most && goes_on(flat, no) {
         flat.apply(&Event::Step(no))?;
         n += 1;
     }
@@ -91,7 +111,7 @@ fn run_ahead(flat: &mut Flat, no: ThreadNo, most: u32) -> Result<u32, NoMemory>
 
 // Completes the call of a thread.
 fn complete(flat: &mut Flat, journal: &mut Journal, no: ThreadNo) -> Result<(), NoMemory>
-    requires { stands_so is_trapped_lem (slice_get flat.old.threads no.0) ≡ true }
+    requires { stands_so is_completable_lem (slice_get flat.old.threads no.0) ≡ true }
     ensures extends { OnOk result (Extends flat.old journal.old flat.new journal.new 0) }
     ensures trapped { OnOk result (trapped_count flat.new + 1 ≤ trapped_count flat.old) }
 {
@@ -101,8 +121,8 @@ fn complete(flat: &mut Flat, journal: &mut Journal, no: ThreadNo) -> Result<(), 
 
 // Takes the step of a thread that faults.
 fn end(flat: &mut Flat, journal: &mut Journal, no: ThreadNo) -> Result<(), NoMemory>
-    requires ready { stands_so is_ready_lem (slice_get flat.old.threads no.0) ≡ true }
-    requires faults { faults flat.old no.0 ≡ true }
+    requires runnable { may_step (next_step flat.old no.0) ≡ true }
+    requires faults { is_faulty (next_step flat.old no.0) ≡ true }
     ensures extends { OnOk result (Extends flat.old journal.old flat.new journal.new 1) }
     ensures trapped { OnOk result (trapped_count flat.new ≤ trapped_count flat.old + 1) }
 {
@@ -110,9 +130,9 @@ fn end(flat: &mut Flat, journal: &mut Journal, no: ThreadNo) -> Result<(), NoMem
     journal.push(Entry::Ended { thread: no, cpu: 0 })
 }
 
-// Takes at least one step of a ready thread, and so many at most, and answers how many.
+// Takes at least one step of a runnable thread, and so many at most, and answers how many.
 fn turn(flat: &mut Flat, journal: &mut Journal, no: ThreadNo, most: u32) -> Result<u32, NoMemory>
-    requires ready { stands_so is_ready_lem (slice_get flat.old.threads no.0) ≡ true }
+    requires runnable { may_step (next_step flat.old no.0) ≡ true }
     requires some { 0 < most }
     requires few { most ≤ 256 }
     ensures extends { IfOk result (λ n. Extends flat.old journal.old flat.new journal.new n) }
@@ -133,7 +153,7 @@ fn turn(flat: &mut Flat, journal: &mut Journal, no: ThreadNo, most: u32) -> Resu
     Ok(steps)
 }
 
-// Completes a call, or else takes steps of a ready thread, and answers how many steps were taken.
+// Completes a call, or else takes steps of a runnable thread, and answers how many steps were taken.
 fn advance(flat: &mut Flat, journal: &mut Journal, steps: u64, limit: u64) -> Result<u64, NoMemory>
     requires running { settled_of flat.old steps limit ≡ Settled.Running }
     requires within { steps ≤ limit }
@@ -141,11 +161,11 @@ fn advance(flat: &mut Flat, journal: &mut Journal, steps: u64, limit: u64) -> Re
     ensures within { IfOk result (λ n. steps + n ≤ limit) }
     ensures closer { IfOk result (λ n. trapped_count flat.new < trapped_count flat.old + 2 * n) }
 {
-    if let Some(no) = first_trapped(flat) {
+    if let Some(no) = first_completable(flat) {
         complete(flat, journal, no)?;
         return Ok(0);
     }
-    let Some(no) = first_ready(flat) else {
+    let Some(no) = first_runnable(flat) else {
         unreachable!();
     };
     let most = (limit - steps).min(QUANTUM) as u32;
@@ -182,7 +202,8 @@ fn declare_all(flat: &mut Flat, journal: &mut Journal, decls: &[Decl]) -> Result
     Ok(())
 }
 
-/// Runs the machine of these declarations until all its threads have ended or it has taken `limit` steps.
+/// Runs the machine of these declarations until all its threads have ended, none can go on, or it has taken `limit`
+/// steps.
 pub fn run(alloc: Global, decls: &[Decl], limit: u64) -> Result<Finished, NoMemory>
     requires some { 0 < length decls.now }
     requires fit { AllFit nothing_declared decls.now }

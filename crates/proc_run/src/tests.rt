@@ -1,5 +1,8 @@
+use crate::run::run;
 use crate::*;
 use byte_ports::{MemSink, MemSource};
+use flat_machine::Settled;
+use scenario_text::read;
 use std::test::Fail;
 
 const HELLO: &[u8] = b"mem 1\nkernel 0\nright 0 0 rw\nspace 0 0\nthread 0 0 0\nmap 0 0 0 x\n\
@@ -45,17 +48,17 @@ thread 0 fault rights fetch 0x00000000 out 0\n",
         ),
         (
             b"mem 1\nkernel 0\nright 0 0 rw\nspace 0 0\nthread 0 0 0\nmap 0 0 0 x\n\
-word 0 0 0000006F\nend\n",
+word 0 0 DEADbe0b\nend\n",
             0,
             b"status done\nsteps 1\nspace 0 rows 1 referenced 1 modified 0\n\
-thread 0 illegal 0x0000006f out 0\n",
+thread 0 illegal 0xdeadbe0b out 0\n",
         ),
         (
             b"mem 1\nkernel 0\nright 0 0 rw\nspace 0 0\nthread 0 0 0\nmap 0 0 0 x\n\
-word 0 0 00900893 00000073\nend\n",
+word 0 0 00a00893 00000073\nend\n",
             0,
             b"status done\nsteps 2\nspace 0 rows 1 referenced 1 modified 0\n\
-thread 0 badcall 9 out 0\n",
+thread 0 badcall 10 out 0\n",
         ),
         (b"mem 1\nkernel 1\n", 9, b"unbuilt line 2\n"),
         (b"", 9, b"unbuilt line 1\n"),
@@ -65,6 +68,87 @@ thread 0 badcall 9 out 0\n",
         assert_eq!(rt; found, status);
         assert_eq!(rt; held.as_slice(), text);
     }
+    Ok(())
+}
+
+#[test]
+fn programs_and_their_reports(rt: HostRuntime) -> Result<(), Fail> {
+    let cases: [(&[u8], u8, &[u8]); 7] = [
+        // Adds one to a word of memory, stores it behind, and puts out its low byte.
+        (
+            b"mem 1\nkernel 0\nright 0 0 rw\nspace 0 0\nthread 0 0 0\nmap 0 0 0 x\nmap 0 16 1 rw\n\
+word 0 0 000102b7 0002a503 00150513 00a2a223 0042c503 00100893 00000073 00000893 00000073\n\
+word 1 0 00000047\nend\n",
+            0,
+            b"status done\nsteps 9\nspace 0 rows 2 referenced 2 modified 1\n\
+thread 0 exit 72 out 1\nH\n",
+        ),
+        // A shift that keeps the sign, and a branch to an address that 4 doesn't divide.
+        (
+            b"mem 1\nkernel 0\nright 0 0 rw\nspace 0 0\nthread 0 0 0\nmap 0 0 0 x\n\
+word 0 0 80000537 41f55513 00200893 00000073 00000297 00d280e7 00100073 00000163\nend\n",
+            0,
+            b"status done\nsteps 7\nspace 0 rows 1 referenced 1 modified 0\n\
+thread 0 misaligned jump 0x0000001e out 10\n4294967295\n",
+        ),
+        // A load from a page that has no r.
+        (
+            b"mem 1\nkernel 0\nright 0 0 rw\nspace 0 0\nthread 0 0 0\nmap 0 0 0 x\n\
+word 0 0 00002503\nend\n",
+            0,
+            b"status done\nsteps 1\nspace 0 rows 1 referenced 0 modified 0\n\
+thread 0 fault flags read 0x00000000 out 0\n",
+        ),
+        // A store behind one step that doesn't fault, to a page without a row.
+        (
+            b"mem 1\nkernel 0\nright 0 0 rw\nspace 0 0\nthread 0 0 0\nmap 0 0 0 x\n\
+word 0 0 000102b7 00a2a223\nend\n",
+            0,
+            b"status done\nsteps 2\nspace 0 rows 1 referenced 1 modified 0\n\
+thread 0 fault page write 0x00010004 out 0\n",
+        ),
+        (
+            b"mem 1\nkernel 0\nright 0 0 rw\nspace 0 0\nthread 0 0 0\nmap 0 0 0 x\n\
+word 0 0 00100073\nend\n",
+            0,
+            b"status done\nsteps 1\nspace 0 rows 1 referenced 1 modified 0\nthread 0 break out 0\n",
+        ),
+        // Waits for a signal that nobody sends.
+        (
+            b"mem 1\nkernel 0\nright 0 0 rw\nspace 0 0\nthread 0 0 0\nmap 0 0 0 x\n\
+word 0 0 00300893 00000073\nend\n",
+            1,
+            b"status stalled\nsteps 2\nspace 0 rows 1 referenced 1 modified 0\nthread 0 call 3 out 0\n",
+        ),
+        // Begins a thread with a letter in a0, which puts it out.
+        (
+            b"mem 1\nkernel 0\nright 0 0 rw\nspace 0 0\nthread 0 0 0\nmap 0 0 0 x\n\
+word 0 0 01c00513 04100593 00000613 00800893 00000073 00000893 00000073 00100893 00000073 00000893 00000073\nend\n",
+            0,
+            b"status done\nsteps 11\nspace 0 rows 1 referenced 1 modified 0\n\
+thread 0 exit 1 out 0\nthread 1 exit 65 out 1\nA\n",
+        ),
+    ];
+    for (bytes, status, text) in cases {
+        let (found, held) = run_over(&rt, &Words::new(rt.alloc()), bytes, &[], &[])?;
+        assert_eq!(rt; found, status);
+        assert_eq!(rt; held.as_slice(), text);
+    }
+    Ok(())
+}
+
+#[test]
+fn a_limit_that_is_reached(rt: HostRuntime) -> Result<(), Fail> {
+    // A jump to itself.
+    let bytes = b"mem 1\nkernel 0\nright 0 0 rw\nspace 0 0\nthread 0 0 0\nmap 0 0 0 x\n\
+word 0 0 0000006f\nend\n";
+    let scenario = read(rt.alloc(), bytes)?;
+    let finished = run(rt.alloc(), scenario.decls(), 300)?;
+    assert_eq!(rt; (finished.settled, finished.steps), (Settled::Spent, 300));
+    // Seven declarations, the seal, a quantum and what was left of the limit.
+    assert_eq!(rt; finished.journal.len(), 10);
+    assert!(rt; matches!(finished.journal.get(8), Some(Entry::Ran { steps: 256, .. })));
+    assert!(rt; matches!(finished.journal.get(9), Some(Entry::Ran { steps: 44, .. })));
     Ok(())
 }
 

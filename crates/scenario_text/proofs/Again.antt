@@ -4,7 +4,7 @@ use Rattle.std.specs.Prelude.{codes, option_to_list}
 use Rattle.std.specs.Fmt.{decimal}
 use Rattle.std.specs.List.{flat_map, AllByRecursion}
 use Rattle.std.proofs.lemmas.List.{length-append}
-use Rattle.flat_machine.specs.declared.plain.Decl.{Decl}
+use Rattle.flat_state.specs.declared.events.Decl.{Decl}
 use Rattle.scenario_text.specs.declared.lines.Place.{Place}
 use Rattle.scenario_text.specs.declared.lines.Place.TheVariants as places
 use Rattle.scenario_text.specs.Spelling.{RowLine, WordLine, Parts, right_text, row_text, spaced, word_text, text, IsNumber, IsRowLine, IsWord, IsWordLine, InRange, machine_decl, kernel_decl, right_decl, space_decl, thread_decl, row_decl, word_decl, word_value, word_decls_from, word_decls, declarations}

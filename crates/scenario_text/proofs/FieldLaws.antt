@@ -15,7 +15,7 @@ use Rattle.std.proofs.lemmas.Fmt.{decimal_digit, decimal_step, decimal_by_steps}
 use Rattle.hex.specs.declared.error.FromHexError.{FromHexError}
 use Rattle.hex.specs.Hex.{decode_of, decode_sized, is_hex_digit}
 use Rattle.hex.proofs.HexLemmas.{decode_of-digits, decode_of-ok, decode_sized-twice}
-use Rattle.flat_machine.specs.declared.plain.Flags.{Flags}
+use Rattle.phys_groups.specs.declared.rows.Flags.{Flags}
 use Rattle.scenario_text.specs.Spelling.{flag_text, flags_text, IsNumber, IsWord, word_value}
 use Rattle.scenario_text.specs.Reading.{◌>>=◌, after, number_from, number_at, mark_at, flags_at, word_of, word_at}
 
@@ -146,7 +146,7 @@ number_takes (b ∷ bytes) n rest e =
 
 -- ---- flags
 
-flags_again_at : (r w x : Bool) (rest : List ℕ) → IsTrue (r || (w || x)) → flags_at (flags_text (record { r = r; w = w; x = x }) ++ (10 ∷ rest)) ≡ Some (record { r = r; w = w; x = x }, 10 ∷ rest)
+flags_again_at : (r w x : Bool) (rest : List ℕ) → IsTrue (r || (w || x)) → flags_at (flags_text (record { r = r; w = w; x = x; m = false }) ++ (10 ∷ rest)) ≡ Some (record { r = r; w = w; x = x; m = false }, 10 ∷ rest)
 unfolding flags_at
 flags_again_at true true true rest h = refl
 flags_again_at true true false rest h = refl
@@ -158,8 +158,9 @@ flags_again_at false false true rest h = refl
 flags_again_at false false false rest h = absurd cc
 
 -- flags that a line feed ends
-pub flags_again : (f : Flags) (rest : List ℕ) → IsTrue (f.r || (f.w || f.x)) → flags_at (flags_text f ++ (10 ∷ rest)) ≡ Some (f, 10 ∷ rest)
-flags_again f rest h = flags_again_at f.r f.w f.x rest h
+pub flags_again : (f : Flags) (rest : List ℕ) → IsTrue (f.r || (f.w || f.x)) → f.m ≡ false → flags_at (flags_text f ++ (10 ∷ rest)) ≡ Some (f, 10 ∷ rest)
+flags_again f rest h plain =
+    subst (λ (m : Bool). flags_at (flags_text f ++ (10 ∷ rest)) ≡ Some (record { r = f.r; w = f.w; x = f.x; m = m }, 10 ∷ rest)) (sym plain) (flags_again_at f.r f.w f.x rest h)
 
 mark_takes : (letter : ℕ) (bytes : List ℕ) → bytes ≡ flag_text (mark_at letter bytes).0 (letter ∷ []) ++ (mark_at letter bytes).1
 mark_takes letter [] = refl
@@ -169,13 +170,13 @@ mark_takes letter (b ∷ bytes) =
       | inr e ↦ rw e refl
     ]
 
-pub flags_takes : (bytes : List ℕ) (f : Flags) (rest : List ℕ) → flags_at bytes ≡ Some (f, rest) → (bytes ≡ flags_text f ++ rest) × IsTrue (f.r || (f.w || f.x))
+pub flags_takes : (bytes : List ℕ) (f : Flags) (rest : List ℕ) → flags_at bytes ≡ Some (f, rest) → (bytes ≡ flags_text f ++ rest) × IsTrue (f.r || (f.w || f.x)) × (f.m ≡ false)
 unfolding flags_at
 flags_takes bytes f rest e =
     let r = mark_at 114 bytes in
     let w = mark_at 119 r.1 in
     let x = mark_at 120 w.1 in
-    let made : Flags = record { r = r.0; w = w.0; x = x.0 } in
+    let made : Flags = record { r = r.0; w = w.0; x = x.0; m = false } in
     let g = cond_some (r.0 || (w.0 || x.0)) (made, x.1) (f, rest) e in
     let tail : w.1 ≡ flag_text x.0 (120 ∷ []) ++ x.1 = mark_takes 120 w.1 in
     let middle : r.1 ≡ flag_text w.0 (119 ∷ []) ++ w.1 = mark_takes 119 r.1 in
@@ -184,7 +185,7 @@ flags_takes bytes f rest e =
     let b = flag_text w.0 (119 ∷ []) in
     let c = flag_text x.0 (120 ∷ []) in
     let whole : bytes ≡ (a ++ b ++ c) ++ x.1 = front ∙ ap (λ (t : List ℕ). a ++ t) (middle ∙ ap (λ (t : List ℕ). b ++ t) tail) ∙ sym (append_assoc (a ++ b) c x.1 ∙ append_assoc a b (c ++ x.1)) in
-    subst (λ (p : Flags × List ℕ). (bytes ≡ flags_text p.0 ++ p.1) × IsTrue (p.0.r || (p.0.w || p.0.x))) g.1 (whole, g.0)
+    subst (λ (p : Flags × List ℕ). (bytes ≡ flags_text p.0 ++ p.1) × IsTrue (p.0.r || (p.0.w || p.0.x)) × (p.0.m ≡ false)) g.1 (whole, g.0, refl)
 
 -- ---- words
 

@@ -1,9 +1,9 @@
 -- Declarations that all fit, one list after another.
 use Rattle.std.proofs.Common.{◌≡◌, List, [], ◌∷◌, ◌++◌, None, refl}
-use Rattle.flat_machine.specs.declared.plain.Decl.{Decl}
-use Rattle.flat_machine.specs.State.{FlatState}
-use Rattle.flat_machine.specs.Declaration.{broken_rule, declared}
-use Rattle.flat_machine.specs.Events.{AllFit, after_declarations}
+use Rattle.flat_state.specs.declared.events.Decl.{Decl}
+use Rattle.flat_state.specs.State.{FlatState}
+use Rattle.flat_state.specs.Declaration.{broken_rule, declared}
+use Rattle.flat_state.specs.Events.{AllFit, after_declarations}
 
 pub AllFit-parts : (s : FlatState) (xs ys : List Decl) → AllFit s (xs ++ ys) → AllFit s xs × AllFit (after_declarations s xs) ys
 AllFit-parts s [] ys fit = (tt, fit)

@@ -4,7 +4,7 @@ use Rattle.std.specs.Prelude.{codes}
 use Rattle.std.specs.Fmt.{decimal}
 use Rattle.std.proofs.lemmas.Bool.{lt-ltb, ltb-true}
 use Rattle.std.proofs.lemmas.Option.{same_Some, cond_some}
-use Rattle.flat_machine.specs.declared.plain.Decl.{Decl}
+use Rattle.flat_state.specs.declared.events.Decl.{Decl}
 use Rattle.scenario_text.specs.declared.lines.Place.{Place}
 use Rattle.scenario_text.specs.declared.lines.Place.TheVariants as places
 use Rattle.scenario_text.specs.Spelling.{RowLine, flags_text, right_text, row_text, spaced, IsNumber, IsRowLine, IsWord, machine_decl, kernel_decl, right_decl, space_decl, thread_decl, row_decl, word_decl, word_value}
@@ -138,7 +138,7 @@ row_takes bytes s e =
     let from_frame : b.0 ≡ decimal line.frame ++ (codes " " ++ (flags_text line.flags ++ (codes "\n" ++ r.0))) = f.0 ∙ ap (λ (t : List ℕ). decimal line.frame ++ t) (after_takes (codes " ") frame.0.1 c.0 c.1 ∙ ap (λ (t : List ℕ). codes " " ++ t) from_flags) in
     let from_page : a.0 ≡ decimal line.page ++ (codes " " ++ (decimal line.frame ++ (codes " " ++ (flags_text line.flags ++ (codes "\n" ++ r.0))))) = p.0 ∙ ap (λ (t : List ℕ). decimal line.page ++ t) (after_takes (codes " ") page.0.1 b.0 b.1 ∙ ap (λ (t : List ℕ). codes " " ++ t) from_frame) in
     let whole : bytes ≡ row_from line r.0 = after_takes (codes "map 0 ") bytes a.0 a.1 ∙ ap (λ (t : List ℕ). codes "map 0 " ++ t) from_page in
-    record { value = line; rest = r.0; fits = record { page = p.1; frame = f.1; some_flag = m.1 }; parts = whole ∙ sym (row_regrouped line r.0); is_made = sym (same_Some _ _ r.2) }
+    record { value = line; rest = r.0; fits = record { page = p.1; frame = f.1; some_flag = m.1; no_message = m.2 }; parts = whole ∙ sym (row_regrouped line r.0); is_made = sym (same_Some _ _ r.2) }
 
 pub row_again : (l : RowLine) (rest : List ℕ) → IsRowLine l → row_line (row_text l ++ rest) ≡ Some (step_to (row_decl l) places.Rows rest)
 unfolding row_line
@@ -146,7 +146,7 @@ row_again l rest fits =
     let from_flags = flags_text l.flags ++ (codes "\n" ++ rest) in
     let from_frame = decimal l.frame ++ (codes " " ++ from_flags) in
     let from_page = decimal l.page ++ (codes " " ++ from_frame) in
-    ap row_line (row_regrouped l rest) ∙ rw (after_again (codes "map 0 ") from_page, number_again l.page (codes " " ++ from_frame) fits.page refl, after_again (codes " ") from_frame, number_again l.frame (codes " " ++ from_flags) fits.frame refl, after_again (codes " ") from_flags, flags_again l.flags rest fits.some_flag, after_again (codes "\n") rest) refl
+    ap row_line (row_regrouped l rest) ∙ rw (after_again (codes "map 0 ") from_page, number_again l.page (codes " " ++ from_frame) fits.page refl, after_again (codes " ") from_frame, number_again l.frame (codes " " ++ from_flags) fits.frame refl, after_again (codes " ") from_flags, flags_again l.flags rest fits.some_flag fits.no_message, after_again (codes "\n") rest) refl
 
 -- ---- words
 

@@ -3,10 +3,10 @@ use Rattle.std.proofs.Common.{◌≡◌, ℕ, suc, ◌+◌, ◌-◌, ◌<◌, tr
 use Rattle.std.specs.Prelude.{option_to_list, IfOk, MatchResult}
 use Rattle.std.proofs.lemmas.List.{append-nil}
 use Rattle.std.proofs.lemmas.Option.{same_Some}
-use Rattle.flat_machine.specs.declared.plain.Decl.{Decl}
-use Rattle.flat_machine.specs.State.{FlatState, nothing_declared}
-use Rattle.flat_machine.specs.Declaration.{broken_rule, declared}
-use Rattle.flat_machine.specs.Events.{AllFit, after_declarations}
+use Rattle.flat_state.specs.declared.events.Decl.{Decl}
+use Rattle.flat_state.specs.State.{FlatState, nothing_declared}
+use Rattle.flat_state.specs.Declaration.{broken_rule, declared}
+use Rattle.flat_state.specs.Events.{AllFit, after_declarations}
 use Rattle.scenario_text.specs.declared.fault.ScenarioFault.{ScenarioFault}
 use Rattle.scenario_text.specs.declared.fault.ScenarioFault.TheVariants.{NoMemory}
 use Rattle.scenario_text.specs.declared.lines.Place.{Place}

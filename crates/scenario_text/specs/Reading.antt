@@ -4,10 +4,10 @@ use Rattle.std.specs.Str.{bytes_eq}
 use Rattle.std.specs.Int.{w32, from_be_bytes}
 use Rattle.hex.specs.declared.error.FromHexError.{FromHexError}
 use Rattle.hex.specs.Hex.{decode_sized}
-use Rattle.flat_machine.specs.declared.plain.Flags.{Flags}
-use Rattle.flat_machine.specs.declared.plain.Decl.{Decl}
-use Rattle.flat_machine.specs.State.{nothing_declared}
-use Rattle.flat_machine.specs.Events.{AllFit}
+use Rattle.phys_groups.specs.declared.rows.Flags.{Flags}
+use Rattle.flat_state.specs.declared.events.Decl.{Decl}
+use Rattle.flat_state.specs.State.{nothing_declared}
+use Rattle.flat_state.specs.Events.{AllFit}
 use Rattle.scenario_text.specs.declared.fault.ScenarioFault.{ScenarioFault}
 use Rattle.scenario_text.specs.declared.fault.ScenarioFault.TheVariants.{NoMemory}
 use Rattle.scenario_text.specs.declared.lines.Part.{Part as PartValue}
@@ -51,7 +51,7 @@ flags_at bytes =
     let r = mark_at 114 bytes in
     let w = mark_at 119 r.1 in
     let x = mark_at 120 w.1 in
-    if r.0 || (w.0 || x.0) then Some (record { r = r.0; w = w.0; x = x.0 }, x.1) else None
+    if r.0 || (w.0 || x.0) then Some (record { r = r.0; w = w.0; x = x.0; m = false }, x.1) else None
 
 abbrev pub word_of : Result (List ℕ) FromHexError → List ℕ → Option (ℕ × List ℕ)
 word_of (Ok word) rest = Some (from_be_bytes w32 word, rest)

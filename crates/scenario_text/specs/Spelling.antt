@@ -1,15 +1,16 @@
 -- What a built scenario is: its parts, the one text that spells them, and what they declare.
-use Rattle.std.specs.Prelude.{◌≡◌, ℕ, ◌+◌, ◌*◌, ◌^◌, ◌<◌, Bool, true, ◌||◌, IsTrue, if◌then◌else◌, List, [], ◌∷◌, ◌++◌, length, map, codes, unwrap_or}
+use Rattle.std.specs.Prelude.{◌≡◌, ℕ, ◌+◌, ◌*◌, ◌^◌, ◌<◌, Bool, true, false, ◌||◌, IsTrue, if◌then◌else◌, List, [], ◌∷◌, ◌++◌, length, map, codes, None, unwrap_or}
 use Rattle.std.specs.Result.{result_ok}
 use Rattle.std.specs.List.{flat_map, AllByRecursion, AllPass}
 use Rattle.std.specs.Int.{w32, from_be_bytes}
 use Rattle.std.specs.Fmt.{decimal}
 use Rattle.hex.specs.Hex.{decode_of, is_hex_digit}
-use Rattle.flat_machine.specs.declared.plain.Flags.{Flags}
-use Rattle.flat_machine.specs.declared.plain.Decl.{Decl}
-use Rattle.flat_machine.specs.declared.plain.Decl.TheVariants as decls
-use Rattle.flat_machine.specs.State.{nothing_declared}
-use Rattle.flat_machine.specs.Events.{AllFit}
+use Rattle.cache_ident.specs.declared.names.Caps.{Caps}
+use Rattle.phys_groups.specs.declared.rows.Flags.{Flags}
+use Rattle.flat_state.specs.declared.events.Decl.{Decl}
+use Rattle.flat_state.specs.declared.events.Decl.TheVariants as decls
+use Rattle.flat_state.specs.State.{nothing_declared}
+use Rattle.flat_state.specs.Events.{AllFit}
 
 -- a row of space 0: its page, its frame and its flags
 pub record RowLine : Type 0 where
@@ -72,6 +73,7 @@ pub record IsRowLine (l : RowLine) : Type 0 where
   pub page : IsNumber l.page
   pub frame : IsNumber l.frame
   pub some_flag : IsTrue (l.flags.r || (l.flags.w || l.flags.x))
+  pub no_message : l.flags.m ≡ false
 
 -- eight hexadecimal digits, of either case
 pub record IsWord (digits : List ℕ) : Type 0 where
@@ -94,11 +96,19 @@ pub record InRange (p : Parts) : Type 0 where
 
 -- ---- what is declared
 
+-- the greatest capacities
+abbrev pub greatest : Caps
+greatest = record { kernels = 16; spaces = 64; threads = 256; mappings = 65536 }
+
+-- kernel 0 may lock one kernel, which is itself
+abbrev pub own_locks : Caps
+own_locks = record { kernels = 1; spaces = 0; threads = 0; mappings = 0 }
+
 abbrev pub machine_decl : ℕ → Decl
-machine_decl groups = decls.Machine (record { groups = groups })
+machine_decl groups = decls.Machine (record { groups = groups; caps = greatest })
 
 abbrev pub kernel_decl : Decl
-kernel_decl = decls.Kernel (record { 0 = 0 })
+kernel_decl = decls.Kernel (record { 0 = 0 }) own_locks
 
 abbrev pub right_decl : ℕ → Decl
 right_decl group = decls.Right (record { 0 = 0 }) group true true
@@ -106,11 +116,12 @@ right_decl group = decls.Right (record { 0 = 0 }) group true true
 abbrev pub space_decl : Decl
 space_decl = decls.Space (record { 0 = 0 }) (record { 0 = 0 })
 
+-- the lowest priority, and registers of zeros
 abbrev pub thread_decl : ℕ → Decl
-thread_decl pc = decls.Thread (record { 0 = 0 }) (record { 0 = 0 }) pc
+thread_decl pc = decls.Thread (record { 0 = 0 }) (record { 0 = 0 }) pc 0 0 0
 
 abbrev pub row_decl : RowLine → Decl
-row_decl l = decls.Map (record { 0 = 0 }) (record { 0 = l.page }) (record { 0 = l.frame }) l.flags
+row_decl l = decls.Map (record { 0 = 0 }) (record { 0 = l.page }) (record { 0 = l.frame }) l.flags None
 
 -- the number that eight digits write: in pairs they are its bytes, the highest first
 abbrev pub word_value : List ℕ → ℕ

@@ -3,7 +3,7 @@
 ghost use Rattle.std.specs.Prelude.{◌≡◌, ◌<◌};
 ghost use Rattle.scenario_text.specs.Reading.{Gives, begins as begins_lem, after, number_from as number_from_lem, number_at, mark_at, flags_at, word_at};
 
-use flat_machine::Flags;
+use phys_groups::Flags;
 
 /// Whether the bytes begin with the letter.
 pub(crate) fn begins(bytes: &[u8], letter: u8) -> bool
@@ -74,7 +74,7 @@ pub(crate) fn flags(bytes: &[u8]) -> Option<(Flags, &[u8])>
     if !(r || (w || x)) {
         return None;
     }
-    Some((Flags { r, w, x }, rest))
+    Some((Flags { r, w, x, m: false }, rest))
 }
 
 /// A word as eight hexadecimal digits of either case.

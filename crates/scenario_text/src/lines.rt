@@ -4,7 +4,24 @@ ghost use Rattle.std.specs.Prelude.{◌≡◌};
 ghost use Rattle.scenario_text.specs.Reading.{Gives, part, next as next_lem, is_end as is_end_lem, machine_line as machine_line_lem, kernel_line as kernel_line_lem, right_line as right_line_lem, space_line as space_line_lem, thread_line as thread_line_lem, row_line as row_line_lem, word_line as word_line_lem, next_word as next_word_lem, end_line as end_line_lem, words_or_end as words_or_end_lem};
 
 use crate::fields::{begins, flags, number, skip, word};
-use flat_machine::{Decl, Frame, KernelNo, Machine, SpaceNo, ThreadNo, Vpn};
+use cache_ident::{Caps, Frame, KernelNo, SpaceNo, ThreadNo, Vpn};
+use flat_machine::{Decl, Machine};
+
+/// The greatest capacities.
+const GREATEST: Caps = Caps {
+    kernels: 16,
+    spaces: 64,
+    threads: 256,
+    mappings: 65_536,
+};
+
+/// Kernel 0 may lock itself alone.
+const OWN_LOCKS: Caps = Caps {
+    kernels: 1,
+    spaces: 0,
+    threads: 0,
+    mappings: 0,
+};
 
 /// Where a reader stands: before the first line of that kind, or within a line of words.
 #[derive(Clone, Copy)]
@@ -41,7 +58,10 @@ fn machine_line(bytes: &[u8]) -> Option<Part<'_>>
     let rest = skip(rest, b"\n")?;
     Some(Part {
         decl: Some(Decl::Machine {
-            machine: Machine { groups },
+            machine: Machine {
+                groups,
+                caps: GREATEST,
+            },
         }),
         place: Place::Kernel,
         rest,
@@ -54,7 +74,10 @@ fn kernel_line(bytes: &[u8]) -> Option<Part<'_>>
 {
     let rest = skip(bytes, b"kernel 0\n")?;
     Some(Part {
-        decl: Some(Decl::Kernel { no: KernelNo(0) }),
+        decl: Some(Decl::Kernel {
+            no: KernelNo(0),
+            limits: OWN_LOCKS,
+        }),
         place: Place::Rights,
         rest,
     })
@@ -106,6 +129,9 @@ fn thread_line(bytes: &[u8]) -> Option<Part<'_>>
             no: ThreadNo(0),
             space: SpaceNo(0),
             pc,
+            priority: 0,
+            a0: 0,
+            a1: 0,
         }),
         place: Place::Rows,
         rest,
@@ -129,6 +155,7 @@ fn row_line(bytes: &[u8]) -> Option<Part<'_>>
             vpn: Vpn(page),
             frame: Frame(frame),
             flags,
+            receiver: None,
         }),
         place: Place::Rows,
         rest,

@@ -2,10 +2,10 @@
 
 ghost use Rattle.std.specs.Prelude.{◌≡◌, ℕ, List, Option, None, Some, Ok, IfOk, MatchResult};
 ghost use Rattle.std.specs.Bool.{MatchBool};
-ghost use Rattle.flat_machine.specs.declared.plain.Decl.{Decl as DeclLem};
-ghost use Rattle.flat_machine.specs.State.{nothing_declared};
-ghost use Rattle.flat_machine.specs.Declaration.{broken_rule, declared};
-ghost use Rattle.flat_machine.specs.Events.{AllFit};
+ghost use Rattle.flat_state.specs.declared.events.Decl.{Decl as DeclLem};
+ghost use Rattle.flat_state.specs.State.{nothing_declared};
+ghost use Rattle.flat_state.specs.Declaration.{broken_rule, declared};
+ghost use Rattle.flat_state.specs.Events.{AllFit};
 ghost use Rattle.scenario_text.specs.Spelling.{IsBuilt};
 ghost use Rattle.scenario_text.specs.Reading.{Answers};
 ghost use Rattle.scenario_text.specs.declared.fault.ScenarioFault.TheVariants.{NoMemory as NoMemoryLem};
@@ -24,7 +24,7 @@ pub struct Scenario {
 
 impl Model for Scenario {
     ghost use Rattle.std.specs.Prelude.{List};
-    ghost use Rattle.flat_machine.specs.declared.plain.Decl.{Decl as DeclLem};
+    ghost use Rattle.flat_state.specs.declared.events.Decl.{Decl as DeclLem};
 
     ghost Value = { List DeclLem };
 

@@ -1,5 +1,6 @@
 use super::*;
-use flat_machine::{Decl, Frame};
+use cache_ident::Frame;
+use flat_machine::Decl;
 use std::test::*;
 
 const GREETING: &[u8] =

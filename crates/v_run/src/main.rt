@@ -2,14 +2,15 @@
 #![tactic(auto)]
 
 use byte_ports::{FromRead, ToWrite};
-use proc_run::{NoMemory, RunStatus, Words, run_machine};
+use proc_run::{RunStatus, Words, run_machine};
+use std::alloc::AllocError;
 use std::env;
 use std::io::ErrorKind;
 use std::process::ExitCode;
 use std::rt::Env;
 
 // The words behind the program's name. One that is no text stands as a question mark.
-fn words_of<R: Env + AllocGlobal>(rt: &R) -> Result<Words, NoMemory> {
+fn words_of<R: Env + AllocGlobal>(rt: &R) -> Result<Words, AllocError> {
     let mut words = Words::new(rt.alloc());
     match env::args(rt) {
         Ok(args) => {
@@ -18,7 +19,7 @@ fn words_of<R: Env + AllocGlobal>(rt: &R) -> Result<Words, NoMemory> {
             }
         }
         Err(error) if error.kind() == ErrorKind::InvalidData => words.push("?")?,
-        Err(_) => return Err(NoMemory),
+        Err(_) => return Err(AllocError),
     }
     Ok(words)
 }

@@ -1,6 +1,6 @@
 use Rattle.std.proofs.Common.{◌≡◌, ◌++◌, drop}
 use Rattle.std.specs.Prelude.{map}
-use Rattle.flat_machine.specs.Events.{AllFit, after_declarations}
+use Rattle.flat_state.specs.Events.{AllFit, after_declarations}
 use Rattle.proc_run.specs.declared.journal.Entry.TheVariants.{Declared}
 use Rattle.proc_run.proofs.run.declare_all.Given as goal
 

@@ -1,7 +1,7 @@
 use Rattle.std.proofs.Common.{◌≡◌, ◌∙◌, List, ◌∷◌, [], ◌++◌, ap, subst}
 use Rattle.std.specs.Prelude.{map}
-use Rattle.flat_machine.specs.State.{FlatState, nothing_declared}
-use Rattle.flat_machine.specs.Events.{after_declarations}
+use Rattle.flat_state.specs.State.{FlatState, nothing_declared}
+use Rattle.flat_state.specs.Events.{after_declarations}
 use Rattle.proc_run.specs.declared.journal.Entry.{Entry}
 use Rattle.proc_run.specs.declared.journal.Entry.TheVariants.{Declared, Sealed}
 use Rattle.proc_run.specs.Journals.{opening}

@@ -2,8 +2,8 @@ use Rattle.std.proofs.Common.{◌≡◌, ◌∙◌, None, [], ◌∷◌, ◌++�
 use Rattle.std.specs.Global.{Vec}
 use Rattle.std.proofs.lemmas.Bool.{MatchBool-at_false, MatchBool-at_true}
 use Rattle.std.proofs.lemmas.Option.{none-some}
-use Rattle.flat_machine.specs.declared.plain.Decl.{Decl as DeclLem}
-use Rattle.flat_machine.specs.Declaration.{broken_rule, declared}
+use Rattle.flat_state.specs.declared.events.Decl.{Decl as DeclLem}
+use Rattle.flat_state.specs.Declaration.{broken_rule, declared}
 use Rattle.scenario_text.specs.Reading.{part}
 use Rattle.scenario_text.proofs.Whole.{at_start, along, is_whole, stops, runs_out, passes, declares_more, refuses}
 use Rattle.scenario_text.proofs.scenario.all.Goals as goal
