@@ -1,3 +1,4 @@
 pub mod Unfit
 pub mod Members
 pub mod ShortChains
+pub mod StepChains

@@ -62,12 +62,12 @@ receiver_space space threads receiver thread t is_in is there =
     same_space t.space space (eqb-true t.space.0 space.0 two)
 
 -- a row that an access goes through is one of the rows, in that space, and has the flag
-record IsThrough (rows : List Row) (allows : Flags → Bool) (space : SpaceNo) (row : Row) : Type 0 where
-  there : Contains rows row
-  in_space : row.space ≡ space
-  allowed : allows row.flags ≡ true
+pub record IsThrough (rows : List Row) (allows : Flags → Bool) (space : SpaceNo) (row : Row) : Type 0 where
+  pub there : Contains rows row
+  pub in_space : row.space ≡ space
+  pub allowed : allows row.flags ≡ true
 
-goes_through : (rights : List (Bool × Bool)) (rows : List Row) (allows : Flags → Bool) (space : SpaceNo) (va : ℕ) (row : Row) → row_through (translated rights rows allows space va) ≡ Some row → IsThrough rows allows space row
+pub goes_through : (rights : List (Bool × Bool)) (rows : List Row) (allows : Flags → Bool) (space : SpaceNo) (va : ℕ) (row : Row) → row_through (translated rights rows allows space va) ≡ Some row → IsThrough rows allows space row
 goes_through rights rows allows space va row e = by (row_of rows space (va / 4096)) refl e
   where
     passed : (x : Row) (flag fit : Bool) → row_through (if not flag then no_flag else (if not fit then no_right else through x)) ≡ Some row → (x ≡ row) × (flag ≡ true)
@@ -173,7 +173,7 @@ module _ (s : FlatState) (formed : IsWellFormed s) (n : ℕ) (t : FlatThread) (h
   kernels = filter_map (λ (space : SpaceNo). slice_get s.spaces space.0) spaces
 
   -- a name is one of theirs
-  In : Name → Type 0
+  pub In : Name → Type 0
   In (Kernel kernel) = Contains kernels kernel
   In (Space space) = Contains spaces space
   In (Thread thread) = Contains threads thread
@@ -313,7 +313,7 @@ module _ (s : FlatState) (formed : IsWellFormed s) (n : ℕ) (t : FlatThread) (h
       let found : row_of s.rows space vpn.0 ≡ Some row = ap (λ (x : SpaceNo). row_of s.rows x vpn.0) (sym in_space) ∙ ap (λ (x : Vpn). row_of s.rows row.space x.0) (sym at) ∙ own_row s formed row (row_is_there row there) in
       from_row row parent there (subst (λ (o : Option Row). Contains (parents_of_found s o) parent) found depends)
 
-  up_in : (steps : ℕ) (names : List Name) → ((name : Name) → Contains names name → In name) → (name : Name) → Contains (up steps s names) name → In name
+  pub up_in : (steps : ℕ) (names : List Name) → ((name : Name) → Contains names name → In name) → (name : Name) → Contains (up steps s names) name → In name
   up_in zero names all name there = all name there
   up_in (suc steps) names all name there = elim (Contains-append_cases names (up steps s (flat_map (parents s) names)) name there) [
     | inl first ↦ all name first
@@ -321,7 +321,7 @@ module _ (s : FlatState) (formed : IsWellFormed s) (n : ℕ) (t : FlatThread) (h
   ]
 
   -- the chain begins with the thread and the two rows
-  begins_in : (name : Name) → Contains (Thread t.no ∷ (map row_name (option_to_list f) ++ map row_name (option_to_list d))) name → In name
+  pub begins_in : (name : Name) → Contains (Thread t.no ∷ (map row_name (option_to_list f) ++ map row_name (option_to_list d))) name → In name
   unfolding In
   begins_in name there = elim (Contains-cases (Thread t.no) _ name there) [
     | inl is ↦ subst In is (Contains-here t.no receivers)
@@ -333,7 +333,7 @@ module _ (s : FlatState) (formed : IsWellFormed s) (n : ℕ) (t : FlatThread) (h
 
   -- how many there are of each kind in a list of such names
   module _ (names : List Name) (all : (name : Name) → Contains names name → In name) where
-    most_kernels : AtMost 5 kinds.Kernel names
+    pub most_kernels : AtMost 5 kinds.Kernel names
     unfolding In
     most_kernels = record {
       among = map Kernel kernels;
@@ -347,7 +347,7 @@ module _ (s : FlatState) (formed : IsWellFormed s) (n : ℕ) (t : FlatThread) (h
         by (Thread thread) kind is = absurd (cc)
         by (Mapping space vpn) kind is = absurd (cc)
 
-    most_spaces : AtMost 5 kinds.Space names
+    pub most_spaces : AtMost 5 kinds.Space names
     unfolding In
     most_spaces = record {
       among = map Space spaces;
@@ -361,7 +361,7 @@ module _ (s : FlatState) (formed : IsWellFormed s) (n : ℕ) (t : FlatThread) (h
         by (Thread thread) kind is = absurd (cc)
         by (Mapping space vpn) kind is = absurd (cc)
 
-    most_threads : AtMost 5 kinds.Thread names
+    pub most_threads : AtMost 5 kinds.Thread names
     unfolding In
     most_threads = record {
       among = map Thread threads;
@@ -375,7 +375,7 @@ module _ (s : FlatState) (formed : IsWellFormed s) (n : ℕ) (t : FlatThread) (h
         by (Thread thread) kind is = Contains-map Thread threads thread is
         by (Mapping space vpn) kind is = absurd (cc)
 
-    most_rows : AtMost 6 kinds.Mapping names
+    pub most_rows : AtMost 6 kinds.Mapping names
     unfolding In
     most_rows = record {
       among = map row_name rows;
