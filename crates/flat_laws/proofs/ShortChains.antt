@@ -1,6 +1,6 @@
 -- The chain of a step is short.
-use Rattle.std.proofs.Common.{◌≡◌, ℕ, zero, suc, ◌+◌, ◌/◌, ◌≤◌, Bool, true, false, not, List, [], ◌∷◌, ◌++◌, map, length, Option, Some, None, slice_get, Contains, filter, count_by, refl, ap, sym, ◌∙◌, subst, ◌⊎◌, inl, inr, arith, length-append}
-use Rattle.std.specs.Prelude.{if◌then◌else◌, ◌==◌, ◌&&◌, ◌||◌, is_some, find, option_to_list}
+use Rattle.std.proofs.Common.{◌≡◌, ℕ, zero, suc, ◌/◌, ◌≤◌, Bool, true, false, not, List, [], ◌∷◌, ◌++◌, map, length, Option, Some, None, slice_get, Contains, filter, refl, ap, sym, ◌∙◌, subst, ◌⊎◌, inl, inr, arith, length-append}
+use Rattle.std.specs.Prelude.{if◌then◌else◌, ◌==◌, ◌&&◌, ◌||◌, is_some, option_to_list}
 use Rattle.std.specs.List.{filter_map, flat_map}
 use Rattle.std.specs.Option.{option_map}
 use Rattle.std.proofs.lemmas.Bool.{cases_Bool, and_parts, and_from, eqb-true, eq-eqb, false≢true}
@@ -8,7 +8,6 @@ use Rattle.std.proofs.lemmas.List.{length-map}
 use Rattle.std.proofs.lemmas.List.Elements.{Contains-append_cases, Contains-append_left, Contains-append_right}
 use Rattle.std.proofs.lemmas.List.Sums.{length-filter}
 use Rattle.std.proofs.lemmas.Option.{same_Some}
-use Rattle.cache_ident.specs.declared.idents.Kind.{Kind}
 use Rattle.cache_ident.specs.declared.idents.Kind.TheVariants as kinds
 use Rattle.cache_ident.specs.declared.names.KernelNo.{KernelNo}
 use Rattle.cache_ident.specs.declared.names.SpaceNo.{SpaceNo}
@@ -19,18 +18,18 @@ use Rattle.cache_ident.specs.declared.names.Name.TheVariants.{Kernel, Space, Thr
 use Rattle.cache_ident.specs.Names.{kind_of}
 use Rattle.phys_groups.specs.declared.rows.Flags.{Flags}
 use Rattle.phys_groups.specs.declared.rows.Row.{Row}
-use Rattle.phys_groups.specs.Translation.{Translated, through, no_row, no_flag, no_right, allows_fetch, is_row_of, row_of, is_fit, judged, translated}
+use Rattle.phys_groups.specs.Translation.{through, no_flag, no_right, allows_fetch, is_row_of, row_of, is_fit, judged, translated}
 use Rattle.signal_pages.specs.Signals.{is_signal_row_of}
 use Rattle.flat_state.specs.declared.records.FlatThread.{FlatThread}
 use Rattle.flat_state.specs.State.{FlatState}
 use Rattle.flat_state.specs.Translation.{is_fit_row, row_through}
-use Rattle.flat_state.specs.Declaration.{agree, is_receiver_in, thread_is_in}
+use Rattle.flat_state.specs.Declaration.{is_receiver_in, thread_is_in}
 use Rattle.flat_state.specs.Dependence.{row_name, signal_rows_of, parents_of_row, parents_of_found, parents}
 use Rattle.flat_state.specs.NextSteps.{up}
 use Rattle.flat_state.specs.WellFormed.{IsWellFormed}
 use Rattle.flat_state.proofs.Places.{get_from_Contains, Contains-from_get, fails_if_not_found}
 use Rattle.flat_laws.specs.Counts.{AtMost}
-use Rattle.flat_laws.proofs.Members.{Contains-here, Contains-behind, Contains-cases, contains_nothing, Contains-option, Contains-some, Contains-filter, count_by-le, found_place, Contains-map, Contains-from_map, Contains-from_flat_map, Contains-filter_map, Contains-from_filter_map, length-filter_map, Contains-option_map}
+use Rattle.flat_laws.proofs.Members.{Contains-here, Contains-behind, Contains-cases, contains_nothing, Contains-option, Contains-filter, count_by-le, found_place, Contains-map, Contains-from_map, Contains-from_flat_map, Contains-filter_map, Contains-from_filter_map, length-filter_map, Contains-option_map}
 
 same_space : (a b : SpaceNo) → a.0 ≡ b.0 → a ≡ b
 same_space a b e = ap (λ (n : ℕ). let x : SpaceNo = record { 0 = n } in x) e
@@ -74,6 +73,7 @@ goes_through rights rows allows space va row e = by (row_of rows space (va / 409
     passed x false fit e = absurd (cc)
     passed x true false e = absurd (cc)
     passed x true true e = (same_Some x row e, refl)
+
     by : (o : Option Row) → row_of rows space (va / 4096) ≡ o → row_through (judged rights allows o) ≡ Some row → IsThrough rows allows space row
     by None found e = absurd (cc)
     by (Some x) found e =
@@ -98,6 +98,7 @@ module _ (s : FlatState) (formed : IsWellFormed s) where
     where
       itself : is_row_of row.space row.vpn.0 row ≡ true
       itself = and_from (row.space.0 == row.space.0) (row.vpn.0 == row.vpn.0) (eq-eqb row.space.0 row.space.0 refl) (eq-eqb row.vpn.0 row.vpn.0 refl)
+
       by : (o : Option Row) → row_of s.rows row.space row.vpn.0 ≡ o → o ≡ Some row
       by None found =
           let at = get_from_Contains s.rows row there in

@@ -1,5 +1,5 @@
 -- The chain of a thread's next step is such a list.
-use Rattle.std.proofs.Common.{◌≡◌, ℕ, List, ◌∷◌, ◌++◌, map, Option, Some, None, slice_get, Contains, refl}
+use Rattle.std.proofs.Common.{◌≡◌, ℕ, ◌∷◌, ◌++◌, map, Option, Some, None, slice_get, Contains}
 use Rattle.std.specs.Prelude.{option_to_list}
 use Rattle.cache_ident.specs.declared.idents.Kind.TheVariants as kinds
 use Rattle.cache_ident.specs.declared.names.Name.{Name}
@@ -7,18 +7,15 @@ use Rattle.cache_ident.specs.declared.names.Name.TheVariants.{Thread}
 use Rattle.phys_groups.specs.declared.rows.Row.{Row}
 use Rattle.phys_groups.specs.Translation.{allows_fetch}
 use Rattle.rv32_exec.specs.declared.actions.Action.{Action}
-use Rattle.flat_state.specs.declared.events.Event.{Event}
 use Rattle.flat_state.specs.declared.records.DataAccess.{DataAccess}
 use Rattle.flat_state.specs.declared.records.FlatThread.{FlatThread}
 use Rattle.flat_state.specs.State.{FlatState}
 use Rattle.flat_state.specs.Translation.{rights_of, wants}
 use Rattle.flat_state.specs.Pages.{pages_of}
 use Rattle.flat_state.specs.Signals.{next_action}
-use Rattle.flat_state.specs.Events.{flat}
 use Rattle.flat_state.specs.Dependence.{row_name}
 use Rattle.flat_state.specs.NextSteps.{fetch_row, data_row, data_access, row_of_access, row_of_action, chain}
 use Rattle.flat_state.specs.WellFormed.{IsWellFormed}
-use Rattle.flat_state.proofs.FormedEvents.{flat_formed}
 use Rattle.flat_laws.specs.Counts.{AtMost}
 use Rattle.flat_laws.proofs.ShortChains.{IsThrough, goes_through, In, up_in, begins_in, most_kernels, most_spaces, most_threads, most_rows}
 
@@ -29,6 +26,7 @@ data_row_there s t row e = of_action (next_action t.context (pages_of s t.space)
     of_access : (o : Option DataAccess) → row_of_access s t o ≡ Some row → Contains s.rows row × (row.space ≡ t.space)
     of_access None e = absurd (cc)
     of_access (Some a) e = let is = goes_through (rights_of s t.space) s.rows (wants a.access) t.space a.va row e in (is.there, is.in_space)
+
     of_action : (o : Option Action) → row_of_action s t o ≡ Some row → Contains s.rows row × (row.space ≡ t.space)
     of_action None e = absurd (cc)
     of_action (Some action) e = of_access (data_access action) e

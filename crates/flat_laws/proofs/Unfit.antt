@@ -1,5 +1,5 @@
 -- What doesn't fit leaves the state.
-use Rattle.std.proofs.Common.{◌≡◌, ℕ, Bool, true, false, Option, Some, None, slice_get, refl, ap, ◌∙◌}
+use Rattle.std.proofs.Common.{◌≡◌, ℕ, Bool, false, Option, Some, None, slice_get, refl, ap}
 use Rattle.std.specs.Prelude.{unwrap_or}
 use Rattle.cache_ident.specs.declared.names.ThreadNo.{ThreadNo}
 use Rattle.flat_state.specs.declared.events.Decl.{Decl}
