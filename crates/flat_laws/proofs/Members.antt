@@ -3,7 +3,7 @@ use Rattle.std.proofs.Common.{◌≡◌, ℕ, zero, suc, ◌+◌, ◌≤◌, Boo
 use Rattle.std.specs.Prelude.{option_to_list}
 use Rattle.std.specs.List.{find, filter_map, flat_map, cons_option}
 use Rattle.std.specs.Option.{option_map}
-use Rattle.std.proofs.lemmas.List.Elements.{Contains-append_cases}
+use Rattle.std.proofs.lemmas.List.Elements.{Contains-append_cases, Contains-append_left, Contains-append_right}
 use Rattle.std.proofs.lemmas.Option.{same_Some}
 use Rattle.flat_state.proofs.Places.{count_by-cons}
 
@@ -108,6 +108,13 @@ module _ {X Y : Type 0} where
   Contains-from_flat_map f (x ∷ xs) y there = elim (Contains-append_cases (f x) (flat_map f xs) y there) [
     | inl here ↦ (x, Contains-here x xs, here)
     | inr behind ↦ let rest = Contains-from_flat_map f xs y behind in (rest.0, Contains-behind x xs rest.0 rest.1, rest.2)
+  ]
+
+  pub Contains-flat_map : (f : X → List Y) (xs : List X) (x : X) (y : Y) → Contains xs x → Contains (f x) y → Contains (flat_map f xs) y
+  Contains-flat_map f [] x y there its = absurd (contains_nothing x there)
+  Contains-flat_map f (z ∷ xs) x y there its = elim (Contains-cases z xs x there) [
+    | inl same ↦ Contains-append_left (f z) (flat_map f xs) y (subst (λ (w : X). Contains (f w) y) (sym same) its)
+    | inr behind ↦ Contains-append_right (f z) (flat_map f xs) y (Contains-flat_map f xs x y behind its)
   ]
 
   pub Contains-filter_map : (h : X → Option Y) (xs : List X) (x : X) (y : Y) → Contains xs x → h x ≡ Some y → Contains (filter_map h xs) y

@@ -93,7 +93,7 @@ signals_for s (Some row) = signal_rows_of s row
 
 module _ (s : FlatState) (formed : IsWellFormed s) where
   -- each row is the one that is found by its page
-  own_row : (row : Row) → Contains s.rows row → row_of s.rows row.space row.vpn.0 ≡ Some row
+  pub own_row : (row : Row) → Contains s.rows row → row_of s.rows row.space row.vpn.0 ≡ Some row
   own_row row there = by (row_of s.rows row.space row.vpn.0) refl
     where
       itself : is_row_of row.space row.vpn.0 row ≡ true
@@ -110,7 +110,7 @@ module _ (s : FlatState) (formed : IsWellFormed s) where
           sym place.1 ∙ ap (slice_get s.rows) (sym same) ∙ at.1
 
   -- a signal row is one of the rows, and has a receiver
-  signal_row : (o : Option Row) (row : Row) → Contains (signals_for s o) row → Contains s.rows row × (is_some row.receiver ≡ true)
+  pub signal_row : (o : Option Row) (row : Row) → Contains (signals_for s o) row → Contains s.rows row × (is_some row.receiver ≡ true)
   signal_row None row there = absurd (contains_nothing row there)
   signal_row (Some first) row there = by first.flags.m there
     where
@@ -134,13 +134,13 @@ module _ (s : FlatState) (formed : IsWellFormed s) where
       by false = omega arith
 
   -- only a row with m has signal rows
-  no_signals : (row : Row) → row.flags.m ≡ false → signal_rows_of s row ≡ []
+  pub no_signals : (row : Row) → row.flags.m ≡ false → signal_rows_of s row ≡ []
   no_signals row no_m = ap (λ (m : Bool). if m then filter (λ other. is_signal_row_of row.frame other && is_fit_row s other) s.rows else []) no_m
 
   plain : (row : Row) → Contains s.rows row → row.flags.x ≡ true → (row.flags.m ≡ false) × (is_some row.receiver ≡ false)
   plain row there is = plain_row row.flags.m row.flags.w row.flags.x (is_some row.receiver) (formed.rows.each row there).flags is
 
-  received : (row : Row) → Contains s.rows row → is_some row.receiver ≡ true → row.flags.m ≡ false
+  pub received : (row : Row) → Contains s.rows row → is_some row.receiver ≡ true → row.flags.m ≡ false
   received row there is = received_row row.flags.m row.flags.w row.flags.x (is_some row.receiver) (formed.rows.each row there).flags is
 
   message : (row : Row) → Contains s.rows row → row.flags.m ≡ true → row.receiver ≡ None

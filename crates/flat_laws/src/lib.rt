@@ -5,5 +5,5 @@
 mod chains;
 mod events;
 
-pub use chains::a_chain_is_short;
+pub use chains::{a_chain_is_short, a_chain_is_whole};
 pub use events::an_event_that_does_not_fit_changes_nothing;
