@@ -1,5 +1,5 @@
 //! Laws of the machine with unlimited tables. Each is the contract of a function that does nothing: what it ensures
-//! holds of all lists of events.
+//! holds of all states, or of all that events can reach.
 #![tactic(auto)]
 
 mod chains;
