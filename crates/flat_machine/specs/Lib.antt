@@ -1,2 +1,3 @@
 pub mod Readings
-pub mod Rest
+pub mod Seen
+pub mod Calls

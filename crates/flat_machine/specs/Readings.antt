@@ -1,13 +1,10 @@
 -- What the program keeps, and what its parts answer.
-use Rattle.std.specs.Prelude.{◌≡◌, ℕ, ◌+◌, ◌<◌, ◌≤◌, Bool, false, not, List, [], ◌∷◌, map, length, Option, Some, None, Result, Ok, Err}
+use Rattle.std.specs.Prelude.{◌≡◌, ℕ, Bool, false, not, List, Option, Some, None, Result, Ok, Err}
 use Rattle.cache_ident.specs.declared.names.Caps.{Caps}
 use Rattle.cache_ident.specs.declared.names.KernelNo.{KernelNo}
 use Rattle.cache_ident.specs.declared.names.SpaceNo.{SpaceNo}
-use Rattle.cache_ident.specs.declared.names.ThreadNo.{ThreadNo}
-use Rattle.cache_ident.specs.declared.names.Vpn.{Vpn}
 use Rattle.phys_groups.specs.declared.rows.Row.{Row}
 use Rattle.phys_groups.specs.Translation.{Translated, through}
-use Rattle.signal_pages.specs.Signals.{times_in}
 use Rattle.rv32_exec.specs.declared.contexts.Context.{Context}
 use Rattle.rv32_exec.specs.declared.statuses.FaultKind.{FaultKind}
 use Rattle.rv32_exec.specs.declared.statuses.Status.TheVariants.{Ready, Trapped, Ended}
@@ -22,7 +19,6 @@ use Rattle.flat_state.specs.State.{FlatState}
 use Rattle.flat_state.specs.Translation.{is_fit_row, row_through, fault_kind}
 use Rattle.flat_state.specs.Declaration.{breaks, broken_rule, locks_granted}
 use Rattle.flat_state.specs.Pages.{pages_of}
-use Rattle.flat_state.specs.Signals.{queued, has_ended}
 use Rattle.flat_state.specs.Step.{outcome, written_back, moved, faulted}
 use Rattle.flat_state.specs.WellFormed.{IsWellFormed, IsThread}
 
@@ -43,13 +39,6 @@ rule_if_formed s d formed = breaks (not formed) 4 (broken_rule s d)
 -- the thread could be one of the state's
 abbrev pub IsThreadOf : FlatState → FlatThread → Type 0
 IsThreadOf s t = IsThread s.spaces t.no.0 t
-
--- each receiver is a thread with room for what it gets, and sees the signal through a page
-abbrev pub HasRoom : List FlatThread → List (ThreadNo × Vpn) → Type 0
-HasRoom threads [] = Unit {0}
-HasRoom threads ((thread, vpn) ∷ rest) =
-    (thread.0 < length threads) × (vpn.0 < 1048576)
-    × (has_ended threads thread ≡ false → queued threads thread + times_in (thread ∷ map (λ r. r.0) rest) thread ≤ 64) × HasRoom threads rest
 
 -- one step in the pages of a space was taken: of this context, which became that one, with that answer
 pub record RanIn (old : FlatState) (space : SpaceNo) (before : Context) (new : FlatState) (after : Context) (answer : Stepped) : Type 0 where

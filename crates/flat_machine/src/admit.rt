@@ -2,7 +2,7 @@
 
 ghost use Rattle.std.specs.Prelude.{◌≡◌, ◌+◌, ◌^◌, ◌<◌, None, Some, MatchResult, nat_le};
 ghost use Rattle.flat_state.specs.State.{groups_of};
-ghost use Rattle.flat_state.specs.Declaration.{agree as agree_lem, are_capacities as are_capacities_lem, broken_rule, caps_of, has_frame as has_frame_lem, has_no_flag as has_no_flag_lem, has_receiver as has_receiver_lem, is_capacity as is_capacity_lem, is_receiver_in as is_receiver_in_lem, leaves_room as leaves_room_lem, may_lock_kernels as may_lock_kernels_lem, rule_of_kernel as rule_of_kernel_lem, rule_of_machine as rule_of_machine_lem, rule_of_map as rule_of_map_lem, rule_of_right as rule_of_right_lem, rule_of_space as rule_of_space_lem, rule_of_thread as rule_of_thread_lem, rule_of_word as rule_of_word_lem};
+ghost use Rattle.flat_state.specs.Declaration.{agree as agree_lem, are_capacities as are_capacities_lem, broken_rule, caps_of, has_four as has_four_lem, has_frame as has_frame_lem, has_no_flag as has_no_flag_lem, has_receiver as has_receiver_lem, is_capacity as is_capacity_lem, is_receiver_in as is_receiver_in_lem, leaves_room as leaves_room_lem, may_lock_kernels as may_lock_kernels_lem, rule_of_kernel as rule_of_kernel_lem, rule_of_machine as rule_of_machine_lem, rule_of_map as rule_of_map_lem, rule_of_right as rule_of_right_lem, rule_of_space as rule_of_space_lem, rule_of_thread as rule_of_thread_lem, rule_of_word as rule_of_word_lem};
 ghost use Rattle.flat_machine.specs.Readings.{Gives};
 
 use crate::flat::Flat;
@@ -102,6 +102,7 @@ impl Flat {
     /// | 19 | there is a receiver, and the frame has four signal rows already |
     ///
     /// It costs the logarithm of the rows.
+    #[tactic(auto, unfolding(flat_state::specs::Declaration::broken_rule))]
     pub fn admit(&self, decl: &Decl) -> Result<(), u32>
         ensures { MatchResult result (λ _. broken_rule self.now decl.now ≡ None) (λ rule. broken_rule self.now decl.now ≡ Some rule) }
     {
@@ -246,6 +247,13 @@ impl Flat {
         }
     }
 
+    // Whether the frame has as many signal rows as it may have.
+    fn has_four(&self, frame: Frame) -> bool
+        ensures { result ≡ has_four_lem self.now.rows frame }
+    {
+        self.rows.signal_rows(frame).is_full()
+    }
+
     fn rule_of_map(
         &self,
         space: SpaceNo,
@@ -277,7 +285,7 @@ impl Flat {
         if !self.is_receiver_in(space, receiver) {
             return Err(18);
         }
-        if receiver.is_some() && self.rows.signal_rows(frame).is_full() {
+        if receiver.is_some() && self.has_four(frame) {
             return Err(19);
         }
         Ok(())

@@ -186,6 +186,6 @@ impl Flat {
         requires { broken_rule self.old (decls.Word frame offset value) ≡ None }
         ensures { self.new ≡ declared self.old (decls.Word frame offset value) }
     {
-        self.memory.store_word(frame.0 * 4_096 + offset, value);
+        self.memory.store_word(4_096 * frame.0 + offset, value);
     }
 }

@@ -1,6 +1,6 @@
 //! The machine and what can be read off it.
 
-ghost use Rattle.std.specs.Prelude.{◌≡◌, length, slice_get};
+ghost use Rattle.std.specs.Prelude.{◌≡◌, ◌<◌, length, slice_get};
 ghost use Rattle.std.specs.Option.{option_copied, option_map};
 ghost use Rattle.phys_groups.specs.Translation.{row_of};
 ghost use Rattle.flat_state.specs.State.{nothing_declared};

@@ -1,16 +1,13 @@
 //! Memory and rows as the threads of one space see them.
 
-ghost use Rattle.std.specs.Prelude.{◌≡◌, ◌<◌, Contains};
-ghost use Rattle.std.specs.Result.{result_ok};
-ghost use Rattle.phys_groups.specs.declared.rows.Row.{Row as RowLem};
-ghost use Rattle.phys_groups.specs.Memory.{HasFrame};
-ghost use Rattle.phys_groups.specs.Translation.{place_in as place_in_lem, translated};
-ghost use Rattle.flat_state.specs.Translation.{row_through, wants};
-ghost use Rattle.flat_state.specs.Pages.{pages_in};
-ghost use Rattle.flat_machine.specs.Rest.{Rest, rest_of, HasOneRowAPage};
+ghost use Rattle.std.specs.Prelude.{◌≡◌, ◌%◌, ◌<◌, IfSome};
+ghost use Rattle.phys_groups.specs.Translation.{place_in as place_in_lem};
+ghost use Rattle.rv32_exec.specs.Pages.{number_at, put_bytes, size_of};
+ghost use Rattle.flat_state.specs.Rest.{Rest};
+ghost use Rattle.flat_machine.specs.Seen.{IsInMemory, IsMapped, pages_seen, rest_seen, seen_row, writes as writes_lem};
 
 use crate::reach::reach;
-use cache_ident::{SpaceNo, Vpn};
+use cache_ident::{Frame, SpaceNo, Vpn};
 use phys_groups::{Memory, Rights, Row};
 use row_table::RowTable;
 use rv32_exec::{Access, Hole, Space, Width};
@@ -27,22 +24,18 @@ pub(crate) struct Mmu {
 }
 
 impl Model for Mmu {
-    ghost use Rattle.std.specs.Prelude.{Contains};
-    ghost use Rattle.phys_groups.specs.declared.rows.Row.{Row as RowLem};
-    ghost use Rattle.phys_groups.specs.Memory.{HasFrame};
-    ghost use Rattle.flat_machine.specs.Rest.{Seen, HasOneRowAPage};
+    ghost use Rattle.flat_machine.specs.Seen.{IsMapped, Seen};
 
     ghost Value = { Seen };
 
     ghost view = { λ m. record { memory = m.memory; rows = m.rows; rights = m.rights; space = m.space } };
 
-    ghost invariant = { λ m. ((row : RowLem) → Contains m.rows row → HasFrame m.memory row.frame) × HasOneRowAPage m.rows };
+    ghost invariant = { λ m. IsMapped m.memory m.rows };
 }
 
 impl Mmu {
     pub(crate) fn new(memory: Memory, rows: RowTable, rights: Rights, space: SpaceNo) -> Mmu
-        requires frames { (row : RowLem) → Contains rows row → HasFrame memory row.frame }
-        requires single { HasOneRowAPage rows }
+        requires { IsMapped memory rows }
         ensures { result ≡ record { memory = memory; rows = rows; rights = rights; space = space } }
     {
         Mmu {
@@ -55,63 +48,97 @@ impl Mmu {
 
     /// Memory and rows as the accesses left them.
     pub(crate) fn into_parts(self) -> (Memory, RowTable)
-        ensures { result ≡ (self.memory, self.rows) }
+        ensures parts { result ≡ (self.memory, self.rows) }
+        ensures mapped { IsMapped self.memory self.rows }
     {
         let Mmu { memory, rows, .. } = self;
         (memory, rows)
     }
 
-    // The row that an access goes through.
-    fn translate(&self, access: Access, va: u32) -> Result<Row, Hole>
-        ensures { result_ok result ≡ row_through (translated self.now.rights self.now.rows (wants access) self.now.space va) }
+    // The row that an access goes through. Its frame is in memory.
+    fn translate(&self, access: Access, va: u32) -> Option<Row>
+        ensures row { result ≡ seen_row self.now access va }
+        ensures in_memory { IfSome result (λ row. IsInMemory self.now.memory row.frame) }
     {
-        reach(&self.rights, &self.rows, self.space, access, va).map_err(|_| Hole)
-    }
-}
-
-// The place in memory of an address whose page is the row's.
-fn place_in(row: &Row, va: u32) -> u32
-    requires { row.now.frame.0 < 2048 }
-    ensures { result ≡ place_in_lem row.now.frame va }
-{
-    row.frame.0 * 4_096 + va % 4_096
-}
-
-impl Space for Mmu {
-    ghost pages = { λ m. pages_in m.rights m.memory m.rows m.space };
-
-    ghost Kept = { Rest };
-
-    ghost kept = { λ m. rest_of m.rights m.memory m.rows m.space };
-
-    fn fetch(&self, va: u32) -> Result<u32, Hole> {
-        let row = self.translate(Access::Fetch, va)?;
-        Ok(self.memory.word(place_in(&row, va)))
+        reach(&self.rights, &self.rows, self.space, access, va).ok()
     }
 
-    fn load(&self, va: u32, width: Width) -> Result<u32, Hole> {
-        let row = self.translate(Access::Read, va)?;
-        let at = place_in(&row, va);
-        Ok(match width {
+    // The number at an address of the row's page.
+    fn number(&self, row: &Row, va: u32, width: Width) -> u32
+        requires in_memory { IsInMemory self.now.memory row.now.frame }
+        requires aligned { va % size_of width ≡ 0 }
+        ensures { result ≡ number_at width self.now.memory (place_in_lem row.now.frame va) }
+    {
+        let at = place_in(row.frame, va);
+        match width {
             Width::Byte => u32::from(self.memory.byte(at)),
             Width::Half => u32::from(self.memory.half(at)),
             Width::Word => self.memory.word(at),
-        })
+        }
     }
 
-    fn store(&mut self, va: u32, width: Width, value: u32) -> Result<(), Hole> {
-        let row = self.translate(Access::Write, va)?;
-        let at = place_in(&row, va);
+    // Puts the low bytes of a number at an address of the row's page.
+    fn put(&mut self, row: &Row, va: u32, width: Width, value: u32)
+        requires in_memory { IsInMemory self.old.memory row.now.frame }
+        requires aligned { va % size_of width ≡ 0 }
+        ensures { self.new ≡ record self.old { memory = put_bytes (size_of width) self.old.memory (place_in_lem row.now.frame va) value } }
+    {
+        let at = place_in(row.frame, va);
         match width {
             Width::Byte => self.memory.store_byte(at, (value % 256) as u8),
             Width::Half => self.memory.store_half(at, (value % 65_536) as u16),
             Width::Word => self.memory.store_word(at, value),
         }
-        Ok(())
+    }
+}
+
+// The place in memory of an address whose page is mapped to that frame.
+fn place_in(frame: Frame, va: u32) -> u32
+    requires { frame.0 < 2048 }
+    ensures { result ≡ place_in_lem frame va }
+{
+    frame.0 * 4_096 + va % 4_096
+}
+
+// Whether the access leaves the mark of a store.
+fn writes(access: Access) -> bool
+    ensures { result ≡ writes_lem access }
+{
+    matches!(access, Access::Write)
+}
+
+impl Space for Mmu {
+    ghost pages = { pages_seen };
+
+    ghost Kept = { Rest };
+
+    ghost kept = { rest_seen };
+
+    fn fetch(&self, va: u32) -> Result<u32, Hole> {
+        match self.translate(Access::Fetch, va) {
+            Some(row) => Ok(self.number(&row, va, Width::Word)),
+            None => Err(Hole),
+        }
+    }
+
+    fn load(&self, va: u32, width: Width) -> Result<u32, Hole> {
+        match self.translate(Access::Read, va) {
+            Some(row) => Ok(self.number(&row, va, width)),
+            None => Err(Hole),
+        }
+    }
+
+    fn store(&mut self, va: u32, width: Width, value: u32) -> Result<(), Hole> {
+        match self.translate(Access::Write, va) {
+            Some(row) => {
+                self.put(&row, va, width, value);
+                Ok(())
+            }
+            None => Err(Hole),
+        }
     }
 
     fn touch(&mut self, va: u32, access: Access) {
-        let written = matches!(access, Access::Write);
-        self.rows.mark(self.space, Vpn(va / 4_096), written);
+        self.rows.mark(self.space, Vpn(va / 4_096), writes(access));
     }
 }

@@ -1,8 +1,7 @@
 //! How an address of a space translates.
 
-ghost use Rattle.std.specs.Prelude.{◌≡◌, ◌<◌, Contains};
-ghost use Rattle.phys_groups.specs.Translation.{translated};
-ghost use Rattle.phys_groups.specs.declared.rows.Row.{Row as RowLem};
+ghost use Rattle.std.specs.Prelude.{◌≡◌, ◌/◌, ◌<◌, IfSome};
+ghost use Rattle.phys_groups.specs.Translation.{row_of, translated};
 ghost use Rattle.flat_state.specs.Translation.{wants as wants_lem};
 ghost use Rattle.flat_machine.specs.Readings.{Reaches};
 
@@ -31,7 +30,7 @@ pub(crate) fn reach(
     access: Access,
     va: u32,
 ) -> Result<Row, FaultKind>
-    requires { (row : RowLem) → Contains rows.now row → row.frame.0 < 2048 }
+    requires { IfSome (row_of rows.now space (va / 4096)) (λ row. row.frame.0 < 2048) }
     ensures { Reaches result (translated rights.now rows.now (wants_lem access) space va) }
 {
     let Some(row) = rows.get(space, Vpn(va / 4_096)) else {

@@ -2,9 +2,9 @@
 
 ghost use Rattle.std.specs.Prelude.{◌≡◌, ◌<◌, ◌≤◌, true, false, length, map};
 ghost use Rattle.signal_pages.specs.Signals.{is_signalling};
-ghost use Rattle.flat_state.specs.Signals.{full_among as full_among_lem, full_receiver as full_receiver_lem, receivers_for as receivers_for_lem, receivers_of as receivers_of_lem, sent, with_address};
+ghost use Rattle.flat_state.specs.Signals.{HasRoom, full_among as full_among_lem, full_receiver as full_receiver_lem, receivers_for as receivers_for_lem, receivers_of as receivers_of_lem, sent, with_address};
 ghost use Rattle.flat_state.specs.State.{is_ended as is_ended_lem};
-ghost use Rattle.flat_machine.specs.Readings.{HasRoom, IsThreadOf};
+ghost use Rattle.flat_machine.specs.Readings.{IsThreadOf};
 
 use crate::flat::Flat;
 use crate::threads::{has_ended, is_ended, queued};

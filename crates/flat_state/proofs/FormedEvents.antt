@@ -253,9 +253,9 @@ step_formed s n u formed e = by (slice_get s.threads n) refl e
     by (Some t) here e = step_if_formed s n t formed here (is_runnable s t) u refl e
 
 -- a completed call leaves pc, and no more in the queue than there was
-record KeepsCall (c : Context) (queue : List ℕ) (x : Completion) : Type 0 where
-  pc : x.context.pc ≡ c.pc
-  shorter : length x.queue ≤ length queue
+pub record KeepsCall (c : Context) (queue : List ℕ) (x : Completion) : Type 0 where
+  pub pc : x.context.pc ≡ c.pc
+  pub shorter : length x.queue ≤ length queue
 
 module _ (thread : ThreadNo) (c : Context) (queue : List ℕ) where
   either_keeps : (b : Bool) (x y : Completion) → KeepsCall c queue x → KeepsCall c queue y → KeepsCall c queue (if b then x else y)
@@ -272,7 +272,7 @@ module _ (thread : ThreadNo) (c : Context) (queue : List ℕ) where
   taken_keeps [] = record { pc = refl; shorter = omega arith }
   taken_keeps (first ∷ q) = record { pc = refl; shorter = omega arith }
 
-  call_keeps : KeepsCall c queue (completion_of thread c queue)
+  pub call_keeps : KeepsCall c queue (completion_of thread c queue)
   call_keeps =
       either_keeps (call_number c == 0) _ _ (brings_keeps _)
       (either_keeps (call_number c == 1) _ _ (brings_keeps _)

@@ -22,15 +22,19 @@ use Rattle.flat_state.specs.declared.events.Machine.{Machine}
 use Rattle.flat_state.specs.declared.records.FlatKernel.{FlatKernel}
 use Rattle.flat_state.specs.declared.records.FlatThread.{FlatThread}
 use Rattle.flat_state.specs.State.{FlatState, nothing_declared, groups_of, with_thread, is_ended}
-use Rattle.flat_state.specs.Declaration.{agree, is_receiver_in, thread_is_in, caps_of, locks_granted, breaks, may_lock_kernels, leaves_room, has_no_flag, has_receiver, has_frame, has_four, rule_of_first, rule_of_other, rule_of_machine, rule_by_machine, broken_rule, new_kernel, with_right, new_thread, new_row, declared}
+use Rattle.flat_state.specs.Declaration.{agree, is_receiver_in, thread_is_in, caps_of, locks_granted, breaks, may_lock_kernels, leaves_room, has_no_flag, has_receiver, has_frame, has_four, is_capacity, are_capacities, rule_of_first, rule_of_other, rule_of_machine, rule_by_machine, broken_rule, new_kernel, with_right, new_thread, new_row, declared}
 use Rattle.flat_state.specs.Signals.{HasRoom, has_ended, queued, ended_by, queued_by, with_address, sent_to, sent}
-use Rattle.flat_state.specs.WellFormed.{AreKernels, AreSpaces, IsThread, AreThreads, IsRow, AreRows, IsWellFormed}
+use Rattle.flat_state.specs.WellFormed.{AreWithin, AreKernels, AreSpaces, IsThread, AreThreads, IsRow, AreRows, IsWellFormed}
 use Rattle.flat_state.proofs.Places.{Contains-from_get, get_from_Contains, set_cases, get-set_same, get-set_other, get_from_filter, get_from_map, count_by-filter, count_by-map, count_by-cons, sum_by-set_same, push_cases, get-append, fails_if_not_found}
 
 -- before any declaration nothing is there
 pub nothing_formed : IsWellFormed nothing_declared
 nothing_formed = record {
-  memory = record { groups = omega arith; size = refl };
+  memory = record {
+    groups = omega arith;
+    caps = record { kernels = omega arith; spaces = omega arith; threads = omega arith; mappings = omega arith };
+    size = refl;
+  };
   kernels = record { few = omega arith; locks = λ some. absurd (omega arith) };
   spaces = record { few = omega arith; owned = λ n kernel e. absurd (cc) };
   threads = record { few = omega arith; each = λ n t e. absurd (cc) };
@@ -45,7 +49,7 @@ nothing_formed = record {
 -- memory of the same length in its place
 pub memory_formed : (s : FlatState) (memory : List ℕ) → IsWellFormed s → length memory ≡ length s.memory → IsWellFormed (record s { memory = memory })
 memory_formed s memory formed same = record {
-  memory = record { groups = formed.memory.groups; size = same ∙ formed.memory.size };
+  memory = record { groups = formed.memory.groups; caps = formed.memory.caps; size = same ∙ formed.memory.size };
   kernels = formed.kernels;
   spaces = formed.spaces;
   threads = formed.threads;
@@ -361,19 +365,35 @@ sent_formed s offset receivers formed has =
     threads_formed s (sent s.threads offset receivers) formed all.0 all.1
 
 -- a rule that isn't broken: its test fails, and no later rule is broken
-breaks_none : (test : Bool) (rule : ℕ) (later : Option ℕ) → breaks test rule later ≡ None → (test ≡ false) × (later ≡ None)
+pub breaks_none : (test : Bool) (rule : ℕ) (later : Option ℕ) → breaks test rule later ≡ None → (test ≡ false) × (later ≡ None)
 breaks_none true rule later e = absurd (cc)
 breaks_none false rule later e = (refl, e)
 
 -- a declaration other than the machine's breaks none of the rules behind the machine's own
-other_rule : (machine : Option Machine) (s : FlatState) (d : Decl) → rule_of_first d ≡ Some 5 → rule_by_machine machine s d ≡ None → rule_of_other s d ≡ None
+pub other_rule : (machine : Option Machine) (s : FlatState) (d : Decl) → rule_of_first d ≡ Some 5 → rule_by_machine machine s d ≡ None → rule_of_other s d ≡ None
 other_rule None s d first e = absurd (cc)
 other_rule (Some m) s d first e = e
 
 -- the machine is declared where there is none
-first_rule : (machine : Option Machine) (s : FlatState) (m : Machine) → rule_by_machine machine s (decls.Machine m) ≡ None → (machine ≡ None) × (rule_of_machine m ≡ None)
+pub first_rule : (machine : Option Machine) (s : FlatState) (m : Machine) → rule_by_machine machine s (decls.Machine m) ≡ None → (machine ≡ None) × (rule_of_machine m ≡ None)
 first_rule None s m e = (refl, e)
 first_rule (Some other) s m e = absurd (cc)
+
+-- capacities that break no rule are bounded
+within : (caps : Caps) → are_capacities caps ≡ true → AreWithin caps
+within caps e =
+    let kernels = and_parts (is_capacity 16 caps.kernels) _ e in
+    let spaces = and_parts (is_capacity 64 caps.spaces) _ kernels.1 in
+    let threads = and_parts (is_capacity 256 caps.threads) _ spaces.1 in
+    record {
+      kernels = most 16 caps.kernels kernels.0;
+      spaces = most 64 caps.spaces spaces.0;
+      threads = most 256 caps.threads threads.0;
+      mappings = most 65536 caps.mappings threads.1;
+    }
+  where
+    most : (greatest cap : ℕ) → is_capacity greatest cap ≡ true → cap ≤ greatest
+    most greatest cap e = leb-true cap greatest (and_parts (nat_lt 0 cap) (nat_le cap greatest) e).1
 
 pub machine_formed : (s : FlatState) (machine : Machine) → IsWellFormed s → broken_rule s (decls.Machine machine) ≡ None → IsWellFormed (declared s (decls.Machine machine))
 unfolding broken_rule declared
@@ -384,7 +404,11 @@ machine_formed s machine formed e =
     let no_groups : groups_of s.machine ≡ 0 = ap groups_of rules.0 in
     let no_room : (caps_of s.machine).kernels ≡ 0 = ap (λ (m : Option Machine). (caps_of m).kernels) rules.0 in
     record {
-      memory = record { groups = leb-true machine.groups 16 sized.1; size = length-replicate (524288 * machine.groups) 0 };
+      memory = record {
+        groups = leb-true machine.groups 16 sized.1;
+        caps = within machine.caps (not-false _ (breaks_none (not (are_capacities machine.caps)) 7 None tests.1).0);
+        size = length-replicate (524288 * machine.groups) 0;
+      };
       kernels = record { few = formed.kernels.few; locks = λ some. let room = (formed.kernels.locks some).0 in absurd (omega (arith, room, no_room)) };
       spaces = formed.spaces;
       threads = formed.threads;

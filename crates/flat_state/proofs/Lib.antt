@@ -1,4 +1,10 @@
+pub mod Finding
+pub mod Translating
+pub mod Storing
 pub mod Places
 pub mod FormedParts
 pub mod StepKeeps
 pub mod FormedEvents
+pub mod WritingBack
+pub mod Found
+pub mod Keeping

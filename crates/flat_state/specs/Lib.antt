@@ -1,6 +1,7 @@
 pub mod State
 pub mod Translation
 pub mod Pages
+pub mod Rest
 pub mod Declaration
 pub mod Signals
 pub mod Step

@@ -1,5 +1,6 @@
 -- What holds of every state that events can reach.
 use Rattle.std.specs.Prelude.{◌≡◌, ℕ, ◌+◌, ◌*◌, ◌%◌, ◌<◌, ◌≤◌, true, is_some, List, length, count_by, Contains, Option, Some, slice_get}
+use Rattle.cache_ident.specs.declared.names.Caps.{Caps}
 use Rattle.cache_ident.specs.declared.names.Frame.{Frame}
 use Rattle.cache_ident.specs.declared.names.KernelNo.{KernelNo}
 use Rattle.phys_groups.specs.declared.rows.Row.{Row}
@@ -11,9 +12,17 @@ use Rattle.flat_state.specs.declared.records.FlatThread.{FlatThread}
 use Rattle.flat_state.specs.State.{FlatState, groups_of}
 use Rattle.flat_state.specs.Declaration.{agree, is_receiver_in, locks_granted, caps_of}
 
--- memory has the size of its groups, of which there are at most 16
+-- no capacity is above its greatest
+pub record AreWithin (caps : Caps) : Type 0 where
+  pub kernels : caps.kernels ≤ 16
+  pub spaces : caps.spaces ≤ 64
+  pub threads : caps.threads ≤ 256
+  pub mappings : caps.mappings ≤ 65536
+
+-- memory has the size of its groups, of which there are at most 16, and the capacities are bounded
 pub record IsSized (machine : Option Machine) (memory : List ℕ) : Type 0 where
   pub groups : groups_of machine ≤ 16
+  pub caps : AreWithin (caps_of machine)
   pub size : length memory ≡ 524288 * groups_of machine
 
 -- there are at most 1,024 kernels, and the locks that they are granted leave room in the caches

@@ -1,23 +1,11 @@
--- What the accesses of a space keep.
-use Rattle.std.specs.Prelude.{◌≡◌, ℕ, Bool, true, false, ◌==◌, if◌then◌else◌, ◌&&◌, List, map, length, Option, Some, None, slice_get}
+-- What a step keeps beside the pages of its space.
+use Rattle.std.specs.Prelude.{ℕ, Bool, true, false, ◌==◌, if◌then◌else◌, ◌&&◌, List, map, length, Option, Some, None}
 use Rattle.std.specs.List.{list_any}
 use Rattle.cache_ident.specs.declared.names.Frame.{Frame}
 use Rattle.cache_ident.specs.declared.names.SpaceNo.{SpaceNo}
 use Rattle.phys_groups.specs.declared.rows.Row.{Row}
 use Rattle.phys_groups.specs.Memory.{page_at}
-use Rattle.phys_groups.specs.Translation.{is_row_of}
 use Rattle.flat_state.specs.Pages.{is_in}
-
--- memory and rows as the threads of a space see them, whose owner has those rights
-pub record Seen : Type 0 where
-  pub memory : List ℕ
-  pub rows : List Row
-  pub rights : List (Bool × Bool)
-  pub space : SpaceNo
-
--- no page has two rows
-abbrev pub HasOneRowAPage : List Row → Type 0
-HasOneRowAPage rows = (i j : ℕ) (a b : Row) → slice_get rows i ≡ Some a → slice_get rows j ≡ Some b → is_row_of a.space a.vpn.0 b ≡ true → i ≡ j
 
 -- the row without its bits, where it is one of the space
 abbrev pub unmarked : SpaceNo → Row → Row

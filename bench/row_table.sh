@@ -1,0 +1,109 @@
+#!/usr/bin/env bash
+# Times the store of rows with 16,384, 65,536 and 262,144 rows: adding them, taking out the last row and adding
+# it again, and the same with a row in the middle. Four times the rows should make the first two little slower for
+# each row. In the middle the rows behind are moved up, which takes longer with more rows.
+#
+# Makes a program in a temporary folder, and lets rt prove and build it there.
+set -euo pipefail
+top="$(cd "$(dirname "$0")/.." && pwd)"
+place="$(mktemp -d)"
+trap 'rm -rf "$place"' EXIT
+
+below="cache_ident phys_groups signal_pages row_table"
+: > "$place/crates.txt"
+for crate in $below; do
+    grep "^$crate:" "$top/crates.txt" >> "$place/crates.txt"
+    mkdir -p "$place/crates/$crate"
+    cp -r "$top/crates/$crate/src" "$top/crates/$crate/specs" "$top/crates/$crate/proofs" "$place/crates/$crate/"
+done
+echo "row_times: $below" >> "$place/crates.txt"
+
+program="$place/crates/row_times"
+mkdir -p "$program/src"
+cat > "$program/src/main.rt" <<'MAIN'
+#![tactic(auto)]
+
+use cache_ident::{Frame, NoMemory, SpaceNo, Vpn};
+use phys_groups::{Flags, Row};
+use row_table::RowTable;
+use std::alloc::Global;
+use std::io;
+use std::time::Instant;
+
+const TURNS: u32 = 1000;
+
+// Adds a row of the page, which has no receiver, where there is none.
+fn add(table: &mut RowTable, vpn: u32) -> Result<(), NoMemory> {
+    let row = Row {
+        space: SpaceNo(0),
+        vpn: Vpn(vpn),
+        frame: Frame(vpn),
+        flags: Flags::default(),
+        receiver: None,
+        referenced: false,
+        modified: false,
+    };
+    if table.get(row.space, row.vpn).is_none() {
+        table.push(row)?;
+    }
+    Ok(())
+}
+
+fn filled(alloc: Global, count: u32) -> Result<RowTable, NoMemory> {
+    let mut table = RowTable::new(alloc);
+    for vpn in 0..count {
+        add(&mut table, vpn)?;
+    }
+    Ok(table)
+}
+
+// Takes out the row of a page and adds it again.
+fn turn(table: &mut RowTable, vpn: u32) -> Result<(), NoMemory> {
+    table.remove(SpaceNo(0), Vpn(vpn))?;
+    add(table, vpn)
+}
+
+fn turns_at_end(table: &mut RowTable, last: u32) -> Result<(), NoMemory> {
+    for _ in 0..TURNS {
+        turn(table, last)?;
+    }
+    Ok(())
+}
+
+fn turns_in_middle(table: &mut RowTable, middle: u32) -> Result<(), NoMemory> {
+    for vpn in 0..TURNS {
+        turn(table, middle.saturating_add(vpn))?;
+    }
+    Ok(())
+}
+
+fn timed(rt: &(impl Print + std::rt::Clock), alloc: Global, count: u32) -> io::Result<()> {
+    let start = Instant::now(rt)?;
+    let Ok(mut table) = filled(alloc, count) else {
+        return Ok(());
+    };
+    let adding = start.elapsed(rt)?.as_micros();
+    let start = Instant::now(rt)?;
+    let _ = turns_at_end(&mut table, count.saturating_sub(1));
+    let at_end = start.elapsed(rt)?.as_micros();
+    let start = Instant::now(rt)?;
+    let _ = turns_in_middle(&mut table, count / 2);
+    let in_middle = start.elapsed(rt)?.as_micros();
+    let left = table.len();
+    println!(rt; "{count} rows: all added in {adding} us; {TURNS} taken out and added again: the last one in {at_end} us, in the middle in {in_middle} us (left {left})")
+}
+
+fn main(rt: HostRuntime) -> io::Result<()> {
+    timed(&rt, rt.alloc(), 16_384)?;
+    timed(&rt, rt.alloc(), 65_536)?;
+    timed(&rt, rt.alloc(), 262_144)
+}
+MAIN
+
+cd "$program"
+rt fmt > /dev/null
+if ! rt run > "$place/log" 2>&1; then
+    cat "$place/log"
+    exit 1
+fi
+grep ' taken out and added again' "$place/log"

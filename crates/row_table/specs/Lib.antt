@@ -1,0 +1,4 @@
+pub mod Rows
+pub mod Stamps
+pub mod SignalPages
+pub mod Soundness
