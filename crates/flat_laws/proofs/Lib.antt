@@ -1,0 +1,5 @@
+pub mod Unfit
+pub mod Members
+pub mod ShortChains
+pub mod StepChains
+pub mod WholeChains

@@ -1,0 +1,9 @@
+//! Laws of the machine with unlimited tables. Each is the contract of a function that does nothing: what it ensures
+//! holds of all states, or of all that events can reach.
+#![tactic(auto)]
+
+mod chains;
+mod events;
+
+pub use chains::{a_chain_is_short, a_chain_is_whole};
+pub use events::an_event_that_does_not_fit_changes_nothing;
