@@ -1,0 +1,5 @@
+pub mod PageBytes
+pub mod Changes
+pub mod StepsAlike
+pub mod MemoryAfter
+pub mod RightsLaws
