@@ -3,3 +3,8 @@ pub mod Members
 pub mod ShortChains
 pub mod StepChains
 pub mod WholeChains
+pub mod PageBytes
+pub mod Changes
+pub mod StepsAlike
+pub mod MemoryAfter
+pub mod RightsLaws
