@@ -1,5 +1,5 @@
 -- What is known of the threads and rows of a well-formed state.
-use Rattle.std.proofs.Common.{◌≡◌, ℕ, ◌+◌, ◌*◌, ◌/◌, ◌%◌, ◌<◌, ◌≤◌, Bool, true, false, ◌&&◌, eqb, if◌then◌else◌, List, [], ◌∷◌, ◌++◌, length, map, get_or, Option, Some, None, refl, sym, ◌∙◌, ap, subst, inl, inr, arith}
+use Rattle.std.proofs.Common.{◌≡◌, ℕ, ◌<◌, Bool, false, ◌&&◌, eqb, if◌then◌else◌, List, [], ◌∷◌, ◌++◌, length, map, get_or, Option, Some, None, refl, ap, inl, inr, arith}
 use Rattle.std.specs.List.{filter, slice_get, All, Contains}
 use Rattle.std.specs.Option.{is_some, option_map, option_to_list, IfSome}
 use Rattle.std.proofs.lemmas.Bool.{cases_Bool}
@@ -7,7 +7,6 @@ use Rattle.std.proofs.lemmas.List.Elements.{All-filter, Contains-get_or}
 use Rattle.cache_ident.specs.declared.names.Frame.{Frame}
 use Rattle.cache_ident.specs.declared.names.SpaceNo.{SpaceNo}
 use Rattle.phys_groups.specs.declared.rows.Row.{Row}
-use Rattle.phys_groups.specs.Memory.{HasFrame}
 use Rattle.phys_groups.specs.Translation.{is_row_of, row_of}
 use Rattle.signal_pages.specs.Signals.{is_signal_row_of, receiver_of, receivers_in}
 use Rattle.flat_state.specs.declared.records.FlatThread.{FlatThread}

@@ -1,11 +1,11 @@
 -- What a look at rows tells of the pages of a space.
-use Rattle.std.proofs.Common.{◌≡◌, ℕ, ◌/◌, ◌%◌, Bool, true, false, not, List, Option, Some, None, Result, Ok, Err, refl, sym, ◌∙◌, ap, subst, arith}
+use Rattle.std.proofs.Common.{◌≡◌, ℕ, ◌%◌, Bool, not, Option, Some, None, Result, Ok, Err, refl, sym, ◌∙◌, ap}
 use Rattle.std.specs.Option.{is_some, option_map, IfSome}
 use Rattle.std.specs.Result.{is_err, result_ok}
 use Rattle.cache_ident.specs.declared.names.SpaceNo.{SpaceNo}
 use Rattle.phys_groups.specs.declared.rows.Row.{Row}
 use Rattle.phys_groups.specs.Memory.{word_at}
-use Rattle.phys_groups.specs.Translation.{Translated, place_in, row_of}
+use Rattle.phys_groups.specs.Translation.{Translated, place_in}
 use Rattle.rv32_exec.specs.declared.statuses.Access.{Access}
 use Rattle.rv32_exec.specs.declared.statuses.Access.TheVariants.{Fetch}
 use Rattle.rv32_exec.specs.declared.statuses.FaultKind.{FaultKind}

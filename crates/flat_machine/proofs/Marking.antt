@@ -1,6 +1,6 @@
 -- The mark of an access in the rows is its mark in the pages of the space.
-use Rattle.std.proofs.Common.{◌≡◌, ℕ, Bool, true, false, ◌&&◌, ◌||◌, cond, eqb, List, [], ◌∷◌, length, map, Option, Some, None, refl, sym, ◌∙◌, ap, ap₂, inl, inr, arith}
-use Rattle.std.specs.List.{filter, list_any}
+use Rattle.std.proofs.Common.{◌≡◌, ℕ, Bool, true, false, ◌&&◌, ◌||◌, cond, eqb, List, [], ◌∷◌, length, map, Option, Some, None, refl, sym, ◌∙◌, ap, ap₂, inl, inr}
+use Rattle.std.specs.List.{filter}
 use Rattle.std.proofs.Math.Path.{fun_ext}
 use Rattle.std.proofs.lemmas.Bool.{and_parts, cases_Bool}
 use Rattle.cache_ident.specs.declared.names.Frame.{Frame}
@@ -13,7 +13,7 @@ use Rattle.rv32_exec.specs.declared.statuses.Access.{Access}
 use Rattle.rv32_exec.specs.declared.statuses.Access.TheVariants.{Fetch, Read, Write}
 use Rattle.rv32_exec.specs.Pages.{Page, mark, mark_page}
 use Rattle.flat_state.specs.Pages.{is_in, page_of, pages_in}
-use Rattle.flat_state.specs.Rest.{is_mapped, rest_of, unmapped_page, unmarked}
+use Rattle.flat_state.specs.Rest.{is_mapped, rest_of, unmarked}
 use Rattle.row_table.specs.Rows.{marked}
 use Rattle.flat_machine.specs.Seen.{writes}
 

@@ -1,16 +1,14 @@
 -- When an action's access to data doesn't translate.
-use Rattle.std.proofs.Common.{◌≡◌, ℕ, ◌%◌, Bool, true, false, not, ◌&&◌, ◌||◌, eqb, cond, List, Option, Some, None, refl, sym, ◌∙◌, ap, inl, inr}
+use Rattle.std.proofs.Common.{◌≡◌, ℕ, ◌%◌, Bool, true, false, not, ◌&&◌, ◌||◌, eqb, List, Option, Some, None, refl, inl, inr}
 use Rattle.std.specs.Option.{is_some, option_map}
 use Rattle.std.proofs.lemmas.Bool.{cases_Bool}
 use Rattle.rv32_isa.specs.declared.forms.Instr.{Instr}
 use Rattle.rv32_isa.specs.Table.{instruction_of}
 use Rattle.rv32_ma.specs.declared.atomics.AmoOp.{AmoOp}
 use Rattle.rv32_exec.specs.declared.contexts.Context.{Context}
-use Rattle.rv32_exec.specs.declared.statuses.Access.{Access}
-use Rattle.rv32_exec.specs.declared.statuses.Access.TheVariants.{Fetch, Read, Write}
+use Rattle.rv32_exec.specs.declared.statuses.Access.TheVariants.{Read, Write}
 use Rattle.rv32_exec.specs.declared.spaces.Width.{Width}
 use Rattle.rv32_exec.specs.declared.spaces.Width.TheVariants.{Word}
-use Rattle.rv32_exec.specs.declared.actions.Action.{Action}
 use Rattle.rv32_exec.specs.declared.actions.Action.TheVariants as actions
 use Rattle.rv32_exec.specs.Actions.{action_of}
 use Rattle.rv32_exec.specs.Pages.{Page, fetched, number_at, read_through, size_of, translates, translation}

@@ -1,5 +1,5 @@
 -- What the memory unit reads, stores and marks, as its pages have it.
-use Rattle.std.proofs.Common.{◌≡◌, ℕ, ◌+◌, ◌*◌, ◌/◌, ◌%◌, ◌<◌, ◌≤◌, Bool, true, false, List, length, map, Option, Some, None, refl, sym, ◌∙◌, ap, ap₂, subst, arith}
+use Rattle.std.proofs.Common.{◌≡◌, ℕ, ◌+◌, ◌*◌, ◌/◌, ◌%◌, ◌≤◌, Bool, List, map, Option, Some, None, sym, ◌∙◌, ap, ap₂, subst}
 use Rattle.std.specs.List.{slice_get, Contains}
 use Rattle.std.specs.Option.{is_some, option_map, IfSome}
 use Rattle.std.proofs.lemmas.Option.{get_or_from_slice_get, slice_get-get_or, slice_get_within}
@@ -7,13 +7,13 @@ use Rattle.cache_ident.specs.declared.names.Frame.{Frame}
 use Rattle.cache_ident.specs.declared.names.SpaceNo.{SpaceNo}
 use Rattle.phys_groups.specs.declared.rows.Row.{Row}
 use Rattle.phys_groups.specs.Memory.{HasFrame}
-use Rattle.phys_groups.specs.Translation.{is_row_of, place_in, row_of}
+use Rattle.phys_groups.specs.Translation.{is_row_of, place_in}
 use Rattle.rv32_exec.specs.declared.statuses.Access.{Access}
-use Rattle.rv32_exec.specs.declared.statuses.Access.TheVariants.{Fetch, Read, Write}
+use Rattle.rv32_exec.specs.declared.statuses.Access.TheVariants.{Write}
 use Rattle.rv32_exec.specs.declared.spaces.Width.{Width}
 use Rattle.rv32_exec.specs.Pages.{number_at, put_bytes, read_through, size_of, stored, touched_at, translates}
 use Rattle.flat_state.specs.Translation.{wants}
-use Rattle.flat_state.specs.Pages.{page_of, pages_in}
+use Rattle.flat_state.specs.Pages.{page_of}
 use Rattle.flat_state.proofs.Places.{get_from_map}
 use Rattle.flat_state.proofs.Found.{found-contains, found-mapped}
 use Rattle.flat_state.proofs.Keeping.{rest-put_bytes}

@@ -1,6 +1,6 @@
 -- What one step in the pages of a space leaves of the state.
-use Rattle.std.proofs.Common.{◌≡◌, ℕ, ◌+◌, ◌*◌, ◌%◌, ◌<◌, ◌≤◌, Bool, true, false, ◌&&◌, cond, List, length, map, Option, Some, None, refl, sym, ◌∙◌, ap, ap₂, subst, inl, inr, arith}
-use Rattle.std.specs.List.{slice_get, slice_set, Contains}
+use Rattle.std.proofs.Common.{◌≡◌, ℕ, ◌*◌, ◌%◌, ◌<◌, Bool, true, false, ◌&&◌, cond, List, length, map, Option, Some, None, refl, sym, ◌∙◌, ap, ap₂, subst, inl, inr, arith}
+use Rattle.std.specs.List.{slice_get, slice_set}
 use Rattle.std.specs.Option.{IfSome}
 use Rattle.std.proofs.lemmas.Bool.{and_parts, cases_Bool}
 use Rattle.cache_ident.specs.declared.names.Frame.{Frame}
@@ -20,14 +20,13 @@ use Rattle.rv32_exec.specs.declared.statuses.Status.{Status}
 use Rattle.rv32_exec.specs.declared.statuses.Status.TheVariants.{Ready, Trapped, Ended}
 use Rattle.rv32_exec.specs.declared.steps.Stepped.{Stepped}
 use Rattle.rv32_exec.specs.declared.steps.Stepped.TheVariants.{Next, Call, Stop, Miss}
-use Rattle.rv32_exec.specs.Pages.{Page}
 use Rattle.rv32_exec.specs.Steps.{IsAfter, OnMiss, after_step as after_instruction}
 use Rattle.flat_state.specs.declared.records.FlatThread.{FlatThread}
 use Rattle.flat_state.specs.declared.records.Signal.{Signal}
 use Rattle.flat_state.specs.State.{FlatState, groups_of, is_ended, is_ready, with_thread}
 use Rattle.flat_state.specs.Translation.{reached, rights_of}
 use Rattle.flat_state.specs.Pages.{pages_in, pages_of, with_marks, with_pages}
-use Rattle.flat_state.specs.Rest.{Rest, rest_of, unmapped_page, unmarked}
+use Rattle.flat_state.specs.Rest.{Rest, rest_of}
 use Rattle.flat_state.specs.Signals.{HasRoom, next_action, next_signal, receivers_for, signal_of, signal_through}
 use Rattle.flat_state.specs.Step.{moved, outcome, stepped, stepped_so, written_back}
 use Rattle.flat_state.specs.NextSteps.{is_miss}

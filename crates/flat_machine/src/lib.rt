@@ -18,6 +18,3 @@ pub use flat::Flat;
 pub use flat_state::{
     DataAccess, Decl, Event, FlatKernel, FlatThread, Machine, NextStep, Settled, Signal,
 };
-
-#[cfg(test)]
-mod tests;

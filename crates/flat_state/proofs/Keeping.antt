@@ -1,11 +1,10 @@
 -- A store keeps all but the pages of its space.
-use Rattle.std.proofs.Common.{◌≡◌, ◌≢◌, ℕ, ◌+◌, ◌*◌, ◌%◌, ◌≤◌, Bool, true, false, cond, eqb, List, length, map, Option, Some, None, refl, sym, ◌∙◌, ap, subst, inl, inr, arith}
+use Rattle.std.proofs.Common.{◌≡◌, ℕ, ◌+◌, ◌*◌, ◌≤◌, Bool, true, List, length, map, Option, Some, refl, sym, ◌∙◌, ap, inl, inr}
 use Rattle.std.proofs.Math.Path.{fun_ext}
-use Rattle.std.proofs.lemmas.Bool.{cases_Bool, cases_eq, false≢true}
+use Rattle.std.proofs.lemmas.Bool.{cases_Bool, false≢true}
 use Rattle.cache_ident.specs.declared.names.Frame.{Frame}
 use Rattle.cache_ident.specs.declared.names.SpaceNo.{SpaceNo}
 use Rattle.phys_groups.specs.declared.rows.Row.{Row}
-use Rattle.phys_groups.specs.Memory.{page_at}
 use Rattle.rv32_exec.specs.Pages.{put_bytes}
 use Rattle.flat_state.specs.Rest.{is_mapped, rest_of, unmapped_page, unmarked}
 use Rattle.flat_state.proofs.Storing.{length-put_bytes, page_at-put_bytes_other}

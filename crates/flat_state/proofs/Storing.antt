@@ -1,5 +1,5 @@
 -- A store in memory is a store in the pages of its frame.
-use Rattle.std.proofs.Common.{◌≡◌, ◌≢◌, ℕ, zero, suc, ◌+◌, ◌*◌, ◌/◌, ◌%◌, ◌^◌, ◌<◌, ◌≤◌, Bool, true, false, eqb, cond, List, [], ◌∷◌, ◌⊎◌, length, map, set, get_or, Option, Some, None, refl, sym, ◌∙◌, ap, subst, inl, inr, arith}
+use Rattle.std.proofs.Common.{◌≡◌, ◌≢◌, ℕ, zero, suc, ◌+◌, ◌*◌, ◌/◌, ◌%◌, ◌≤◌, Bool, List, [], ◌∷◌, length, map, set, get_or, Some, None, refl, sym, ◌∙◌, ap, subst, inl, inr, arith}
 use Rattle.std.specs.List.{filter}
 use Rattle.std.specs.Option.{option_map}
 use Rattle.std.proofs.lemmas.Bool.{cases_eq, eq-eqb, ne_eqb}
@@ -14,7 +14,7 @@ use Rattle.rv32_exec.specs.declared.statuses.Access.{Access}
 use Rattle.rv32_exec.specs.declared.statuses.Access.TheVariants.{Write}
 use Rattle.rv32_exec.specs.declared.spaces.Width.{Width}
 use Rattle.rv32_exec.specs.declared.spaces.Width.TheVariants.{Byte, Half, Word}
-use Rattle.rv32_exec.specs.Pages.{Page, number_at, put_bytes, put_in_frame, read_through, size_of, stored, stored_through, translation}
+use Rattle.rv32_exec.specs.Pages.{number_at, put_bytes, put_in_frame, read_through, size_of, stored, stored_through}
 use Rattle.flat_state.specs.Translation.{row_through, wants}
 use Rattle.flat_state.specs.Pages.{is_in, page_of, pages_in}
 use Rattle.flat_state.proofs.Translating.{translation-pages}

@@ -1,8 +1,8 @@
 -- What a step leaves in the pages of a space tells what it leaves in memory and in the rows.
-use Rattle.std.proofs.Common.{◌≡◌, ◌≢◌, ℕ, zero, suc, ◌+◌, ◌*◌, ◌/◌, ◌%◌, ◌<◌, ◌≤◌, Bool, true, false, ◌&&◌, ◌||◌, eqb, cond, List, [], ◌∷◌, ◌++◌, ◌⊎◌, length, map, take, drop, get_or, Option, Some, None, refl, sym, ◌∙◌, ap, ap₂, subst, subst₂, inl, inr, arith, length-append, length-drop}
+use Rattle.std.proofs.Common.{◌≡◌, ℕ, zero, suc, ◌+◌, ◌*◌, ◌/◌, ◌%◌, ◌<◌, ◌≤◌, Bool, true, false, ◌&&◌, ◌||◌, eqb, cond, List, [], ◌∷◌, ◌⊎◌, length, map, drop, get_or, Some, None, refl, sym, ◌∙◌, ap, ap₂, subst, subst₂, inl, inr, arith, length-append, length-drop}
 use Rattle.std.specs.List.{filter, find, list_any, slice_get, Contains}
 use Rattle.std.specs.Option.{option_map}
-use Rattle.std.proofs.lemmas.Bool.{and_from, and_parts, cases_Bool, cases_eq, eq-eqb, eqb-true, false≢true, ne_eqb}
+use Rattle.std.proofs.lemmas.Bool.{and_from, cases_Bool, cases_eq, eq-eqb, eqb-true, false≢true, ne_eqb}
 use Rattle.std.proofs.lemmas.List.{ext_get_or, length-take-le}
 use Rattle.std.proofs.lemmas.List.Elements.{All-contains_itself, All-filter, Contains-append_right}
 use Rattle.std.proofs.lemmas.Option.{slice_get-get_or}
@@ -14,8 +14,7 @@ use Rattle.phys_groups.specs.Memory.{page_at, with_page}
 use Rattle.phys_groups.specs.Translation.{is_row_of, row_of}
 use Rattle.phys_groups.proofs.Pages.{length-page_at, page_at-with_page, page_at-with_page_other}
 use Rattle.phys_groups.proofs.PageBytes.{get_or-page_at}
-use Rattle.rv32_exec.specs.Pages.{Page}
-use Rattle.flat_state.specs.Pages.{is_in, page_of, pages_in, with_marks, with_marks_of, with_pages}
+use Rattle.flat_state.specs.Pages.{is_in, page_of, pages_in, with_marks, with_pages}
 use Rattle.flat_state.specs.Rest.{is_mapped, unmapped_page, unmarked}
 use Rattle.flat_state.proofs.Finding.{find-map-filter}
 

@@ -1,5 +1,5 @@
 -- What a step keeps beside the pages of its space.
-use Rattle.std.specs.Prelude.{ℕ, Bool, true, false, ◌==◌, if◌then◌else◌, ◌&&◌, List, map, length, Option, Some, None}
+use Rattle.std.specs.Prelude.{ℕ, Bool, false, ◌==◌, if◌then◌else◌, ◌&&◌, List, map, length, Option, Some, None}
 use Rattle.std.specs.List.{list_any}
 use Rattle.cache_ident.specs.declared.names.Frame.{Frame}
 use Rattle.cache_ident.specs.declared.names.SpaceNo.{SpaceNo}

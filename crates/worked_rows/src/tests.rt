@@ -3,7 +3,7 @@
 use crate::machines::{
     bits, code, declare, kernel, machine, map, right, run, space, stands, thread, words,
 };
-use cache_ident::{SpaceNo, ThreadNo, Vpn};
+use cache_ident::{KernelNo, SpaceNo, ThreadNo, Vpn};
 use flat_machine::{Event, Flat, Settled};
 use rv32_exec::{Access, FaultKind, Reason, Status};
 use std::test::Fail;
@@ -57,6 +57,13 @@ fn a_signal_reaches_its_receiver(rt: HostRuntime) -> Result<(), Fail> {
     assert_eq!(rt; run(&mut flat, 1_000_000)?, (Settled::Done, 9));
     assert_eq!(rt; bits(&flat, 0), (2, 2, 1));
     assert_eq!(rt; bits(&flat, 1), (2, 1, 0));
+    assert_eq!(rt; flat.caps().map(|caps| caps.threads), Some(256));
+    assert_eq!(rt;
+        flat.limits(KernelNo(0)).map(|limits| limits.kernels),
+        Some(1)
+    );
+    assert_eq!(rt; flat.kernel_of(SpaceNo(1)), Some(KernelNo(2)));
+    assert_eq!(rt; (flat.spaces(), flat.threads()), (2, 2));
     assert_eq!(rt; stands(&flat, 0, b""), EXITED);
     assert_eq!(rt;
         stands(&flat, 1, b"131072"),

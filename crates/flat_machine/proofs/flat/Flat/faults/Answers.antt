@@ -1,4 +1,4 @@
-use Rattle.std.proofs.Common.{◌≡◌, Some, None, sym, ap, ◌∙◌}
+use Rattle.std.proofs.Common.{sym, ap, ◌∙◌}
 use Rattle.flat_state.specs.Pages.{pages_of}
 use Rattle.flat_machine.specs.Looking.{does_any_miss}
 use Rattle.flat_machine.proofs.Missing.{faults_decoded, faults_unfetched}

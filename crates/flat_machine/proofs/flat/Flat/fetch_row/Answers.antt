@@ -1,7 +1,5 @@
 use Rattle.std.proofs.Common.{subst}
-use Rattle.std.specs.Option.{IfSome}
 use Rattle.rv32_exec.specs.declared.statuses.Access.TheVariants.{Fetch}
-use Rattle.flat_state.specs.State.{FlatState}
 use Rattle.flat_state.specs.WellFormed.{IsWellFormed}
 use Rattle.flat_machine.proofs.Looks.{reached_in_memory}
 use Rattle.flat_machine.proofs.flat.Flat.fetch_row.Goals as goal

@@ -1,11 +1,10 @@
-use Rattle.std.proofs.Common.{◌≡◌, ◌<◌, length, refl, sym, ap, subst, ◌∙◌, Option, Some}
-use Rattle.std.specs.List.{slice_get, slice_set}
+use Rattle.std.proofs.Common.{◌≡◌, refl, sym, ap, subst, ◌∙◌, Option, Some}
+use Rattle.std.specs.List.{slice_get}
 use Rattle.std.proofs.lemmas.Option.{slice_get_read}
 use Rattle.flat_state.specs.declared.records.FlatThread.{FlatThread}
 use Rattle.flat_state.specs.State.{FlatState, with_thread}
 use Rattle.flat_state.specs.Signals.{sent_to}
 use Rattle.flat_state.specs.WellFormed.{IsWellFormed}
-use Rattle.flat_machine.specs.Calls.{OfThread}
 use Rattle.flat_machine.proofs.SendLaws.{addressed_formed}
 use Rattle.flat_machine.proofs.flat.Flat.give_to.Goals as goal
 

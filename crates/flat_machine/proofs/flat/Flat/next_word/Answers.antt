@@ -1,4 +1,4 @@
-use Rattle.std.proofs.Common.{◌≡◌, Some, None, sym, ap, ◌∙◌}
+use Rattle.std.proofs.Common.{Some, sym, ap, ◌∙◌}
 use Rattle.flat_machine.proofs.Looks.{fetched_none, fetched_word}
 use Rattle.flat_machine.proofs.flat.Flat.next_word.Goals as goal
 

@@ -1,14 +1,11 @@
-use Rattle.std.proofs.Common.{◌≡◌, Bool, true, false, not, ◌&&◌, List, map, Option, Some, None, refl, sym, ap, ap₂, subst, subst₂, ◌∙◌}
+use Rattle.std.proofs.Common.{◌≡◌, Bool, true, false, not, ◌&&◌, List, map, sym, ap, ap₂, subst, subst₂, ◌∙◌}
 use Rattle.std.specs.Option.{is_some}
 use Rattle.cache_ident.specs.declared.names.ThreadNo.{ThreadNo}
 use Rattle.cache_ident.specs.declared.names.Vpn.{Vpn}
-use Rattle.flat_state.specs.declared.records.FlatThread.{FlatThread}
-use Rattle.flat_state.specs.declared.records.Signal.{Signal}
 use Rattle.flat_state.specs.State.{FlatState, is_ready}
 use Rattle.flat_state.specs.Signals.{HasRoom, full_among, full_receiver, is_runnable, next_signal, receivers_for}
 use Rattle.flat_state.specs.WellFormed.{IsWellFormed}
 use Rattle.flat_state.proofs.FormedEvents.{runnable_room}
-use Rattle.flat_machine.specs.Readings.{unsignalled}
 use Rattle.flat_machine.proofs.RunLaws.{room_after, signal_facts}
 use Rattle.flat_machine.proofs.flat.Flat.step_at.Goals as goal
 
