@@ -69,3 +69,14 @@ receivers-of-signal-rows frame fit (row ∷ rows) = elim (cases_Bool (is_signal_
   | inl signals ↦ rw signals (ap (λ rs. option_to_list (receiver_of frame row (fit row)) ++ rs) (receivers-of-signal-rows frame fit rows))
   | inr other ↦ rw (other, no_receiver frame row (fit row) other) (receivers-of-signal-rows frame fit rows)
 ]
+
+-- what passes one test and then another passes both
+pub filter-both : (p q : Row → Bool) (rows : List Row) → filter q (filter p rows) ≡ filter (λ row. p row && q row) rows
+filter-both p q [] = refl
+filter-both p q (row ∷ rows) = elim (cases_Bool (p row)) [
+  | inl passes ↦ rw passes (elim (cases_Bool (q row)) [
+    | inl both ↦ rw both (ap (λ rs. row ∷ rs) (filter-both p q rows))
+    | inr fails ↦ rw fails (filter-both p q rows)
+  ])
+  | inr fails ↦ rw fails (filter-both p q rows)
+]

@@ -5,6 +5,7 @@
 mod admit;
 mod apply;
 mod calls;
+mod depends;
 mod flat;
 mod look;
 mod mmu;

@@ -44,8 +44,8 @@ fn data_access(action: Action) -> Option<DataAccess>
     }
 }
 
-// The name of a row.
-fn row_name(row: Row) -> Name
+/// The name of a row.
+pub(crate) fn row_name(row: Row) -> Name
     ensures { result ≡ row_name_lem row }
 {
     Name::Mapping(row.space, row.vpn)

@@ -97,10 +97,13 @@ pub(crate) fn declare(
 
 /// Puts words from the beginning of a frame on.
 pub(crate) fn words(flat: &mut Flat, frame: u32, words: &[u32]) -> Result<(), Fail> {
-    for (i, value) in words.iter().enumerate() {
+    for place in 0..1_024u32 {
+        let Some(value) = words.get(place as usize) else {
+            break;
+        };
         flat.apply(&Event::Declare(Decl::Word {
             frame: Frame(frame),
-            offset: 4 * i as u32,
+            offset: 4 * place,
             value: *value,
         }))?;
     }

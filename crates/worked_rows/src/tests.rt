@@ -3,7 +3,7 @@
 use crate::machines::{
     bits, code, declare, kernel, machine, map, right, run, space, stands, thread, words,
 };
-use cache_ident::{KernelNo, SpaceNo, ThreadNo, Vpn};
+use cache_ident::{KernelNo, Name, SpaceNo, ThreadNo, Vpn};
 use flat_machine::{Event, Flat, Settled};
 use rv32_exec::{Access, FaultKind, Reason, Status};
 use std::test::Fail;
@@ -69,6 +69,33 @@ fn a_signal_reaches_its_receiver(rt: HostRuntime) -> Result<(), Fail> {
         stands(&flat, 1, b"131072"),
         Some(Status::Ended(Reason::Exited { code: 131_072 }))
     );
+    Ok(())
+}
+
+#[test]
+fn what_depends_on_what(rt: HostRuntime) -> Result<(), Fail> {
+    let mut flat = Flat::new(rt.alloc());
+    sender_and_receiver(&rt, &mut flat)?;
+    let (sender, receiver) = (SpaceNo(0), SpaceNo(1));
+    let signal_row = Name::Mapping(receiver, Vpn(32));
+    assert!(rt; flat.parents(Name::Kernel(KernelNo(1))).is_empty());
+    assert_eq!(rt;
+        flat.parents(Name::Space(sender)).as_slice(),
+        [Name::Kernel(KernelNo(1))].as_slice()
+    );
+    assert_eq!(rt;
+        flat.parents(Name::Thread(ThreadNo(1))).as_slice(),
+        [Name::Space(receiver)].as_slice()
+    );
+    assert_eq!(rt;
+        flat.parents(signal_row).as_slice(),
+        [Name::Space(receiver), Name::Thread(ThreadNo(1))].as_slice()
+    );
+    assert_eq!(rt;
+        flat.parents(Name::Mapping(sender, Vpn(16))).as_slice(),
+        [Name::Space(sender), signal_row].as_slice()
+    );
+    assert!(rt; flat.parents(Name::Mapping(sender, Vpn(1))).is_empty());
     Ok(())
 }
 
