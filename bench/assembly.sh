@@ -5,18 +5,8 @@
 #
 # Makes a program in a temporary folder, and lets rt prove and build it there.
 set -euo pipefail
-top="$(cd "$(dirname "$0")/.." && pwd)"
-place="$(mktemp -d)"
-trap 'rm -rf "$place"' EXIT
-
-printf 'rv32_isa:\nrv32_asm: rv32_isa itoa thiserror\nassembly_times: rv32_asm\n' > "$place/crates.txt"
-for crate in rv32_isa rv32_asm; do
-    mkdir -p "$place/crates/$crate"
-    cp -r "$top/crates/$crate/src" "$top/crates/$crate/specs" "$top/crates/$crate/proofs" "$place/crates/$crate/"
-done
-
-program="$place/crates/assembly_times"
-mkdir -p "$program/src"
+source "$(dirname "$0")/program.sh"
+begin_program assembly_times 'rv32_isa rv32_asm'
 cat > "$program/src/main.rt" <<'MAIN'
 #![tactic(auto)]
 
@@ -64,10 +54,4 @@ fn main(rt: HostRuntime) -> io::Result<()> {
 }
 MAIN
 
-cd "$program"
-rt fmt > /dev/null
-if ! rt run > "$place/log" 2>&1; then
-    cat "$place/log"
-    exit 1
-fi
-grep ' labels and words' "$place/log"
+run_program ' labels and words'

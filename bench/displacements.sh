@@ -6,20 +6,9 @@
 #
 # Makes a program in a temporary folder, and lets rt prove and build it there.
 set -euo pipefail
-top="$(cd "$(dirname "$0")/.." && pwd)"
-place="$(mktemp -d)"
-trap 'rm -rf "$place"' EXIT
-
-below=(cache_ident phys_groups slot_cache mapping_cache)
-for crate in "${below[@]}"; do
-    grep "^$crate:" "$top/crates.txt"
-    mkdir -p "$place/crates/$crate"
-    cp -r "$top/crates/$crate/src" "$top/crates/$crate/specs" "$top/crates/$crate/proofs" "$place/crates/$crate/"
-done > "$place/crates.txt"
-echo "displacement_times: ${below[*]}" >> "$place/crates.txt"
-
-program="$place/crates/displacement_times"
-mkdir -p "$program/src" "$program/proofs/full" "$program/proofs/displace_often"
+source "$(dirname "$0")/program.sh"
+begin_program displacement_times 'cache_ident phys_groups slot_cache mapping_cache'
+mkdir -p "$program/proofs/full" "$program/proofs/displace_often"
 cat > "$program/src/main.rt" <<'MAIN'
 #![tactic(auto)]
 
@@ -176,10 +165,4 @@ abbrev pub invariant-loop-no : goal.invariant-loop-no
 invariant-loop-no l = IsOlder l.cache (l.from + l.no)
 PROOF
 
-cd "$program"
-rt fmt > /dev/null
-if ! rt run > "$place/log" 2>&1; then
-    cat "$place/log"
-    exit 1
-fi
-grep ' ns a displacement' "$place/log"
+run_program ' ns a displacement'

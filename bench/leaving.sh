@@ -6,19 +6,9 @@
 # Makes a program in a temporary folder, with the helper and its proofs that the tests of writeback_order use, and
 # lets rt prove and build it there.
 set -euo pipefail
-top="$(cd "$(dirname "$0")/.." && pwd)"
-place="$(mktemp -d)"
-trap 'rm -rf "$place"' EXIT
-
-printf 'cache_ident:\ndepend_lists: cache_ident\nwriteback_order: depend_lists cache_ident\n' > "$place/crates.txt"
-printf 'leaving_times: writeback_order depend_lists cache_ident anyhow\n' >> "$place/crates.txt"
-for crate in cache_ident depend_lists writeback_order; do
-    mkdir -p "$place/crates/$crate"
-    cp -r "$top/crates/$crate/src" "$top/crates/$crate/specs" "$top/crates/$crate/proofs" "$place/crates/$crate/"
-done
-
-program="$place/crates/leaving_times"
-mkdir -p "$program/src" "$program/proofs/load" "$program/proofs/timed"
+source "$(dirname "$0")/program.sh"
+begin_program leaving_times 'cache_ident depend_lists writeback_order' anyhow
+mkdir -p "$program/proofs/load" "$program/proofs/timed"
 cat > "$program/src/main.rt" <<'MAIN'
 #![tactic(auto)]
 
@@ -142,10 +132,4 @@ abbrev pub invariant-loop : goal.invariant-loop
 invariant-loop g l = l.scratch.caps ≡ l.depends.caps
 PROOF
 
-cd "$program"
-rt fmt > /dev/null
-if ! rt run > "$place/log" 2>&1; then
-    cat "$place/log"
-    exit 1
-fi
-grep ' other rows' "$place/log"
+run_program ' other rows'

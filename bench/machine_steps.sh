@@ -4,21 +4,8 @@
 #
 # Makes a program in a temporary folder, and lets rt prove and build it there.
 set -euo pipefail
-top="$(cd "$(dirname "$0")/.." && pwd)"
-place="$(mktemp -d)"
-trap 'rm -rf "$place"' EXIT
-
-below="cache_ident phys_groups rv32_ma rv32_isa rv32_exec fault_forward signal_pages flat_state row_table flat_machine"
-: > "$place/crates.txt"
-for crate in $below; do
-    grep "^$crate:" "$top/crates.txt" >> "$place/crates.txt"
-    mkdir -p "$place/crates/$crate"
-    cp -r "$top/crates/$crate/src" "$top/crates/$crate/specs" "$top/crates/$crate/proofs" "$place/crates/$crate/" 2> /dev/null || true
-done
-echo "step_times: $below" >> "$place/crates.txt"
-
-program="$place/crates/step_times"
-mkdir -p "$program/src"
+source "$(dirname "$0")/program.sh"
+begin_program step_times 'cache_ident phys_groups rv32_ma rv32_isa rv32_exec fault_forward signal_pages flat_state row_table flat_machine'
 cat > "$program/src/main.rt" <<'MAIN'
 #![tactic(auto)]
 
@@ -151,10 +138,4 @@ fn main(rt: HostRuntime) -> io::Result<()> {
 }
 MAIN
 
-cd "$program"
-rt fmt > /dev/null
-if ! rt run > "$place/log" 2>&1; then
-    cat "$place/log"
-    exit 1
-fi
-grep -e ' steps among ' -e ' hundredths ' "$place/log"
+run_program '^1000000 steps among \| hundredths '

@@ -5,21 +5,8 @@
 #
 # Makes a program in a temporary folder, and lets rt prove and build it there.
 set -euo pipefail
-top="$(cd "$(dirname "$0")/.." && pwd)"
-place="$(mktemp -d)"
-trap 'rm -rf "$place"' EXIT
-
-below="cache_ident phys_groups signal_pages row_table"
-: > "$place/crates.txt"
-for crate in $below; do
-    grep "^$crate:" "$top/crates.txt" >> "$place/crates.txt"
-    mkdir -p "$place/crates/$crate"
-    cp -r "$top/crates/$crate/src" "$top/crates/$crate/specs" "$top/crates/$crate/proofs" "$place/crates/$crate/"
-done
-echo "row_times: $below" >> "$place/crates.txt"
-
-program="$place/crates/row_times"
-mkdir -p "$program/src"
+source "$(dirname "$0")/program.sh"
+begin_program row_times 'cache_ident phys_groups signal_pages row_table'
 cat > "$program/src/main.rt" <<'MAIN'
 #![tactic(auto)]
 
@@ -100,10 +87,4 @@ fn main(rt: HostRuntime) -> io::Result<()> {
 }
 MAIN
 
-cd "$program"
-rt fmt > /dev/null
-if ! rt run > "$place/log" 2>&1; then
-    cat "$place/log"
-    exit 1
-fi
-grep ' taken out and added again' "$place/log"
+run_program ' taken out and added again'

@@ -6,19 +6,9 @@
 # Makes a program in a temporary folder, of the space that the tests of rv32_exec use, and lets rt prove and
 # build it there.
 set -euo pipefail
-top="$(cd "$(dirname "$0")/.." && pwd)"
-place="$(mktemp -d)"
-trap 'rm -rf "$place"' EXIT
-
-printf 'rv32_ma:\nrv32_isa:\nrv32_exec: rv32_isa rv32_ma\nstep_times: rv32_exec\n' > "$place/crates.txt"
-for crate in rv32_ma rv32_isa rv32_exec; do
-    mkdir -p "$place/crates/$crate"
-    cp -r "$top/crates/$crate/src" "$top/crates/$crate/specs" "$place/crates/$crate/"
-    [ -d "$top/crates/$crate/proofs" ] && cp -r "$top/crates/$crate/proofs" "$place/crates/$crate/"
-done
-
-program="$place/crates/step_times"
-mkdir -p "$program/src" "$program/proofs/run"
+source "$(dirname "$0")/program.sh"
+begin_program step_times 'rv32_ma rv32_isa rv32_exec'
+mkdir -p "$program/proofs/run"
 sed 's/rv32_exec\.proofs\.tests/step_times.proofs/' \
     "$top/crates/rv32_exec/proofs/tests/run/Invariants.antt" > "$program/proofs/run/Invariants.antt"
 {
@@ -56,10 +46,4 @@ fn main(rt: HostRuntime) -> io::Result<()> {
 MAIN
 } > "$program/src/main.rt"
 
-cd "$program"
-rt fmt > /dev/null
-if ! rt run > "$place/log" 2>&1; then
-    cat "$place/log"
-    exit 1
-fi
-grep ' steps a second' "$place/log"
+run_program ' steps a second'
