@@ -9,7 +9,7 @@ use Rattle.fault_forward.specs.declared.effects.Effect.TheVariants as effects
 use Rattle.flat_state.specs.declared.records.FlatThread.{FlatThread}
 use Rattle.flat_state.specs.State.{FlatState, with_thread}
 use Rattle.flat_state.specs.Call.{after_completion, completed_so, is_completable}
-use Rattle.flat_machine.specs.Calls.{call_of, own_part, own_part_so}
+use Rattle.flat_thread.specs.Calls.{call_of, own_part, own_part_so}
 
 set_there : (threads : List FlatThread) (n : ℕ) (t : FlatThread) → slice_get threads n ≡ Some t → set threads n t ≡ threads
 set_there threads n t here = ap (set threads n) (sym (get_or_from_slice_get threads n t t here)) ∙ set-get_or threads n t

@@ -21,8 +21,9 @@ use Rattle.flat_state.specs.Call.{answered, made, mapped, mapping, refusal, unma
 use Rattle.flat_state.proofs.Places.{get-append}
 use Rattle.flat_state.proofs.FormedParts.{thread_formed, without_formed}
 use Rattle.flat_state.proofs.FormedEvents.{KeepsCall, call_keeps}
+use Rattle.flat_thread.specs.Calls.{call_of, own_part, own_part_so}
 use Rattle.flat_machine.specs.Readings.{rule_if_formed}
-use Rattle.flat_machine.specs.Calls.{IsRule, call_of, own_part, own_part_so}
+use Rattle.flat_machine.specs.Calls.{IsRule}
 use Rattle.flat_machine.proofs.DeclareSound.{Sound}
 
 module _ (s : FlatState) (granted : Caps) (sound : Sound s granted) (n : ℕ) (t : FlatThread) (here : slice_get s.threads n ≡ Some t) where

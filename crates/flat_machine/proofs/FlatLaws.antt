@@ -13,8 +13,8 @@ use Rattle.flat_state.specs.declared.records.FlatThread.{FlatThread}
 use Rattle.flat_state.specs.State.{FlatState}
 use Rattle.flat_state.specs.WellFormed.{IsWellFormed}
 use Rattle.flat_state.proofs.Finding.{find-contains}
+use Rattle.flat_mmu.specs.Seen.{IsInMemory, IsMapped}
 use Rattle.flat_machine.specs.Readings.{IsThreadOf}
-use Rattle.flat_machine.specs.Seen.{IsInMemory, IsMapped}
 
 -- a row that is no signal row of the frame gives no receiver
 no_receiver : (frame : Frame) (row : Row) (fit : Bool) → is_signal_row_of frame row ≡ false → receiver_of frame row fit ≡ None

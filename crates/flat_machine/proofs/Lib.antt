@@ -1,8 +1,4 @@
-pub mod Marking
-pub mod Places
-pub mod MmuLaws
 pub mod DeclareSound
-pub mod CallKeeps
 pub mod CallSound
 pub mod CallEnds
 pub mod FlatLaws

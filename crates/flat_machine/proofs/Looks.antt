@@ -18,8 +18,9 @@ use Rattle.flat_state.specs.WellFormed.{IsWellFormed}
 use Rattle.flat_state.proofs.Found.{found-contains}
 use Rattle.flat_state.proofs.Storing.{read-none, read-pages}
 use Rattle.flat_state.proofs.Translating.{translation-pages}
-use Rattle.flat_machine.specs.Readings.{Reaches}
-use Rattle.flat_machine.specs.Seen.{IsInMemory}
+use Rattle.flat_mmu.specs.Seen.{IsInMemory}
+use Rattle.flat_mmu.specs.Translation.{Reaches}
+use Rattle.flat_mmu.proofs.Reaching.{answer_row}
 use Rattle.flat_machine.proofs.FlatLaws.{row_in_memory}
 
 answer_fails : (r : Result Row FaultKind) (t : Translated) → Reaches r t → is_err r ≡ not (is_some (row_through t))
@@ -36,10 +37,6 @@ unfolding translates
 unreached s access space va r fails reaches e =
     e ∙ answer_fails r (reached s access space va) reaches
     ∙ ap not (sym (ap is_some (translation-pages (rights_of s space) s.memory s.rows space va access) ∙ translates-mapped (page_of (rights_of s space) s.memory) (row_through (reached s access space va))))
-
-answer_row : (r : Result Row FaultKind) (t : Translated) → Reaches r t → result_ok r ≡ row_through t
-answer_row (Ok row) t e = rw e refl
-answer_row (Err kind) t e = sym e.0
 
 in-memory : (s : FlatState) → IsWellFormed s → (access : Access) (space : SpaceNo) (va : ℕ) (found : Option Row) → found ≡ row_through (reached s access space va) → IfSome found (λ row. IsInMemory s.memory row.frame)
 in-memory s formed access space va None e = tt

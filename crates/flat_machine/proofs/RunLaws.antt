@@ -34,8 +34,8 @@ use Rattle.flat_state.specs.WellFormed.{IsWellFormed}
 use Rattle.flat_state.proofs.FormedParts.{memory_formed, rows_formed}
 use Rattle.flat_state.proofs.FormedEvents.{ends_at_most, marks_keep, room_kept}
 use Rattle.flat_state.proofs.WritingBack.{written_back-memory, written_back-rows}
+use Rattle.flat_mmu.specs.Seen.{IsMapped, Seen, pages_seen, rest_seen}
 use Rattle.flat_machine.specs.Readings.{RanIn, delivered_unless, status_so, unsignalled, unsignalled_so}
-use Rattle.flat_machine.specs.Seen.{IsMapped, Seen, pages_seen, rest_seen}
 use Rattle.flat_machine.proofs.FlatLaws.{rows_mapped}
 
 module _ (s : FlatState) (formed : IsWellFormed s) (space : SpaceNo) (memory : List ℕ) (rows : List Row) (mapped : IsMapped memory rows) (rest : rest_of (rights_of s space) memory rows space ≡ rest_of (rights_of s space) s.memory s.rows space) where

@@ -1,4 +1,3 @@
 pub mod Readings
-pub mod Seen
 pub mod Calls
 pub mod Looking

@@ -6,9 +6,7 @@ use Rattle.cache_ident.specs.declared.names.SpaceNo.{SpaceNo}
 use Rattle.cache_ident.specs.declared.names.ThreadNo.{ThreadNo}
 use Rattle.cache_ident.specs.declared.names.Vpn.{Vpn}
 use Rattle.phys_groups.specs.declared.rows.Row.{Row}
-use Rattle.phys_groups.specs.Translation.{Translated, through}
 use Rattle.rv32_exec.specs.declared.contexts.Context.{Context}
-use Rattle.rv32_exec.specs.declared.statuses.FaultKind.{FaultKind}
 use Rattle.rv32_exec.specs.declared.statuses.Reason.TheVariants.{Fault}
 use Rattle.rv32_exec.specs.declared.statuses.Status.{Status}
 use Rattle.rv32_exec.specs.declared.statuses.Status.TheVariants.{Ready, Trapped, Ended}
@@ -21,7 +19,7 @@ use Rattle.flat_state.specs.declared.records.FlatKernel.{FlatKernel}
 use Rattle.flat_state.specs.declared.records.FlatThread.{FlatThread}
 use Rattle.flat_state.specs.declared.records.Signal.{Signal}
 use Rattle.flat_state.specs.State.{FlatState}
-use Rattle.flat_state.specs.Translation.{is_fit_row, reached, row_through, fault_kind}
+use Rattle.flat_state.specs.Translation.{is_fit_row, reached, fault_kind}
 use Rattle.flat_state.specs.Declaration.{breaks, broken_rule, locks_granted}
 use Rattle.flat_state.specs.Pages.{pages_of}
 use Rattle.flat_state.specs.Signals.{delivered}
@@ -77,8 +75,3 @@ unsignalled s n t = unsignalled_so s n t (outcome s t) (outcome s t).answer
 abbrev pub is_fit_page : FlatState → Option Row → Bool
 is_fit_page s None = false
 is_fit_page s (Some row) = is_fit_row s row
-
--- an answer gives the row that an access goes through, or why it doesn't translate
-abbrev pub Reaches : Result Row FaultKind → Translated → Type 0
-Reaches (Ok row) t = t ≡ through row
-Reaches (Err kind) t = (row_through t ≡ None) × (fault_kind t ≡ kind)

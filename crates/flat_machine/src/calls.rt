@@ -1,114 +1,19 @@
 //! The completion of a thread's call.
 
-ghost use Rattle.std.specs.Prelude.{◌≡◌, ◌<◌, ◌==◌, ◌||◌, ◌++◌, true, not, nat_lt, IfOk, IfErr, OnOk, OnErr, length, unwrap_or};
-ghost use Rattle.std.specs.Fmt.{decimal};
-ghost use Rattle.rv32_exec.specs.declared.statuses.Status.TheVariants.{Ready};
+ghost use Rattle.std.specs.Prelude.{◌≡◌, ◌<◌, true, IfOk, IfErr, OnOk, OnErr, length, unwrap_or};
 ghost use Rattle.flat_state.specs.State.{with_thread};
-ghost use Rattle.flat_state.specs.Call.{after_completion, answered, bit as bit_lem, flags_of as flags_of_lem, granted, granting, is_completable as is_completable_lem, made as made_lem, mapped, mapping, receiver_of as receiver_of_lem, refusal as refusal_lem, spawned, spawning, unmapped};
-ghost use Rattle.flat_machine.specs.Calls.{IsRule, OfThread, call_of, own_part};
+ghost use Rattle.flat_state.specs.Call.{after_completion, answered, granted, granting, is_completable as is_completable_lem, made as made_lem, mapped, mapping, spawned, spawning, unmapped};
+ghost use Rattle.flat_thread.specs.Calls.{call_of, own_part};
+ghost use Rattle.flat_machine.specs.Calls.{IsRule, OfThread};
 ghost use Rattle.flat_machine.specs.Readings.{Gives, rule_if_formed};
 
 use crate::NoMemory;
 use crate::flat::Flat;
 use crate::threads::is_completable;
 use cache_ident::{Frame, KernelNo, SpaceNo, ThreadNo, Vpn};
-use fault_forward::{Effect, effect};
-use flat_state::{Decl, FlatThread};
-use phys_groups::Flags;
-use rv32_exec::{Context, Output, Status};
-
-// The answer in a0 that tells of a broken rule.
-fn refusal(rule: u32) -> u32
-    requires some { 0 < rule }
-    requires few { rule < 20 }
-    ensures { result ≡ refusal_lem rule }
-{
-    u32::MAX - rule + 1
-}
-
-fn bit(bits: u32, place: u32) -> bool
-    requires { 0 < place }
-    ensures { result ≡ bit_lem bits place }
-{
-    bits / place % 2 == 1
-}
-
-// Flags by their bits: 1 r, 2 w, 4 x, 8 m.
-fn flags_of(bits: u32) -> Flags
-    ensures { result ≡ flags_of_lem bits }
-{
-    Flags {
-        r: bit(bits, 1),
-        w: bit(bits, 2),
-        x: bit(bits, 4),
-        m: bit(bits, 8),
-    }
-}
-
-// Whether the bits name a flag, and nothing but flags.
-fn are_flags(bits: u32) -> bool
-    ensures { result ≡ not ((bits == 0) || nat_lt 15 bits) }
-{
-    bits != 0 && bits <= 15
-}
-
-// 0 is no receiver, and any other number is one above the receiver's.
-fn receiver_of(number: u32) -> Option<ThreadNo>
-    ensures { result ≡ receiver_of_lem number }
-{
-    number.checked_sub(1).map(ThreadNo)
-}
-
-// The thread goes on as its completed call leaves its context.
-fn resume(thread: &mut FlatThread, context: Context)
-    ensures { thread.new ≡ record thread.old { context = context; status = Ready } }
-{
-    thread.context = context;
-    thread.status = Status::Ready;
-}
-
-// The thread goes on with an answer in a0.
-fn answer(thread: &mut FlatThread, answer: u32)
-    ensures { thread.new ≡ answered thread.old answer }
-{
-    thread.context.regs[10] = answer;
-    thread.status = Status::Ready;
-}
-
-// Appends a number in decimal.
-fn put_decimal(output: &mut Output, number: u32) -> Result<(), NoMemory>
-    ensures ok { OnOk result (output.new ≡ output.old ++ decimal number) }
-    ensures err { OnErr result (output.new ≡ output.old) }
-{
-    let mut buffer = itoa::Buffer::new();
-    output.append(buffer.format(number).as_bytes())
-}
-
-// Does what a call does to its thread alone, and answers what the call brings about. For want of memory nothing
-// happens.
-fn carry_out(thread: &mut FlatThread) -> Result<Effect, NoMemory>
-    requires { is_completable_lem thread.old ≡ true }
-    ensures effect { IfOk result (λ effect. effect ≡ (call_of thread.old).effect) }
-    ensures ok { OnOk result (thread.new ≡ own_part thread.old) }
-    ensures err { OnErr result (thread.new ≡ thread.old) }
-{
-    let mut context = thread.context;
-    let effect = effect(thread.no, &mut context, &mut thread.queue);
-    match effect {
-        Effect::Ready => resume(thread, context),
-        Effect::Put(byte) => {
-            thread.output.append(&[byte])?;
-            resume(thread, context);
-        }
-        Effect::Decimal(number) => {
-            put_decimal(&mut thread.output, number)?;
-            resume(thread, context);
-        }
-        Effect::End(reason) => thread.status = Status::Ended(reason),
-        _ => {}
-    }
-    Ok(effect)
-}
+use fault_forward::Effect;
+use flat_state::Decl;
+use flat_thread::{answer, are_flags, bit, carry_out, flags_of, receiver_of, refusal};
 
 impl Flat {
     /// Completes the call that a thread is in, if that can be done.

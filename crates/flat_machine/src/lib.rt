@@ -8,8 +8,6 @@ mod calls;
 mod depends;
 mod flat;
 mod look;
-mod mmu;
-mod reach;
 mod signals;
 mod steps;
 mod threads;

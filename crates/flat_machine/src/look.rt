@@ -1,83 +1,34 @@
 //! What the next step of a thread would do, without taking it.
 
 ghost use Rattle.std.specs.Prelude.{◌≡◌, ◌%◌, IfSome, not};
-ghost use Rattle.std.specs.Option.{option_map};
 ghost use Rattle.phys_groups.specs.Memory.{word_at as word_at_lem};
 ghost use Rattle.phys_groups.specs.Translation.{place_in};
-ghost use Rattle.rv32_isa.specs.Table.{instruction_of};
 ghost use Rattle.rv32_exec.specs.declared.statuses.Access.TheVariants.{Write};
-ghost use Rattle.rv32_exec.specs.Actions.{action_of};
 ghost use Rattle.rv32_exec.specs.Pages.{fetched, translates};
 ghost use Rattle.flat_state.specs.Translation.{reached as reached_lem};
 ghost use Rattle.flat_state.specs.Pages.{pages_of};
 ghost use Rattle.flat_state.specs.Signals.{next_action as next_action_lem, next_signal as next_signal_lem, signal_of as signal_of_lem, signal_through as signal_through_lem};
 ghost use Rattle.flat_state.specs.Dependence.{row_name as row_name_lem};
-ghost use Rattle.flat_state.specs.NextSteps.{data_access as data_access_lem, data_row as data_row_lem, fetch_row as fetch_row_lem, faults as faults_lem, next_step as next_step_lem, next_step_of as next_step_of_lem};
-ghost use Rattle.flat_machine.specs.Looking.{does_any_miss, does_miss, stored_word as stored_word_lem};
-ghost use Rattle.flat_machine.specs.Readings.{IsThreadOf, Reaches};
-ghost use Rattle.flat_machine.specs.Seen.{IsInMemory};
+ghost use Rattle.flat_state.specs.NextSteps.{data_row as data_row_lem, fetch_row as fetch_row_lem, faults as faults_lem, next_step as next_step_lem, next_step_of as next_step_of_lem};
+ghost use Rattle.flat_mmu.specs.Seen.{IsInMemory};
+ghost use Rattle.flat_mmu.specs.Translation.{Reaches};
+ghost use Rattle.flat_machine.specs.Looking.{does_any_miss, does_miss};
+ghost use Rattle.flat_machine.specs.Readings.{IsThreadOf};
 
 use crate::flat::Flat;
-use crate::reach::reach;
 use cache_ident::{Name, ThreadNo};
-use flat_state::{DataAccess, FlatThread, NextStep, Signal};
+use flat_mmu::reach;
+use flat_state::{FlatThread, NextStep, Signal};
+use flat_thread::{action_for_word, data_access, stored_word};
 use phys_groups::Row;
-use rv32_exec::{Access, Action, Context, FaultKind, Status, Width, action_for};
-use rv32_isa::decode;
+use rv32_exec::{Access, Action, FaultKind, Status};
 use signal_pages::signals;
-
-// The first access to data that an action makes. An atomic one reads before it writes. Where the width doesn't
-// divide the address it makes none.
-fn data_access(action: Action) -> Option<DataAccess>
-    ensures { result ≡ data_access_lem action }
-{
-    let (access, va, size) = match action {
-        Action::Load { va, width, .. } => (Access::Read, va, width.size()),
-        Action::Store { va, width, .. } => (Access::Write, va, width.size()),
-        Action::Atomic { va, .. } => (Access::Read, va, 4),
-        _ => return None,
-    };
-    if va % size == 0 {
-        Some(DataAccess { access, va })
-    } else {
-        None
-    }
-}
 
 /// The name of a row.
 pub(crate) fn row_name(row: Row) -> Name
     ensures { result ≡ row_name_lem row }
 {
     Name::Mapping(row.space, row.vpn)
-}
-
-// What the instruction that a word is asks for.
-fn asked(context: &Context, word: u32) -> Option<Action>
-    ensures { result ≡ option_map (λ instr. action_of instr context.now) (instruction_of word) }
-{
-    match decode(word) {
-        Some(instr) => Some(action_for(context, instr)),
-        None => None,
-    }
-}
-
-// Where an action stores a word.
-fn stored_word(action: Action) -> Option<u32>
-    ensures { result ≡ stored_word_lem action }
-{
-    match action {
-        Action::Store { va, width, .. } => match width {
-            Width::Word => Some(va),
-            Width::Byte | Width::Half => None,
-        },
-        Action::Set { .. }
-        | Action::Pass
-        | Action::Jump { .. }
-        | Action::Load { .. }
-        | Action::Atomic { .. }
-        | Action::Call
-        | Action::Break => None,
-    }
 }
 
 impl Flat {
@@ -179,7 +130,7 @@ impl Flat {
         ensures { result ≡ next_action_lem thread.now.context (pages_of self.now thread.now.space) }
     {
         match self.next_word(thread) {
-            Some(word) => asked(&thread.context, word),
+            Some(word) => action_for_word(&thread.context, word),
             None => None,
         }
     }
@@ -190,7 +141,7 @@ impl Flat {
         ensures { result ≡ faults_lem self.now thread.now }
     {
         match self.next_word(thread) {
-            Some(word) => self.misses_any(thread, asked(&thread.context, word)),
+            Some(word) => self.misses_any(thread, action_for_word(&thread.context, word)),
             None => true,
         }
     }

@@ -13,9 +13,9 @@ ghost use Rattle.flat_machine.specs.Calls.{OfThread};
 ghost use Rattle.flat_machine.specs.Readings.{RanIn, delivered_unless, status_so, unsignalled};
 
 use crate::flat::Flat;
-use crate::mmu::Mmu;
 use crate::threads::is_ready;
 use cache_ident::{SpaceNo, ThreadNo, Vpn};
+use flat_mmu::Mmu;
 use flat_state::Signal;
 use phys_groups::Memory;
 use row_table::RowTable;

@@ -5,7 +5,8 @@ use Rattle.flat_machine.specs.contracts.flat.Flat.{the_view}
 use Rattle.std.proofs.lemmas.Result.{on_ok_weaker, IfOk-weaker}
 use Rattle.flat_state.specs.declared.records.FlatThread.{FlatThread}
 use Rattle.flat_state.specs.State.{with_thread}
-use Rattle.flat_machine.specs.Calls.{OfThread, call_of, own_part}
+use Rattle.flat_thread.specs.Calls.{call_of, own_part}
+use Rattle.flat_machine.specs.Calls.{OfThread}
 use Rattle.flat_machine.proofs.DeclareSound.{Sound, after_either}
 use Rattle.flat_machine.proofs.CallSound.{own_sound, in_place}
 use Rattle.flat_machine.proofs.flat.Flat.carry_out_at.Goals as goal

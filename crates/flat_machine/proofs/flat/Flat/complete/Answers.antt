@@ -4,7 +4,7 @@ use Rattle.std.proofs.lemmas.Result.{on_ok_weaker, on_err_weaker}
 use Rattle.fault_forward.specs.declared.effects.Effect.TheVariants as effects
 use Rattle.flat_state.specs.State.{FlatState}
 use Rattle.flat_state.specs.Call.{after_completion, is_completable, granted, granting, mapped, mapping, spawned, spawning, unmapped}
-use Rattle.flat_machine.specs.Calls.{call_of, own_part_so}
+use Rattle.flat_thread.specs.Calls.{call_of, own_part_so}
 use Rattle.flat_machine.proofs.CallEnds.{comes_to, kept, own_ends}
 use Rattle.flat_machine.proofs.flat.Flat.complete.Goals as goal
 

@@ -3,7 +3,7 @@ use Rattle.flat_state.specs.declared.events.Decl.TheVariants as decls
 use Rattle.flat_state.specs.State.{FlatState}
 use Rattle.flat_state.specs.Declaration.{broken_rule, declared}
 use Rattle.flat_machine.specs.contracts.flat.Flat.{the_view}
-use Rattle.flat_machine.proofs.CallKeeps.{same_queue}
+use Rattle.flat_thread.proofs.CallKeeps.{same_queue}
 use Rattle.flat_machine.proofs.DeclareSound.{thread_sound}
 use Rattle.flat_machine.proofs.flat.Flat.declare_thread.Goals as goal
 

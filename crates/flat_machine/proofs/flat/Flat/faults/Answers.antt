@@ -8,7 +8,7 @@ pub returns-in-Some : goal.returns-in-Some
 returns-in-Some c =
     let t = c.args.thread.now in
     let ps = pages_of c.args.self.now t.space in
-    c.misses_any.ensures ∙ ap (does_any_miss t.context ps) c.asked.ensures ∙ sym (faults_decoded t.context ps c.in-Some.word (sym c.next_word.ensures ∙ c.in-Some.is))
+    c.misses_any.ensures ∙ ap (does_any_miss t.context ps) c.action_for_word.ensures ∙ sym (faults_decoded t.context ps c.in-Some.word (sym c.next_word.ensures ∙ c.in-Some.is))
 
 pub returns-in-None : goal.returns-in-None
 returns-in-None c =

@@ -6,8 +6,8 @@ use Rattle.flat_state.specs.WellFormed.{IsWellFormed}
 use Rattle.flat_state.specs.Translation.{rights_of}
 use Rattle.flat_state.specs.Pages.{pages_of}
 use Rattle.flat_state.specs.Rest.{rest_of}
+use Rattle.flat_mmu.specs.Seen.{IsMapped, Seen, pages_seen, rest_seen}
 use Rattle.flat_machine.specs.Readings.{RanIn}
-use Rattle.flat_machine.specs.Seen.{IsMapped, Seen, pages_seen, rest_seen}
 use Rattle.flat_machine.proofs.FlatLaws.{rows_mapped}
 use Rattle.flat_machine.proofs.RunLaws.{missed-map, ran_formed, ran_in, ran_unchanged}
 use Rattle.flat_machine.proofs.flat.Flat.run_in.Goals as goal

@@ -1,0 +1,4 @@
+pub mod Marking
+pub mod Places
+pub mod Reaching
+pub mod MmuLaws

@@ -1,0 +1,11 @@
+//! What memory and rows are for the threads of one space: which row an access goes through, and what it reads, stores
+//! and marks there.
+#![tactic(auto)]
+
+mod mmu;
+#[cfg(test)]
+mod tests;
+mod translation;
+
+pub use mmu::Mmu;
+pub use translation::reach;
