@@ -4,6 +4,6 @@ pub mod CallEnds
 pub mod FlatLaws
 pub mod Missing
 pub mod Looks
-pub mod Quantifiers
+pub mod Settling
 pub mod RunLaws
 pub mod SendLaws

@@ -9,7 +9,6 @@ ghost use Rattle.flat_machine.specs.Readings.{Gives, rule_if_formed};
 
 use crate::NoMemory;
 use crate::flat::Flat;
-use crate::threads::is_completable;
 use cache_ident::{Frame, KernelNo, SpaceNo, ThreadNo, Vpn};
 use fault_forward::Effect;
 use flat_state::Decl;
@@ -25,7 +24,7 @@ impl Flat {
         let Some(thread) = self.thread(no) else {
             return Ok(());
         };
-        if !is_completable(thread) {
+        if !thread.is_completable() {
             return Ok(());
         }
         let space = thread.space;

@@ -132,22 +132,25 @@ impl Flat {
         }
     }
 
-    /// Whether a run of so many steps is over, at that limit. It goes once over the threads, and looks at the next
-    /// step of each that is ready.
+    /// Whether a run of so many steps is over, at that limit. It goes over the threads once at most, and no further
+    /// than to one that can go on. Of each it looks at the status, of one that is ready at the next step, and of one
+    /// in a call at the queue.
     #[tactic(auto, unfolding(flat_state::specs::Settling::settled_of))]
     pub fn settled(&self, steps: u64, limit: u64) -> Settled
         ensures { result ≡ settled_of self.now steps limit }
     {
-        if self.all_ended() {
-            return Settled::Done;
+        // How the run stands as far as the threads before go: as the least settled of them.
+        let mut settled = Settled::Done;
+        for at in 0..self.threads() {
+            match self.settled_by(self.thread_at(at as usize), steps == limit) {
+                Settled::Done => {}
+                Settled::Stalled if matches!(settled, Settled::Done) => settled = Settled::Stalled,
+                Settled::Stalled => {}
+                Settled::Spent => settled = Settled::Spent,
+                Settled::Running => return Settled::Running,
+            }
         }
-        if self.all_stuck() {
-            return Settled::Stalled;
-        }
-        if steps == limit && !self.any_completable() {
-            return Settled::Spent;
-        }
-        Settled::Running
+        settled
     }
 
     // The rights of the kernel that owns a space.

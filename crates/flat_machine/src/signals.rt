@@ -10,7 +10,7 @@ ghost use Rattle.flat_machine.specs.Calls.{OfThread};
 ghost use Rattle.flat_machine.specs.Readings.{IsThreadOf};
 
 use crate::flat::Flat;
-use crate::threads::{has_ended, is_ended, queued};
+use crate::threads::{has_ended, queued};
 use arrayvec::ArrayVec;
 use cache_ident::{Frame, ThreadNo, Vpn};
 use flat_state::{FlatThread, Signal};
@@ -134,7 +134,7 @@ fn give(thread: &mut FlatThread, va: u32)
     requires { is_ended_lem thread.old.status ≡ false → length thread.old.queue.items < 64 }
     ensures { thread.new ≡ with_address va thread.old }
 {
-    if !is_ended(thread.status) {
+    if !thread.is_ended() {
         thread.queue.push(va);
     }
 }

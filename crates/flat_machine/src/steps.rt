@@ -13,7 +13,6 @@ ghost use Rattle.flat_machine.specs.Calls.{OfThread};
 ghost use Rattle.flat_machine.specs.Readings.{RanIn, delivered_unless, status_so, unsignalled};
 
 use crate::flat::Flat;
-use crate::threads::is_ready;
 use cache_ident::{SpaceNo, ThreadNo, Vpn};
 use flat_mmu::Mmu;
 use flat_state::Signal;
@@ -42,7 +41,7 @@ impl Flat {
         // What holds of the machine says that a receiver that isn't full has room for its addresses.
         let _ = &self.threads;
         let thread = self.thread_at(at);
-        if !is_ready(thread.status) {
+        if !thread.is_ready() {
             return;
         }
         let signal = self.next_signal(thread);

@@ -4,7 +4,7 @@ ghost use Rattle.std.specs.Prelude.{◌≡◌, ◌≢◌, ◌<◌, ◌≤◌, �
 ghost use Rattle.std.specs.List.{list_any};
 ghost use Rattle.flat_state.specs.State.{nothing_declared};
 ghost use Rattle.flat_state.specs.Signals.{is_runnable as is_runnable_lem};
-ghost use Rattle.flat_state.specs.Call.{waits as waits_lem, is_completable as is_completable_lem};
+ghost use Rattle.flat_state.specs.Call.{is_completable as is_completable_lem};
 ghost use Rattle.flat_state.specs.Events.{AllFit, after_declarations};
 ghost use Rattle.flat_state.specs.NextSteps.{next_step};
 ghost use Rattle.flat_state.specs.Settling.{settled_of};
@@ -14,8 +14,7 @@ ghost use Rattle.proc_run.specs.Running.{stands_so, may_step, goes_on as goes_on
 
 use crate::journal::{Entry, Journal};
 use cache_ident::ThreadNo;
-use flat_machine::{Decl, Event, Flat, FlatThread, NoMemory, Settled};
-use rv32_exec::Status;
+use flat_machine::{Decl, Event, Flat, NoMemory, Settled};
 use std::alloc::Global;
 
 /// How many steps one entry stands for at most.
@@ -30,18 +29,11 @@ pub struct Finished {
     pub steps: u64,
 }
 
-// Whether the thread is in call 3, and its queue is empty.
-fn waits(thread: &FlatThread) -> bool
-    ensures { result ≡ waits_lem thread.now }
-{
-    thread.context.regs[17] == 3 && thread.queue.is_empty()
-}
-
 fn is_completable(flat: &Flat, no: ThreadNo) -> bool
     ensures { result ≡ stands_so is_completable_lem (slice_get flat.now.threads no.0) }
 {
     match flat.thread(no) {
-        Some(thread) => matches!(thread.status, Status::Trapped) && !waits(thread),
+        Some(thread) => thread.is_completable(),
         None => false,
     }
 }

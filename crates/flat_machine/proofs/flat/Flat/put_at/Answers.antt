@@ -1,11 +1,10 @@
 use Rattle.std.proofs.Common.{◌≡◌, refl, sym, ap, ap₂, ◌∙◌, Some}
 use Rattle.std.specs.List.{slice_get}
-use Rattle.std.proofs.lemmas.Option.{slice_get_read}
+use Rattle.std.proofs.lemmas.Option.{same_Some, slice_get_read}
 use Rattle.flat_state.specs.declared.records.FlatThread.{FlatThread}
 use Rattle.flat_state.specs.State.{FlatState, with_thread}
 use Rattle.flat_state.specs.WellFormed.{IsWellFormed}
 use Rattle.flat_state.proofs.FormedParts.{thread_formed}
-use Rattle.flat_machine.proofs.Quantifiers.{same_place}
 use Rattle.flat_machine.proofs.flat.Flat.put_at.Goals as goal
 
 module _ (c : goal.After-self-1) where
@@ -26,7 +25,7 @@ invariant_of-self c = record { formed = formed c; sums = c.self.invariant.sums }
 pub returns-clause-state : goal.returns-clause-state
 returns-clause-state c = λ t at.
     let was : slice_get c.args.self.now.threads c.args.at ≡ Some c.index_mut-thread.result.now = sym (ap (λ (u : FlatState). slice_get u.threads c.args.at) c.self.view_is) ∙ here c in
-    ap₂ (λ (st : FlatState) (u : FlatThread). with_thread st c.args.at (record u { context = c.args.context; status = c.args.status })) c.self.view_is (same_place c.args.self.now.threads c.args.at c.args.at c.index_mut-thread.result.now t refl was at)
+    ap₂ (λ (st : FlatState) (u : FlatThread). with_thread st c.args.at (record u { context = c.args.context; status = c.args.status })) c.self.view_is (same_Some c.index_mut-thread.result.now t (sym was ∙ at))
 
 pub returns-clause-threads : goal.returns-clause-threads
 returns-clause-threads c = (formed c).threads
