@@ -1,7 +1,9 @@
 #!/usr/bin/env bash
 # Usage: bench/leaving.sh
-# Times the order in which a space leaves with ten rows, where 1,024, 8,192 and 65,536 other rows are loaded. The
-# time must not grow with what is loaded, but for its logarithm.
+# Times two orders of leaving, where 1,024, 8,192 and 65,536 rows are loaded: that of a space with ten other rows,
+# whose time must not grow with what is loaded, and that of a kernel with all of them, whose time for each row must not
+# grow with what leaves, both but for a logarithm. Two of the kernel's spaces have the rows in turn, so that those of
+# the one stand between those of the other in the order of identifiers.
 #
 # Makes a program in a temporary folder, with the helper and its proofs that the tests of writeback_order use, and
 # lets rt prove and build it there.
@@ -12,7 +14,7 @@ mkdir -p "$program/proofs/load" "$program/proofs/timed"
 cat > "$program/src/main.rt" <<'MAIN'
 #![tactic(auto)]
 
-ghost use Rattle.std.specs.Prelude.{◌≡◌, ◌+◌, ◌≤◌, ◌↔◌, Contains, IsTrue, length};
+ghost use Rattle.std.specs.Prelude.{◌≡◌, ◌+◌, ◌<◌, ◌≤◌, ◌↔◌, Contains, IsTrue, length};
 ghost use Rattle.depend_lists.specs.Roomy.{IsRoomy};
 
 use cache_ident::{Caps, Ident, Kind};
@@ -64,45 +66,60 @@ fn depend(rt: &impl Abort, depends: &mut Depends, child: Node, parents: &[Node])
     }
 }
 
-// Ten rows of the space in the middle, among so many of two others.
+fn kernel() -> Node {
+    node(Kind::Kernel, 0, Class::Kernel)
+}
+
+fn space(number: u32) -> Node {
+    node(Kind::Space, number, Class::Space)
+}
+
+// Three spaces of the kernel: ten rows in the one in the middle, so many in turn in the two others.
 fn load(rt: &impl Abort, depends: &mut Depends, rows: u32)
     requires rows { rows ≤ 65536 }
     requires caps { depends.old.caps ≡ CAPS }
     requires pairs { length depends.old.pairs ≤ 0 }
     ensures caps { depends.new.caps ≡ CAPS }
 {
+    for number in 0..3u32 {
+        depend(rt, depends, space(number), &[kernel()]);
+    }
     for row in 0..rows {
-        let space = node(Kind::Space, 2 * (row % 2), Class::Space);
-        depend(rt, depends, node(Kind::Mapping, row, Class::OtherRow), &[space]);
+        depend(rt, depends, node(Kind::Mapping, row, Class::OtherRow), &[space(2 * (row % 2))]);
     }
     for row in 0..10u32 {
-        let space = node(Kind::Space, 1, Class::Space);
-        depend(rt, depends, node(Kind::Mapping, rows + row, Class::OtherRow), &[space]);
+        depend(rt, depends, node(Kind::Mapping, rows + row, Class::OtherRow), &[space(1)]);
     }
 }
 
-const TIMES: u32 = 100_000;
-
-fn timed(rt: &(impl Print + std::rt::Clock), depends: &Depends, scratch: &mut Scratch, rows: u32) -> anyhow::Result<()>
-    requires { scratch.old.caps ≡ depends.now.caps }
+// The time of one order from this root, in nanoseconds.
+fn timed(rt: &impl std::rt::Clock, depends: &Depends, root: Node, scratch: &mut Scratch, times: u32) -> anyhow::Result<u128>
+    requires caps { scratch.old.caps ≡ depends.now.caps }
+    requires times { 0 < times }
+    ensures { scratch.new.caps ≡ scratch.old.caps }
 {
     let start = Instant::now(rt)?;
-    for _ in 0..TIMES {
-        order(depends, node(Kind::Space, 1, Class::Space), scratch);
+    for _ in 0..times {
+        order(depends, root, scratch);
     }
-    let nanos = start.elapsed(rt)?.as_nanos() / TIMES as u128;
-    let count = scratch.nodes().len();
-    println!(rt; "{rows} other rows: {nanos} ns for an order of {count}")?;
-    Ok(())
+    Ok(start.elapsed(rt)?.as_nanos() / times as u128)
 }
 
 fn of_rows(rt: &(impl Print + std::rt::Clock + AllocGlobal + Abort), rows: u32) -> anyhow::Result<()>
-    requires { rows ≤ 65536 }
+    requires some { 0 < rows }
+    requires rows { rows ≤ 65536 }
 {
     let mut depends = Depends::new(rt.alloc(), CAPS)?;
     load(rt, &mut depends, rows);
     let mut scratch = Scratch::new(rt.alloc(), CAPS)?;
-    timed(rt, &depends, &mut scratch, rows)
+    let few = timed(rt, &depends, space(1), &mut scratch, 100_000)?;
+    let few_count = scratch.nodes().len();
+    println!(rt; "{rows} other rows: {few} ns for an order of {few_count}")?;
+    let all = timed(rt, &depends, kernel(), &mut scratch, (524_288 / rows).max(1))?;
+    let all_count = scratch.nodes().len();
+    let each = all / rows as u128;
+    println!(rt; "{rows} rows that leave: {all} ns for an order of {all_count}, {each} ns for each row")?;
+    Ok(())
 }
 
 fn main(rt: HostRuntime) -> anyhow::Result<()> {
@@ -118,11 +135,14 @@ use Rattle.std.proofs.Common.{◌≡◌, ◌+◌, ◌≤◌, length}
 use Rattle.leaving_times.specs.declared.TheConstants.{CAPS}
 use Rattle.leaving_times.proofs.load.Given as goal
 
+abbrev pub invariant-loop-number : goal.invariant-loop-number
+invariant-loop-number g l = record { caps : l.depends.caps ≡ CAPS; pairs : length l.depends.pairs ≤ l.number }
+
 abbrev pub invariant-loop-row : goal.invariant-loop-row
-invariant-loop-row g l = record { caps : l.depends.caps ≡ CAPS; pairs : length l.depends.pairs ≤ l.row }
+invariant-loop-row g l = record { caps : l.depends.caps ≡ CAPS; pairs : length l.depends.pairs ≤ 3 + l.row }
 
 abbrev pub invariant-loop-row-2 : goal.invariant-loop-row-2
-invariant-loop-row-2 g l = record { caps : l.depends.caps ≡ CAPS; pairs : length l.depends.pairs ≤ l.rows + l.row }
+invariant-loop-row-2 g l = record { caps : l.depends.caps ≡ CAPS; pairs : length l.depends.pairs ≤ 3 + l.rows + l.row }
 PROOF
 cat > "$program/proofs/timed/Invariants.antt" <<'PROOF'
 use Rattle.std.proofs.Common.{◌≡◌}
@@ -132,4 +152,4 @@ abbrev pub invariant-loop : goal.invariant-loop
 invariant-loop g l = l.scratch.caps ≡ l.depends.caps
 PROOF
 
-run_program ' other rows'
+run_program ' ns for an order'

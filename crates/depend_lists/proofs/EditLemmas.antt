@@ -1,5 +1,5 @@
 -- What holds of the pairs after an edit.
-use Rattle.std.proofs.Common.{◌≡◌, ◌≢◌, ◌↔◌, ℕ, ◌+◌, ◌*◌, ◌<◌, ◌≤◌, Bool, true, false, cond, List, ◌∷◌, length, get_or, AllPairs, Contains, sym, ◌∙◌, ap, subst, ◌⊎◌, inl, inr, refl, arith}
+use Rattle.std.proofs.Common.{◌≡◌, ◌≢◌, ℕ, ◌+◌, ◌*◌, ◌<◌, ◌≤◌, Bool, true, false, cond, List, ◌∷◌, length, get_or, AllPairs, Contains, sym, ◌∙◌, ap, subst, ◌⊎◌, inl, inr, refl, arith}
 use Rattle.std.specs.List.{insert, remove}
 use Rattle.std.specs.List.Sorted.{IsPermutation}
 use Rattle.std.proofs.lemmas.List.Sorted.{IsPermutation-insert, IsPermutation-refl, IsPermutation-remove, sum_by_popped, sum_by_pushed}
@@ -11,10 +11,8 @@ use Rattle.depend_lists.specs.declared.nodes.Class.{Class}
 use Rattle.depend_lists.specs.declared.nodes.Node.{Node}
 use Rattle.depend_lists.specs.declared.nodes.TheConstants.{MOST_PARENTS}
 use Rattle.depend_lists.specs.Pairs.{count_of, parent_count, HasOneClass, IsProper, IsWithin}
-use Rattle.depend_lists.specs.Indexes.{turned}
-use Rattle.depend_lists.proofs.ListLemmas.{Contains-first, Contains-from_remove, Contains-insert_cases, Contains-insert_first, Contains-insert_kept, Contains-later, Contains-remove_cases, gone_after_remove}
+use Rattle.depend_lists.proofs.ListLemmas.{Contains-first, Contains-from_remove, Contains-insert_cases, Contains-later}
 use Rattle.depend_lists.proofs.CountLemmas.{few_pairs}
-use Rattle.depend_lists.proofs.PairLemmas.{turned_back}
 
 module _ (caps : Caps) (pairs : List (Ident × Node)) (old : IsProper (record { caps = caps; pairs = pairs })) (at : ℕ) (pair : Ident × Node) where
   -- one more parent for a child that has few
@@ -70,34 +68,3 @@ module _ (caps : Caps) (pairs : List (Ident × Node)) (old : IsProper (record { 
         once = once;
         within = λ kind. let w = old.within kind in (w.0, w.1, λ p there of. w.2 p (was p there) of);
       }
-
--- the other list has each pair from its other end, and nothing else
-abbrev pub Mirrors : List (Ident × Node) → List (Ident × (Class × Ident)) → Type 0
-Mirrors pairs parents = (pair : Ident × Node) → Contains parents (turned pair) ↔ Contains pairs pair
-
-module _ (pairs : List (Ident × Node)) (parents : List (Ident × (Class × Ident))) (both : Mirrors pairs parents) (at place : ℕ) (pair : Ident × Node) where
-  -- so it does after an insert in both
-  pub mirrors-insert : Mirrors (insert pairs at pair) (insert parents place (turned pair))
-  mirrors-insert p = (
-    λ there. elim (Contains-insert_cases parents place (turned pair) (turned p) there) [
-      | inl same ↦ subst (Contains (insert pairs at pair)) (sym (turned_back p pair same)) (Contains-insert_first pairs at pair)
-      | inr was ↦ Contains-insert_kept pairs at pair p ((both p).0 was)
-    ],
-    λ there. elim (Contains-insert_cases pairs at pair p there) [
-      | inl same ↦ subst (Contains (insert parents place (turned pair))) (ap turned (sym same)) (Contains-insert_first parents place (turned pair))
-      | inr was ↦ Contains-insert_kept parents place (turned pair) (turned p) ((both p).1 was)
-    ],
-  )
-
-  -- and after a removal from both
-  pub mirrors-remove : at < length pairs → get_or pairs at pair ≡ pair → AllPairs ◌≢◌ pairs → place < length parents → get_or parents place (turned pair) ≡ turned pair → AllPairs ◌≢◌ parents → Mirrors (remove pairs at) (remove parents place)
-  mirrors-remove within here once parents_within parents_here parents_once p = (
-    λ there. elim (Contains-remove_cases pairs at pair p within here ((both p).0 (Contains-from_remove parents place (turned pair) (turned p) parents_within parents_here there))) [
-      | inl same ↦ absurd (gone_after_remove parents place (turned pair) parents_within parents_here parents_once (subst (Contains (remove parents place)) (ap turned same) there))
-      | inr kept ↦ kept
-    ],
-    λ there. elim (Contains-remove_cases parents place (turned pair) (turned p) parents_within parents_here ((both p).1 (Contains-from_remove pairs at pair p within here there))) [
-      | inl same ↦ absurd (gone_after_remove pairs at pair within here once (subst (Contains (remove pairs at)) (turned_back p pair same) there))
-      | inr kept ↦ kept
-    ],
-  )

@@ -1,10 +1,8 @@
 -- What is in a list after an edit.
-use Rattle.std.proofs.Common.{◌≡◌, ◌≢◌, ℕ, zero, suc, ◌+◌, ◌<◌, Bool, true, false, cond, List, [], ◌∷◌, ◌++◌, length, get_or, take, drop, map, filter, AllPairs, Contains, sym, ◌∙◌, ap, ◌⊎◌, inl, inr, refl, arith}
+use Rattle.std.proofs.Common.{◌≡◌, ℕ, zero, suc, ◌+◌, ◌<◌, Bool, true, false, cond, List, [], ◌∷◌, ◌++◌, length, get_or, take, drop, map, filter, Contains, sym, ◌∙◌, ap, ◌⊎◌, inl, inr, refl, arith}
 use Rattle.std.specs.List.{insert, remove}
-use Rattle.std.proofs.lemmas.Bool.{cases_lt}
 use Rattle.std.proofs.lemmas.List.{drop-map, drop_more, get_or-map, length-map, map-append, take-map, take-append-drop}
 use Rattle.std.proofs.lemmas.List.Elements.{All-contains, All-contains_itself, All-filter, Contains-get_or, filter-append, filter_passes}
-use Rattle.std.proofs.lemmas.List.Edits.{get_or-remove_above, get_or-remove_below, length-remove}
 use Rattle.std.proofs.lemmas.List.Sorted.{Contains-permutation, IsPermutation-insert, IsPermutation-remove, IsPermutation-sym}
 
 module _ {X : Type 0} where
@@ -26,25 +24,9 @@ module _ {X : Type 0} where
   pub Contains-insert_cases : (xs : List X) (at : ℕ) (x y : X) → Contains (insert xs at x) y → (y ≡ x) ⊎ Contains xs y
   Contains-insert_cases xs at x y there = Contains-cons_cases xs x y (Contains-permutation (insert xs at x) (x ∷ xs) y (IsPermutation-sym (x ∷ xs) (insert xs at x) (IsPermutation-insert xs at x)) there)
 
-  pub Contains-insert_first : (xs : List X) (at : ℕ) (x : X) → Contains (insert xs at x) x
-  Contains-insert_first xs at x = Contains-permutation (x ∷ xs) (insert xs at x) x (IsPermutation-insert xs at x) (Contains-first xs x)
-
-  pub Contains-insert_kept : (xs : List X) (at : ℕ) (x y : X) → Contains xs y → Contains (insert xs at x) y
-  Contains-insert_kept xs at x y there = Contains-permutation (x ∷ xs) (insert xs at x) y (IsPermutation-insert xs at x) (Contains-later xs x y there)
-
   -- what is there after a removal
-  pub Contains-remove_cases : (xs : List X) (at : ℕ) (x y : X) → at < length xs → get_or xs at x ≡ x → Contains xs y → (y ≡ x) ⊎ Contains (remove xs at) y
-  Contains-remove_cases xs at x y within here there = Contains-cons_cases (remove xs at) x y (Contains-permutation xs (x ∷ remove xs at) y (IsPermutation-remove xs at x within (sym here)) there)
-
   pub Contains-from_remove : (xs : List X) (at : ℕ) (x y : X) → at < length xs → get_or xs at x ≡ x → Contains (remove xs at) y → Contains xs y
   Contains-from_remove xs at x y within here there = Contains-permutation (x ∷ remove xs at) xs y (IsPermutation-sym xs (x ∷ remove xs at) (IsPermutation-remove xs at x within (sym here))) (Contains-later (remove xs at) x y there)
-
-  -- an item that stood once is gone
-  pub gone_after_remove : (xs : List X) (at : ℕ) (x : X) → at < length xs → get_or xs at x ≡ x → AllPairs ◌≢◌ xs → Contains (remove xs at) x → ⊥
-  gone_after_remove xs at x within here once there = elim (cases_lt there.0 at) [
-    | inl below ↦ once there.0 at x below within (sym (get_or-remove_below xs at x there.0 below within) ∙ there.2 ∙ sym here)
-    | inr above ↦ once at (there.0 + 1) x (omega arith) (omega (arith, length-remove xs at within, there.1)) (here ∙ sym there.2 ∙ get_or-remove_above xs at x there.0 above within)
-  ]
 
   -- what a filter keeps was there and passes
   pub Contains-from_filter : (p : X → Bool) (xs : List X) (x : X) → Contains (filter p xs) x → Contains xs x × (p x ≡ true)

@@ -11,10 +11,10 @@ use Rattle.cache_ident.proofs.RollLemmas.{same_ident}
 use Rattle.depend_lists.specs.declared.nodes.Class.{Class}
 use Rattle.depend_lists.specs.declared.nodes.Node.{Node}
 use Rattle.depend_lists.specs.Pairs.{without}
-use Rattle.depend_lists.specs.Indexes.{turned}
+use Rattle.depend_lists.specs.Indexes.{turned, Mirrors}
 use Rattle.depend_lists.proofs.RisingLemmas.{filter_all}
 use Rattle.depend_lists.proofs.ListLemmas.{Contains-filter, Contains-from_filter}
-use Rattle.depend_lists.proofs.EditLemmas.{Mirrors}
+use Rattle.depend_lists.proofs.MirrorLemmas.{both_ways}
 
 module _ (parents : List (Ident × (Class × Ident))) (child : Ident) (from to : ℕ) (run : slice_range parents from to ≡ filter (λ entry. is_same entry.0 child) parents) where
   -- the first of a run is of the child
@@ -28,10 +28,10 @@ module _ (parents : List (Ident × (Class × Ident))) (child : Ident) (from to :
 
   -- where the run is empty, all pairs are of other children
   pub none_in_run : (pairs : List (Ident × Node)) → Mirrors pairs parents → to ≤ from → without pairs child ≡ pairs
-  none_in_run pairs both empty = filter_all (λ pair. not (is_same pair.1.ident child)) pairs (λ k d lt. other (get_or pairs k d) (Contains-get_or pairs k d lt) (is_same (get_or pairs k d).1.ident child) refl)
+  none_in_run pairs mirrored empty = filter_all (λ pair. not (is_same pair.1.ident child)) pairs (λ k d lt. other (get_or pairs k d) (Contains-get_or pairs k d lt) (is_same (get_or pairs k d).1.ident child) refl)
     where
       other : (pair : Ident × Node) → Contains pairs pair → (b : Bool) → is_same pair.1.ident child ≡ b → not (is_same pair.1.ident child) ≡ true
       other pair there false differs = not_from_false _ differs
       other pair there true same =
-          let in_run = subst (λ entries. Contains entries (turned pair)) (sym run) (Contains-filter (λ e. is_same e.0 child) parents (turned pair) ((both pair).1 there) same) in
+          let in_run = subst (λ entries. Contains entries (turned pair)) (sym run) (Contains-filter (λ e. is_same e.0 child) parents (turned pair) ((both_ways pairs parents mirrored pair).1 there) same) in
           absurd (omega (arith, in_run.1, length-take (to - from) (drop from parents)))

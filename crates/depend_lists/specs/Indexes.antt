@@ -1,5 +1,5 @@
 -- What holds of the lists in which the pairs stand.
-use Rattle.std.specs.Prelude.{◌≡◌, ◌↔◌, ◌*◌, ◌≤◌, map, Contains, Vec, vec_len, vec_capacity}
+use Rattle.std.specs.Prelude.{◌≡◌, ◌*◌, ◌≤◌, Bool, List, map, count_by, Vec, vec_capacity}
 use Rattle.std.specs.declared.alloc.Global.{Global}
 use Rattle.std.specs.declared.cmp.Ordering.{Ordering}
 use Rattle.cache_ident.specs.declared.idents.Ident.{Ident}
@@ -25,14 +25,17 @@ pair_cmp = by_parts (ident.ghosts).cmp (node.ghosts).cmp
 abbrev pub turned_cmp : Ident × (Class × Ident) → Ident × (Class × Ident) → Ordering
 turned_cmp = by_parts (ident.ghosts).cmp (by_parts (class.ghosts).cmp (ident.ghosts).cmp)
 
+-- the other list has each pair from its other end, and nothing else: as many pass a test there, whichever it is
+abbrev pub Mirrors : List (Ident × Node) → List (Ident × (Class × Ident)) → Type 0
+Mirrors pairs parents = (test : Ident × (Class × Ident) → Bool) → count_by test parents ≡ count_by (λ pair. test (turned pair)) pairs
+
 -- the lists are in order, agree, and have room for all that may come
 pub record IsSound (caps : Caps) (pairs : Vec (Ident × Node) Global) (children : Vec Node Global) (parents : Vec (Ident × (Class × Ident)) Global) : Type 0 where
   pub proper : IsProper (record { caps = caps; pairs = pairs.items })
   pub rising : IsRising pair_cmp pairs.items
   pub alone : children.items ≡ map (λ pair. pair.1) pairs.items
   pub turned_rising : IsRising turned_cmp parents.items
-  pub both_ways : (pair : Ident × Node) → Contains parents.items (turned pair) ↔ Contains pairs.items pair
-  pub as_many : vec_len parents ≡ vec_len pairs
+  pub mirrored : Mirrors pairs.items parents.items
   pub pairs_room : MOST_PARENTS * count_of caps ≤ vec_capacity pairs
   pub children_room : MOST_PARENTS * count_of caps ≤ vec_capacity children
   pub parents_room : MOST_PARENTS * count_of caps ≤ vec_capacity parents

@@ -1,8 +1,10 @@
 -- The pairs of a parent and a child that depends on it.
 use Rattle.std.specs.Prelude.{◌≡◌, ◌≢◌, ℕ, ◌+◌, ◌<◌, ◌≤◌, not, List, length, map, filter, count_by, insert, remove, slice_index_or, Contains, AllPairs}
+use Rattle.std.specs.Ordering.{is_lt}
 use Rattle.cache_ident.specs.declared.idents.Ident.{Ident}
 use Rattle.cache_ident.specs.declared.idents.Kind.{Kind}
 use Rattle.cache_ident.specs.declared.names.Caps.{Caps}
+use Rattle.cache_ident.specs.contracts.idents.IdentOrd.TheImpl as ident_order
 use Rattle.cache_ident.specs.Names.{amount_of}
 use Rattle.cache_ident.specs.Rolls.{is_same}
 use Rattle.depend_lists.specs.declared.nodes.Node.{Node}
@@ -28,6 +30,10 @@ without pairs child = filter (λ pair. not (is_same pair.1.ident child)) pairs
 -- how many parents a child has
 abbrev pub parent_count : List (Ident × Node) → Ident → ℕ
 parent_count pairs child = count_by (λ pair. is_same pair.1.ident child) pairs
+
+-- how many pairs have a child before this one, in the order of identifiers
+abbrev pub place_of : List (Ident × Node) → Ident → ℕ
+place_of pairs child = count_by (λ pair. is_lt ((ident_order.ghosts).cmp pair.1.ident child)) pairs
 
 -- the new list has the pair too, at some place, and else is the old one
 abbrev pub IsAdded : List (Ident × Node) → List (Ident × Node) → Ident × Node → Type 0
@@ -59,3 +65,11 @@ IsTakenOut old new pair = (at : ℕ) × (at < length old) × (slice_index_or old
 -- a pair of the list with that child
 abbrev pub IsChildPair : List (Ident × Node) → Ident → Ident × Node → Type 0
 IsChildPair pairs child pair = Contains pairs pair × (pair.1.ident ≡ child)
+
+-- the child is one of these pairs
+abbrev pub IsChild : List (Ident × Node) → Ident → Type 0
+IsChild pairs child = (pair : Ident × Node) × IsChildPair pairs child pair
+
+-- no other child of these pairs has the place
+abbrev pub IsAloneAt : List (Ident × Node) → Ident → ℕ → Type 0
+IsAloneAt pairs child place = (other : Ident) → IsChild pairs other → place_of pairs other ≡ place → other ≡ child

@@ -1,7 +1,7 @@
 //! The pairs of parent and child, in order of parent.
 
-ghost use Rattle.std.specs.Prelude.{◌≡◌, ◌≢◌, ◌+◌, ◌<◌, [], ◌∷◌, remove, Contains, IfOk, IfSome, IfNone};
-ghost use Rattle.depend_lists.specs.Pairs.{children_of, parent_count, without, HasOneClass, IsAdded, IsChildPair, IsProper, IsTakenOut, IsWithin};
+ghost use Rattle.std.specs.Prelude.{◌≡◌, ◌≢◌, ◌+◌, ◌*◌, ◌<◌, ◌≤◌, length, [], ◌∷◌, remove, Contains, IfOk, IfSome, IfNone};
+ghost use Rattle.depend_lists.specs.Pairs.{children_of, count_of, parent_count, place_of, without, HasOneClass, IsAdded, IsAloneAt, IsChild, IsChildPair, IsProper, IsTakenOut, IsWithin};
 
 use super::nodes::{self, Class, MOST_PARENTS, Node};
 use super::rising;
@@ -81,6 +81,18 @@ impl Depends {
     {
         let (from, to) = rising::run_of(&self.pairs, &parent);
         &self.children[from..to]
+    }
+
+    /// A number for each child: how many pairs have a child before it in the order of identifiers. While the pairs
+    /// stay it stays too, and no other child of a pair has it, so that it can index a table made once for the
+    /// capacities. One search in the pairs.
+    pub fn place(&self, child: Ident) -> usize
+        ensures place { result ≡ place_of self.now.pairs child }
+        ensures within { IsChild self.now.pairs child → result < length self.now.pairs }
+        ensures few { length self.now.pairs ≤ MOST_PARENTS * count_of self.now.caps }
+        ensures alone { IsChild self.now.pairs child → IsAloneAt self.now.pairs child result }
+    {
+        rising::begin_of(&self.parents, &child)
     }
 
     // A pair with that child.

@@ -1,7 +1,9 @@
 //! Lists whose items rise, no item twice. Their room is made once.
 
-ghost use Rattle.std.specs.Prelude.{◌≡◌, ◌≢◌, ◌+◌, ◌<◌, ◌≤◌, length, All, Contains, filter, insert, remove, slice_index_or, slice_range, vec_len, vec_capacity};
+ghost use Rattle.std.specs.Prelude.{◌≡◌, ◌≢◌, ◌+◌, ◌<◌, ◌≤◌, length, true, false, All, Contains, filter, insert, remove, slice_index_or, slice_range, vec_len, vec_capacity};
 ghost use Rattle.std.specs.declared.cmp.Ordering.TheVariants.{Equal};
+ghost use Rattle.std.specs.List.Sorted.{IsPartitionPoint};
+ghost use Rattle.std.specs.Ordering.{is_lt};
 ghost use Rattle.depend_lists.specs.Rising.{IsRising, by_parts};
 
 /// Puts an item at its place, and answers that place. There is room, so no memory is taken.
@@ -44,6 +46,15 @@ pub(crate) fn take<T: Ord + Drop>(list: &mut Vec<T>, item: &T) -> usize
     }
 }
 
+/// Where the items with that key begin, or would stand. One search.
+pub(crate) fn begin_of<K: Ord, V: Ord>(list: &[(K, V)], key: &K) -> usize
+    requires { IsRising (by_parts K.cmp V.cmp) list.now }
+    ensures within { result ≤ length list.now }
+    ensures parted { IsPartitionPoint (λ item. is_lt (K.cmp item.0 key.now) ≡ true) (λ item. is_lt (K.cmp item.0 key.now) ≡ false) list.now result }
+{
+    list.partition_point(|item| item.0 < *key)
+}
+
 /// Where the items with that key begin, and where they end.
 pub(crate) fn run_of<K: Ord, V: Ord>(list: &[(K, V)], key: &K) -> (usize, usize)
     requires { IsRising (by_parts K.cmp V.cmp) list.now }
@@ -51,7 +62,7 @@ pub(crate) fn run_of<K: Ord, V: Ord>(list: &[(K, V)], key: &K) -> (usize, usize)
     ensures within { result.1 ≤ length list.now }
     ensures run { slice_range list.now result.0 result.1 ≡ filter (λ item. K.eq item.0 key.now) list.now }
 {
-    let from = list.partition_point(|item| item.0 < *key);
+    let from = begin_of(list, key);
     let to = list.partition_point(|item| item.0 <= *key);
     (from, to)
 }

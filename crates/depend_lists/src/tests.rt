@@ -66,8 +66,15 @@ fn children_come_and_go(rt: HostRuntime) -> Result<(), Fail> {
     assert_eq!(rt; depends.children(b), [row].as_slice());
     assert_eq!(rt; depends.children(space), [row, other].as_slice());
     assert_eq!(rt; depends.children(row.ident), [].as_slice());
+    assert_eq!(rt; depends.place(row.ident), 0);
+    assert_eq!(rt;
+        depends.place(other.ident),
+        5,
+        "behind the five pairs of the row"
+    );
     depends.remove(row.ident);
     assert_eq!(rt; depends.children(b), [].as_slice());
     assert_eq!(rt; depends.children(space), [other].as_slice());
+    assert_eq!(rt; depends.place(other.ident), 0);
     Ok(())
 }

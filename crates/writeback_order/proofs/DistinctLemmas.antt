@@ -4,8 +4,7 @@ use Rattle.std.specs.Cmp.{both_ways}
 use Rattle.std.specs.List.{IsDistinct}
 use Rattle.std.specs.List.Sorted.{IsPermutation}
 use Rattle.std.proofs.lemmas.Bool.{cases_Bool, false≢true, not-false}
-use Rattle.std.proofs.lemmas.List.Sorted.{IsPermutation-refl, sum_by_pushed}
-use Rattle.std.proofs.lemmas.List.Sums.{length-filter}
+use Rattle.std.proofs.lemmas.List.Sums.{length-filter, sum_by-cons}
 use Rattle.std.proofs.lemmas.Map.Keys.{IsDistinct-IsPermutation, IsDistinct-from_apart, apart_from_distinct}
 use Rattle.cache_ident.specs.declared.idents.Ident.{Ident}
 use Rattle.cache_ident.specs.Rolls.{is_same}
@@ -42,22 +41,22 @@ module _ {X : Type 0} (key : X → Ident) where
       let after : IsDistinct test ys = IsDistinct-IsPermutation test (λ a b. flips (key a) (key b)) xs ys moved before in
       false≢true (sym (apart_from_distinct test ys i j d after lt within) ∙ ap (is_same (key (get_or ys i d))) (sym same) ∙ is_same-refl (key (get_or ys i d)))
 
--- an identifier stands at most once
-pub count_once : (idents : List Ident) → AllPairs ◌≢◌ idents → (i : Ident) → count_by (λ x. is_same x i) idents ≤ 1
-count_once [] once i = omega arith
-count_once (x ∷ xs) once i = by_test (count_once xs behind i) (is_same x i) refl
-  where
-    behind : AllPairs ◌≢◌ xs
-    behind j k d lt within = once (suc j) (suc k) d (omega arith) (omega arith)
+  -- so an identifier stands at most once
+  pub count_once : (xs : List X) → AllPairs (λ a b. key a ≢ key b) xs → (i : Ident) → count_by (λ x. is_same (key x) i) xs ≤ 1
+  count_once [] once i = omega arith
+  count_once (x ∷ xs) once i = by_test (count_once xs behind i) (is_same (key x) i) refl
+    where
+      behind : AllPairs (λ a b. key a ≢ key b) xs
+      behind j k d lt within = once (suc j) (suc k) d (omega arith) (omega arith)
 
-    counted : count_by (λ x. is_same x i) (x ∷ xs) ≡ cond (is_same x i) 1 0 + count_by (λ x. is_same x i) xs
-    counted = sum_by_pushed (λ x. cond (is_same x i) 1 0) x xs (x ∷ xs) (IsPermutation-refl (x ∷ xs))
+      counted : count_by (λ x. is_same (key x) i) (x ∷ xs) ≡ cond (is_same (key x) i) 1 0 + count_by (λ x. is_same (key x) i) xs
+      counted = sum_by-cons (λ x. cond (is_same (key x) i) 1 0) x xs
 
-    counts : Bool → ℕ
-    counts b = cond b 1 0
+      counts : Bool → ℕ
+      counts b = cond b 1 0
 
-    by_test : count_by (λ x. is_same x i) xs ≤ 1 → (b : Bool) → is_same x i ≡ b → count_by (λ x. is_same x i) (x ∷ xs) ≤ 1
-    by_test rest false other = omega (arith, counted, ap counts other, rest)
-    by_test rest true same =
-        let nothing = filter_none (λ x. is_same x i) xs (λ k d lt. differ (get_or xs k d) i (λ there. once 0 (suc k) d (omega arith) (omega arith) (same_ident x i same ∙ sym there))) in
-        omega (arith, counted, ap counts same, length-filter (λ x. is_same x i) xs, ap length nothing)
+      by_test : count_by (λ x. is_same (key x) i) xs ≤ 1 → (b : Bool) → is_same (key x) i ≡ b → count_by (λ x. is_same (key x) i) (x ∷ xs) ≤ 1
+      by_test rest false other = omega (arith, counted, ap counts other, rest)
+      by_test rest true same =
+          let nothing = filter_none (λ x. is_same (key x) i) xs (λ k d lt. differ (key (get_or xs k d)) i (λ there. once 0 (suc k) d (omega arith) (omega arith) (same_ident (key x) i same ∙ sym there))) in
+          omega (arith, counted, ap counts same, length-filter (λ x. is_same (key x) i) xs, ap length nothing)

@@ -1,36 +1,68 @@
--- An identifier gets its place among those that were seen.
-use Rattle.std.proofs.Common.{◌≡◌, ℕ, ◌≤◌, List, length, Contains, ◌∙◌, ap, inl, inr, arith}
-use Rattle.std.specs.declared.cmp.Ordering.{Ordering}
-use Rattle.std.specs.declared.cmp.Ordering.TheVariants.{Less, Equal, Greater}
-use Rattle.std.specs.List.{insert}
-use Rattle.std.specs.List.Sorted.{IsNonDecreasingBy, IsPartitionPoint}
-use Rattle.std.specs.Ordering.{ordering_index}
-use Rattle.std.proofs.lemmas.Bool.{cases_lt}
-use Rattle.std.proofs.lemmas.Cmp.{tied_itself}
-use Rattle.std.proofs.lemmas.List.Sorted.{searchable_from_sorted}
+-- The marks, one for each place that a child can have, and the nodes that were gathered.
+use Rattle.std.proofs.Common.{◌≡◌, ℕ, ◌+◌, ◌<◌, ◌≤◌, Bool, true, false, List, [], ◌∷◌, ◌++◌, length, get_or, drop, Contains, sym, ◌∙◌, ap, subst, inl, inr, arith}
+use Rattle.std.proofs.Math.ListN.{replicate, set}
+use Rattle.std.proofs.lemmas.Bool.{cases_Bool, cases_eq, cases_lt, false≢true}
+use Rattle.std.proofs.lemmas.List.{drop_all, drop_more, ext_get_or, get_or-map, get_or-replicate, get_or-set_other, get_or-set_same, get_or_past, length-map, length-replicate, map_push}
+use Rattle.std.proofs.lemmas.List.Elements.{Contains-append_left, Contains-push, Contains-push_cases}
 use Rattle.cache_ident.specs.declared.idents.Ident.{Ident}
-use Rattle.cache_ident.specs.contracts.idents.IdentOrd.TheImpl as ident_order
-use Rattle.cache_ident.specs.contracts.idents.IdentOrd.TheImpl.Laws as ident_laws
-use Rattle.depend_lists.specs.Rising.{IsRising}
-use Rattle.depend_lists.proofs.RisingLemmas.{less≢equal, rising-insert, sorted_from_rising}
+use Rattle.cache_ident.specs.declared.idents.Kind.TheVariants as kind
+use Rattle.depend_lists.specs.declared.nodes.Class.TheVariants as class
+use Rattle.depend_lists.specs.declared.nodes.Node.{Node}
+use Rattle.depend_lists.specs.Pairs.{place_of}
+use Rattle.depend_lists.proofs.ListLemmas.{Contains-cons_cases}
+use Rattle.writeback_order.specs.Gathering.{places_of, IsMarked}
 
-greater≢equal : (o : Ordering) → o ≡ Greater → o ≡ Equal → ⊥
-greater≢equal o greater equal = cc
+-- what is read past the end of a list
+abbrev pub nobody : Node
+nobody = record { ident = record { kind = kind.Kernel; slot = 0; serial = 0 }; class = class.MessageRow }
 
-abbrev pub ident_cmp : Ident → Ident → Ordering
-ident_cmp = (ident_order.ghosts).cmp
+none_set : (n at : ℕ) → get_or (replicate n false) at false ≡ false
+none_set n at = elim (cases_lt at n) [
+  | inl within ↦ get_or-replicate n at false false within
+  | inr past ↦ get_or_past (replicate n false) at false (omega (arith, past, length-replicate n false))
+]
 
--- what a search that ended at a gap says: the identifier isn't there, and would stand in order there
-pub gap_of : (seen : List Ident) (ident : Ident) (at : ℕ) → IsRising ident_cmp seen → at ≤ length seen → (IsNonDecreasingBy (λ other. ordering_index (ident_cmp other ident)) seen → IsPartitionPoint (λ other. ident_cmp other ident ≡ Less) (λ other. ident_cmp other ident ≡ Greater) seen at) → record { absent : Contains seen ident → ⊥; rising : IsRising ident_cmp (insert seen at ident) }
-gap_of seen ident at rising within position =
-    let parted = position (searchable_from_sorted ident_laws.total-law (λ x. x) seen ident (sorted_from_rising ident_cmp ident_laws.total-law seen rising)) in
-    let itself = tied_itself ident_laws.total-law ident in
-    record {
-      absent = λ there.
-          let same = ap (λ other. ident_cmp other ident) there.2 ∙ itself in
-          elim (cases_lt there.0 at) [
-            | inl before ↦ less≢equal _ (parted.0 there.0 ident (omega arith) before) same
-            | inr behind ↦ greater≢equal _ (parted.1 there.0 ident behind there.1) same
-          ];
-      rising = rising-insert ident_cmp ident_laws.total-law seen ident at within rising parted;
-    }
+-- a node more, and the mark at its place
+pub marked_more : (pairs : List (Ident × Node)) (nodes : List Node) (marks : List Bool) (child : Node) (place : ℕ) → place ≡ place_of pairs child.ident → place < length marks → IsMarked pairs nodes marks → IsMarked pairs (nodes ++ child ∷ []) (set marks place true)
+marked_more pairs nodes marks child place is within marked at =
+    let places = places_of pairs nodes in
+    rw (map_push (λ (n : Node). place_of pairs n.ident) nodes child, ← is) (elim (cases_eq at place) [
+      | inl here ↦ (
+        λ is_set. subst (Contains (places ++ place ∷ [])) (sym here) (Contains-push places place),
+        λ there. ap (λ k. get_or (set marks place true) k false) here ∙ get_or-set_same marks place true false within,
+      )
+      | inr other ↦ (
+        λ is_set. Contains-append_left places (place ∷ []) at ((marked at).0 (sym (get_or-set_other marks place at true false other) ∙ is_set)),
+        λ there. get_or-set_other marks place at true false other ∙ (marked at).1 (elim (Contains-push_cases places place at there) [
+          | inl was ↦ was
+          | inr same ↦ absurd (other (sym same))
+        ]),
+      )
+    ])
+
+-- the marks that are set are at places of nodes from the n-th on
+abbrev pub AreLeft : List (Ident × Node) → List Node → ℕ → List Bool → Type 0
+AreLeft pairs nodes n marks = (at : ℕ) → get_or marks at false ≡ true → Contains (drop n (places_of pairs nodes)) at
+
+module _ (pairs : List (Ident × Node)) (nodes : List Node) (n : ℕ) (marks : List Bool) (left : AreLeft pairs nodes n marks) where
+  -- also once the mark of that one was taken away
+  pub left_more : (node : Node) (place : ℕ) → n < length nodes → get_or nodes n node ≡ node → place ≡ place_of pairs node.ident → place < length marks → AreLeft pairs nodes (n + 1) (set marks place false)
+  left_more node place more here is within at is_set =
+      let places = places_of pairs nodes in
+      let place_here : get_or places n place ≡ place = get_or-map (λ (m : Node). place_of pairs m.ident) nodes n node place more ∙ ap (λ (m : Node). place_of pairs m.ident) here ∙ sym is in
+      elim (cases_eq at place) [
+        | inl same ↦ absurd (false≢true (sym (ap (λ k. get_or (set marks place false) k false) same ∙ get_or-set_same marks place false false within) ∙ is_set))
+        | inr other ↦ elim (Contains-cons_cases (drop (n + 1) places) (get_or places n place) at (subst (λ ps. Contains ps at) (drop_more places n place (omega (arith, more, length-map nodes (λ (m : Node). place_of pairs m.ident)))) (left at (sym (get_or-set_other marks place at false false other) ∙ is_set)))) [
+          | inl first ↦ absurd (other (first ∙ place_here))
+          | inr later ↦ later
+        ]
+      ]
+
+  -- in the end none is set
+  pub left_none : (m : ℕ) → length nodes ≤ n → length marks ≡ m → marks ≡ replicate m false
+  left_none m all long = ext_get_or false marks (replicate m false) (long ∙ sym (length-replicate m false)) (λ at lt. elim (cases_Bool (get_or marks at false)) [
+    | inl is_set ↦
+        let nothing = drop_all n (places_of pairs nodes) (omega (arith, all, length-map nodes (λ (k : Node). place_of pairs k.ident))) in
+        absurd (omega (arith, (subst (λ ps. Contains ps at) nothing (left at is_set)).1))
+    | inr clear ↦ clear ∙ sym (none_set m at)
+  ])

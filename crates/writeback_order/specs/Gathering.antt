@@ -1,17 +1,32 @@
 -- What holds while the dependents of a root are gathered.
-use Rattle.std.specs.Prelude.{◌≡◌, ◌≢◌, List, ◌++◌, map, Contains, AllPairs, ◌⊎◌}
-use Rattle.std.specs.List.Sorted.{IsPermutation}
+use Rattle.std.specs.Prelude.{◌≡◌, ◌≢◌, ◌↔◌, ℕ, ◌*◌, Bool, true, false, List, ◌++◌, map, replicate, slice_index_or, Contains, AllPairs, ◌⊎◌}
 use Rattle.cache_ident.specs.declared.idents.Ident.{Ident}
-use Rattle.cache_ident.specs.contracts.idents.IdentOrd.TheImpl as ident_order
+use Rattle.cache_ident.specs.declared.names.Caps.{Caps}
 use Rattle.depend_lists.specs.declared.nodes.Node.{Node}
-use Rattle.depend_lists.specs.Rising.{IsRising}
+use Rattle.depend_lists.specs.declared.nodes.TheConstants.{MOST_PARENTS}
+use Rattle.depend_lists.specs.Pairs.{count_of, place_of}
 use Rattle.writeback_order.specs.Order.{DependsOn}
 
--- what was gathered depends on the root and isn't the root, and the identifiers that were seen are theirs
-pub record IsGathered (pairs : List (Ident × Node)) (root : Ident) (nodes : List Node) (seen : List Ident) : Type 0 where
+-- no identifier stands twice
+abbrev pub IsApart : List Node → Type 0
+IsApart nodes = AllPairs (λ a b. a.ident ≢ b.ident) nodes
+
+-- what was gathered depends on the root and isn't the root, each once
+pub record IsGathered (pairs : List (Ident × Node)) (root : Ident) (nodes : List Node) : Type 0 where
   pub reached : (node : Node) → Contains nodes node → DependsOn pairs root node × (node.ident ≢ root)
-  pub marked : IsPermutation (map (λ node. node.ident) nodes) seen
-  pub rising : IsRising (ident_order.ghosts).cmp seen
+  pub apart : IsApart nodes
+
+-- the places of the nodes among the children of the pairs
+abbrev pub places_of : List (Ident × Node) → List Node → List ℕ
+places_of pairs nodes = map (λ node. place_of pairs node.ident) nodes
+
+-- the marks that are set are those at the places of the nodes
+abbrev pub IsMarked : List (Ident × Node) → List Node → List Bool → Type 0
+IsMarked pairs nodes marks = (place : ℕ) → (slice_index_or marks place false ≡ true) ↔ Contains (places_of pairs nodes) place
+
+-- a mark for each place that a child can have, and none set
+abbrev pub no_marks : Caps → List Bool
+no_marks caps = replicate (MOST_PARENTS * count_of caps) false
 
 -- the children of the parent depend on the root
 abbrev pub IsUnder : List (Ident × Node) → Ident → Ident → Type 0
@@ -24,7 +39,3 @@ HasChildrenOf pairs root parent nodes = (node : Node) → Contains pairs (parent
 -- the new list begins with the old one
 abbrev pub IsExtended : List Node → List Node → Type 0
 IsExtended old new = (more : List Node) × (new ≡ old ++ more)
-
--- no identifier stands twice
-abbrev pub IsApart : List Node → Type 0
-IsApart nodes = AllPairs (λ a b. a.ident ≢ b.ident) nodes

@@ -1,79 +1,74 @@
 //! Gathers what depends on a root.
 
-ghost use Rattle.std.specs.Prelude.{◌≡◌, ◌+◌, ◌<◌, ◌≤◌, ◌∷◌, Contains, vec_len, vec_capacity};
-ghost use Rattle.std.specs.List.Sorted.{IsPermutation};
-ghost use Rattle.std.specs.Bool.{OnTrue, OnFalse};
-ghost use Rattle.cache_ident.specs.contracts.idents.IdentOrd.TheImpl as ident_order;
-ghost use Rattle.depend_lists.specs.Rising.{IsRising};
-ghost use Rattle.depend_lists.specs.Pairs.{count_of, IsProper};
+ghost use Rattle.std.specs.Prelude.{◌≡◌, ◌*◌, ◌≤◌, length, All, vec_len, vec_capacity};
+ghost use Rattle.depend_lists.specs.declared.nodes.TheConstants.{MOST_PARENTS};
+ghost use Rattle.depend_lists.specs.Pairs.{count_of, IsChild, IsProper};
 ghost use Rattle.writeback_order.specs.Order.{IsClosure};
-ghost use Rattle.writeback_order.specs.Gathering.{HasChildrenOf, IsApart, IsExtended, IsGathered, IsUnder};
+ghost use Rattle.writeback_order.specs.Gathering.{no_marks, HasChildrenOf, IsApart, IsExtended, IsGathered, IsMarked, IsUnder};
 
 use cache_ident::Ident;
 use depend_lists::{Depends, Node};
 
-/// Puts all that depends on the root into `nodes`, each once.
-pub(crate) fn gather(depends: &Depends, root: Ident, nodes: &mut Vec<Node>, seen: &mut Vec<Ident>)
-    requires nodes_room { count_of depends.now.caps ≤ vec_capacity nodes.old }
-    requires seen_room { count_of depends.now.caps ≤ vec_capacity seen.old }
+/// Puts all that depends on the root into `nodes`, each once. The marks tell by the places of the children which of
+/// them are there already; in the end none is set again.
+pub(crate) fn gather(depends: &Depends, root: Ident, nodes: &mut Vec<Node>, marks: &mut [bool])
+    requires room { count_of depends.now.caps ≤ vec_capacity nodes.old }
+    requires unmarked { marks.old ≡ no_marks depends.now.caps }
     ensures closure { IsClosure depends.now.pairs root nodes.new.items }
     ensures apart { IsApart nodes.new.items }
     ensures few { vec_len nodes.new ≤ count_of depends.now.caps }
-    ensures nodes_capacity { vec_capacity nodes.old ≤ vec_capacity nodes.new }
-    ensures seen_capacity { vec_capacity seen.old ≤ vec_capacity seen.new }
+    ensures capacity { vec_capacity nodes.old ≤ vec_capacity nodes.new }
+    ensures unmarked { marks.new ≡ no_marks depends.now.caps }
 {
     nodes.clear();
-    seen.clear();
-    gather_children(depends, root, root, nodes, seen);
+    gather_children(depends, root, root, nodes, marks);
     let mut next = 0;
     while next < nodes.len() {
         let parent = nodes[next].ident;
-        gather_children(depends, root, parent, nodes, seen);
+        gather_children(depends, root, parent, nodes, marks);
         next += 1;
     }
+    unmark(depends, nodes, marks);
 }
 
-// Adds the children of the parent that aren't there yet.
+// Adds the children of the parent that aren't there yet, and marks them.
 fn gather_children(
     depends: &Depends,
     root: Ident,
     parent: Ident,
     nodes: &mut Vec<Node>,
-    seen: &mut Vec<Ident>,
+    marks: &mut [bool],
 )
-    requires gathered { IsGathered depends.now.pairs root nodes.old.items seen.old.items }
+    requires gathered { IsGathered depends.now.pairs root nodes.old.items }
+    requires marked { IsMarked depends.now.pairs nodes.old.items marks.old }
     requires under { IsUnder depends.now.pairs root parent }
-    requires nodes_room { count_of depends.now.caps ≤ vec_capacity nodes.old }
-    requires seen_room { count_of depends.now.caps ≤ vec_capacity seen.old }
+    requires room { count_of depends.now.caps ≤ vec_capacity nodes.old }
+    requires places { MOST_PARENTS * count_of depends.now.caps ≤ length marks.old }
     ensures proper { IsProper depends.now }
-    ensures gathered { IsGathered depends.now.pairs root nodes.new.items seen.new.items }
+    ensures gathered { IsGathered depends.now.pairs root nodes.new.items }
+    ensures marked { IsMarked depends.now.pairs nodes.new.items marks.new }
     ensures extended { IsExtended nodes.old.items nodes.new.items }
     ensures children { HasChildrenOf depends.now.pairs root parent nodes.new.items }
     ensures few { vec_len nodes.new ≤ count_of depends.now.caps }
-    ensures nodes_capacity { vec_capacity nodes.old ≤ vec_capacity nodes.new }
-    ensures seen_capacity { vec_capacity seen.old ≤ vec_capacity seen.new }
+    ensures capacity { vec_capacity nodes.old ≤ vec_capacity nodes.new }
 {
     for child in depends.children(parent) {
-        if child.ident != root && mark(seen, child.ident) {
+        let place = depends.place(child.ident);
+        if child.ident != root && !marks[place] {
+            marks[place] = true;
             let _ = nodes.push(*child);
         }
     }
 }
 
-// Puts the identifier among those that were seen, and answers whether it is new there.
-fn mark(seen: &mut Vec<Ident>, ident: Ident) -> bool
-    requires rising { IsRising (ident_order.ghosts).cmp seen.old.items }
-    requires room { (Contains seen.old.items ident → ⊥) → vec_len seen.old < vec_capacity seen.old }
-    ensures rising { IsRising (ident_order.ghosts).cmp seen.new.items }
-    ensures new { OnTrue result (IsPermutation (ident ∷ seen.old.items) seen.new.items) }
-    ensures old { OnFalse result (Contains seen.old.items ident × (seen.new.items ≡ seen.old.items)) }
-    ensures capacity { vec_capacity seen.old ≤ vec_capacity seen.new }
+// Takes the marks of the nodes away, so that the time is that of what was gathered and not of all marks.
+fn unmark(depends: &Depends, nodes: &[Node], marks: &mut [bool])
+    requires children { All (λ node. IsChild depends.now.pairs node.ident) nodes.now }
+    requires marked { IsMarked depends.now.pairs nodes.now marks.old }
+    requires places { length marks.old ≡ MOST_PARENTS * count_of depends.now.caps }
+    ensures { marks.new ≡ no_marks depends.now.caps }
 {
-    match seen.binary_search(&ident) {
-        Ok(_) => false,
-        Err(at) => {
-            let _ = seen.insert(at, ident);
-            true
-        }
+    for node in nodes {
+        marks[depends.place(node.ident)] = false;
     }
 }

@@ -7,7 +7,7 @@ ghost use Rattle.writeback_order.specs.Order.{rank_of, IsOrder};
 
 use super::gathering::gather;
 use cache_ident::{Caps, Ident, NoMemory};
-use depend_lists::{Class, Depends, Node, most_loaded};
+use depend_lists::{Class, Depends, MOST_PARENTS, Node, most_loaded};
 use std::alloc::Global;
 use std::marker::Model;
 
@@ -18,20 +18,21 @@ use std::marker::Model;
 pub struct Scratch {
     caps: Caps,
     nodes: Vec<Node>,
-    // The identifiers of what was gathered, so that nothing is gathered twice.
-    seen: Vec<Ident>,
+    // By its place, whether a child was gathered, so that nothing is gathered twice. None is set between two orders.
+    marks: Vec<bool>,
 }
 
 impl Model for Scratch {
-    ghost use Rattle.std.specs.Prelude.{◌<◌, vec_capacity};
+    ghost use Rattle.std.specs.Prelude.{◌≡◌, ◌<◌, vec_capacity};
     ghost use Rattle.depend_lists.specs.Pairs.{count_of};
+    ghost use Rattle.writeback_order.specs.Gathering.{no_marks};
     ghost use Rattle.writeback_order.specs.Scratches.{LastOrder};
 
     ghost Value = { LastOrder };
 
     ghost view = { λ scratch. record { caps = scratch.caps; nodes = scratch.nodes.items } };
 
-    ghost invariant = { λ scratch. (count_of scratch.caps < vec_capacity scratch.nodes) × (count_of scratch.caps < vec_capacity scratch.seen) };
+    ghost invariant = { λ scratch. (count_of scratch.caps < vec_capacity scratch.nodes) × (scratch.marks.items ≡ no_marks scratch.caps) };
 }
 
 impl Scratch {
@@ -39,11 +40,11 @@ impl Scratch {
     pub fn new(alloc: Global, caps: Caps) -> Result<Scratch, NoMemory>
         ensures { IfOk result (λ scratch. scratch ≡ record { caps = caps; nodes = [] }) }
     {
-        let room = most_loaded(caps) + 1;
+        let most = most_loaded(caps);
         Ok(Scratch {
             caps,
-            nodes: Vec::with_capacity(alloc, room)?,
-            seen: Vec::with_capacity(alloc, room)?,
+            nodes: Vec::with_capacity(alloc, most + 1)?,
+            marks: vec![in alloc; false; MOST_PARENTS * most]?,
         })
     }
 
@@ -59,14 +60,14 @@ impl Scratch {
 /// rows, signal rows, other rows, threads, spaces, kernels, within each of these classes by serial, and the root
 /// last.
 ///
-/// It takes no memory. For each pair under what leaves it searches what was gathered so far, and moves what of it is
-/// behind; then it sorts. Of what else is loaded, `Depends::children` searches the pairs twice for each that leaves.
+/// It takes no memory. It searches the pairs three times for each descriptor that leaves and once for each pair under
+/// it, and sorts what leaves. What else is loaded, and the capacities, cost no more than the length of a search.
 pub fn order(depends: &Depends, root: Node, into: &mut Scratch)
     requires { into.old.caps ≡ depends.now.caps }
     ensures caps { into.new.caps ≡ into.old.caps }
     ensures order { IsOrder depends.now.pairs root into.new.nodes }
 {
-    gather(depends, root.ident, &mut into.nodes, &mut into.seen);
+    gather(depends, root.ident, &mut into.nodes, &mut into.marks);
     into.nodes
         .sort_unstable_by_key(|node| (rank(node.class), node.ident.serial, node.ident));
     let _ = into.nodes.push(root);

@@ -79,5 +79,12 @@ fn a_kernel_leaves_with_all(rt: HostRuntime) -> Result<(), Fail> {
     assert_eq!(rt; scratch.nodes(), [message, b, a, c, thread].as_slice());
     order(&depends, other, &mut scratch);
     assert_eq!(rt; scratch.nodes(), [other].as_slice());
+    depends.remove(message.ident);
+    order(&depends, kernel, &mut scratch);
+    assert_eq!(rt;
+        scratch.nodes(),
+        [b, a, d, c, other, thread, space, kernel].as_slice(),
+        "with the same room, and other places than before"
+    );
     Ok(())
 }

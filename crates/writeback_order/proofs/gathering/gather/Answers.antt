@@ -1,7 +1,8 @@
-use Rattle.std.proofs.Common.{◌<◌, length, subst, sym, arith}
+use Rattle.std.proofs.Common.{◌<◌, length, get_or, subst, sym, arith}
+use Rattle.std.proofs.lemmas.List.Elements.{Contains-get_or}
 use Rattle.depend_lists.specs.declared.nodes.Node.{Node}
 use Rattle.writeback_order.specs.Gathering.{HasChildrenOf}
-use Rattle.writeback_order.proofs.GatherLemmas.{children_before_more, closure_from_children, few_gathered, gathered_apart, has_children_more, under_node, under_root}
+use Rattle.writeback_order.proofs.GatherLemmas.{children_before_more, closure_from_children, few_gathered, has_children_more, reached_child, under_node, under_root}
 use Rattle.writeback_order.proofs.gathering.gather.Goals as goal
 
 pub gather_children-requires-clause-under : goal.gather_children-requires-clause-under
@@ -24,16 +25,22 @@ loop-next-preserved c =
     let longer = c.gather_children-in-loop-next.new.nodes.items in
     let within : loop.next < length nodes = omega (arith, c.loop-next-test.true, c.len.ensures, loop.nodes.ok.0) in
     let here = subst (λ (node : Node). HasChildrenOf pairs root node.ident longer) c.index.ensures after.children in
-    let few = few_gathered c.args.depends.now.caps pairs after.proper root longer c.gather_children-in-loop-next.new.seen.items after.gathered in
     record {
       proper = after.proper;
       gathered = after.gathered;
+      marked = after.marked;
       of_root = has_children_more pairs root nodes root longer after.extended loop.invariant.of_root;
       of_nodes = children_before_more pairs root nodes longer loop.next c.index.result.now within after.extended loop.invariant.of_nodes here;
-      few = few;
-      nodes_capacity = omega (arith, after.nodes_capacity, loop.invariant.nodes_capacity);
-      seen_capacity = omega (arith, after.seen_capacity, loop.invariant.seen_capacity);
+      few = few_gathered pairs root longer after.gathered c.args.depends.now.caps after.proper;
+      capacity = omega (arith, after.capacity, loop.invariant.capacity);
     }
+
+-- each node is a child
+pub unmark-requires-clause-children : goal.unmark-requires-clause-children
+unmark-requires-clause-children c = rw c.deref.ensures.value (λ k d lt.
+    let pairs = c.args.depends.now.pairs in
+    let nodes = c.loop-next.nodes.items in
+    reached_child pairs c.args.root (get_or nodes k d) (c.loop-next.invariant.gathered.reached (get_or nodes k d) (Contains-get_or nodes k d lt)).0)
 
 -- the children of each node are there
 pub returns-clause-closure : goal.returns-clause-closure
@@ -43,8 +50,3 @@ returns-clause-closure c =
     let loop = c.loop-next in
     let nodes = loop.nodes.items in
     closure_from_children pairs root nodes loop.invariant.of_root (λ node there. subst (λ (n : Node). HasChildrenOf pairs root n.ident nodes) there.2 (loop.invariant.of_nodes there.0 node (omega (arith, there.1, c.loop-next-test.false, c.len.ensures, loop.nodes.ok.0)))) c.args.depends.now.caps loop.invariant.proper loop.invariant.gathered.reached
-
-pub returns-clause-apart : goal.returns-clause-apart
-returns-clause-apart c =
-    let loop = c.loop-next in
-    gathered_apart c.args.depends.now.caps c.args.depends.now.pairs loop.invariant.proper c.args.root loop.nodes.items loop.seen.items loop.invariant.gathered

@@ -1,6 +1,6 @@
 use Rattle.std.proofs.Common.{◌-◌, ◌≤◌, length, vec_capacity}
 use Rattle.depend_lists.specs.Pairs.{count_of, IsProper}
-use Rattle.writeback_order.specs.Gathering.{HasChildrenOf, IsGathered}
+use Rattle.writeback_order.specs.Gathering.{HasChildrenOf, IsGathered, IsMarked}
 use Rattle.writeback_order.proofs.GatherLemmas.{HasChildrenBefore}
 use Rattle.writeback_order.proofs.gathering.gather.Given as goal
 
@@ -8,12 +8,12 @@ use Rattle.writeback_order.proofs.gathering.gather.Given as goal
 abbrev pub invariant-loop-next : goal.invariant-loop-next
 invariant-loop-next l = record {
   proper : IsProper l.depends;
-  gathered : IsGathered l.depends.pairs l.root l.nodes.items l.seen.items;
+  gathered : IsGathered l.depends.pairs l.root l.nodes.items;
+  marked : IsMarked l.depends.pairs l.nodes.items l.marks;
   of_root : HasChildrenOf l.depends.pairs l.root l.root l.nodes.items;
   of_nodes : HasChildrenBefore l.depends.pairs l.root l.nodes.items l.next;
   few : length l.nodes.items ≤ count_of l.depends.caps;
-  nodes_capacity : vec_capacity l.fn.nodes ≤ vec_capacity l.nodes;
-  seen_capacity : vec_capacity l.fn.seen ≤ vec_capacity l.seen;
+  capacity : vec_capacity l.fn.nodes ≤ vec_capacity l.nodes;
 }
 
 -- no more is gathered than the capacities allow

@@ -17,7 +17,7 @@ returns-clause-order c =
     let apart = apart_permutation (λ (n : Node). n.ident) gathered sorted moved c.gather.ensures.apart in
     let by_key = sort.ensures.sorted (λ node. (rank_of node.class, node.ident.serial, node.ident)) (answers_always _ _ _ (λ f a r h called. search rules)) in
     let one_caps = rw (← c.into.view_is) at c.requires in
-    let room : vec_len sort.new.self < vec_capacity sort.new.self = omega (arith, sort.ensures.len, sort.ensures.capacity, c.gather.ensures.few, c.gather.ensures.nodes_capacity, c.into.invariant.0, ap count_of one_caps) in
+    let room : vec_len sort.new.self < vec_capacity sort.new.self = omega (arith, sort.ensures.len, sort.ensures.capacity, c.gather.ensures.few, c.gather.ensures.capacity, c.into.invariant.0, ap count_of one_caps) in
     record {
       dependents = sorted;
       closure = closure_permutation c.args.depends.now.pairs c.args.root.ident gathered sorted moved c.gather.ensures.closure;

@@ -8,7 +8,8 @@ use Rattle.depend_lists.specs.Indexes.{pair_cmp, turned}
 use Rattle.depend_lists.proofs.RisingLemmas.{once_from_rising}
 use Rattle.depend_lists.proofs.ListLemmas.{map-insert}
 use Rattle.depend_lists.proofs.PairLemmas.{one_pair, one_turned, pair_itself}
-use Rattle.depend_lists.proofs.EditLemmas.{mirrors-insert, proper-insert, room_for_pair}
+use Rattle.depend_lists.proofs.EditLemmas.{proper-insert, room_for_pair}
+use Rattle.depend_lists.proofs.MirrorLemmas.{as_many, both_ways, mirrors-insert}
 use Rattle.depend_lists.proofs.depends.Depends.add.Goals as goal
 
 -- the pair isn't there
@@ -31,13 +32,13 @@ put-requires-clause-absent c = λ k d lt ties.
     let parents = c.self.inside.parents.items in
     let pair : Ident × Node = (c.args.parent, c.args.child) in
     let absent = rw (← c.self.view_is) at c.requires.absent in
-    absent ((c.self.invariant.both_ways pair).0 (subst (Contains parents) (one_turned (get_or parents k d) (turned pair) ties) (Contains-get_or parents k d lt)))
+    absent ((both_ways c.self.inside.pairs.items parents c.self.invariant.mirrored pair).0 (subst (Contains parents) (one_turned (get_or parents k d) (turned pair) ties) (Contains-get_or parents k d lt)))
 
 pub put-requires-clause-room : goal.put-requires-clause-room
 put-requires-clause-room c =
     let s = c.self.invariant in
     let requires = rw (← c.self.view_is) at c.requires in
-    omega (arith, s.parents_room, s.as_many, room_for_pair c.self.inside.caps c.self.inside.pairs.items s.proper 0 (c.args.parent, c.args.child) requires.parents requires.within, c.self.inside.pairs.ok.0)
+    omega (arith, s.parents_room, as_many c.self.inside.pairs.items c.self.inside.parents.items s.mirrored, c.self.inside.parents.ok.0, room_for_pair c.self.inside.caps c.self.inside.pairs.items s.proper 0 (c.args.parent, c.args.child) requires.parents requires.within, c.self.inside.pairs.ok.0)
 
 pub invariant_of-self : goal.invariant_of-self
 invariant_of-self c =
@@ -56,8 +57,7 @@ invariant_of-self c =
       rising = c.put-at.ensures.rising;
       alone = rw (written, c.put-at.ensures.items, map-insert (λ (p : Ident × Node). p.1) pairs at pair) (ap (λ children. insert children at c.args.child) s.alone);
       turned_rising = c.put.ensures.rising;
-      both_ways = rw (c.put-at.ensures.items, c.put.ensures.items) (mirrors-insert pairs c.self.inside.parents.items s.both_ways at c.put.result pair);
-      as_many = omega (arith, c.put.ensures.len, c.put-at.ensures.len, s.as_many);
+      mirrored = rw (c.put-at.ensures.items, c.put.ensures.items) (mirrors-insert pairs c.self.inside.parents.items s.mirrored at c.put.result pair);
       pairs_room = omega (arith, c.put-at.ensures.capacity, s.pairs_room);
       children_room = omega (arith, c.insert.ensures.capacity, s.children_room);
       parents_room = omega (arith, c.put.ensures.capacity, s.parents_room);

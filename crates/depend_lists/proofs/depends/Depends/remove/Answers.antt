@@ -1,4 +1,5 @@
-use Rattle.std.proofs.Common.{◌≡◌, false, not, ap, ◌∙◌}
+use Rattle.std.proofs.Common.{◌≡◌, false, not, length, ap, ◌∙◌, arith}
+use Rattle.std.proofs.lemmas.List.Edits.{length-remove}
 use Rattle.cache_ident.specs.declared.idents.Ident.{Ident}
 use Rattle.cache_ident.specs.Rolls.{is_same}
 use Rattle.cache_ident.proofs.RollLemmas.{is_same-refl}
@@ -15,3 +16,9 @@ loop-parent-preserved c =
     let taken = c.take.ensures.pairs in
     let fails : not (is_same c.in-Some.node.ident child) ≡ false = ap (λ (i : Ident). not (is_same i child)) c.in-Some.ensures.some.1 ∙ ap not (is_same-refl child) in
     (c.take.ensures.caps ∙ c.loop-parent.invariant.0, ap (λ pairs. without pairs child) taken.3 ∙ filter-remove (λ p. not (is_same p.1.ident child)) c.loop-parent.self.pairs taken.0 pair taken.1 taken.2 fails ∙ c.loop-parent.invariant.1)
+
+-- so the pairs are fewer
+pub loop-parent-smaller : goal.loop-parent-smaller
+loop-parent-smaller c =
+    let taken = c.take.ensures.pairs in
+    omega (arith, ap length taken.3, length-remove c.loop-parent.self.pairs taken.0 taken.1)
