@@ -36,7 +36,10 @@ impl Flat {
                 flags,
                 receiver,
             } => self.map(at, space, vpn, frame, flags, receiver),
-            Effect::Unmap { vpn } => self.unmap(at, space, Vpn(vpn)),
+            Effect::Unmap { vpn } => {
+                self.unmap(at, space, Vpn(vpn));
+                Ok(())
+            }
             Effect::Spawn { pc, a0, priority } => self.spawn(at, space, pc, a0, priority),
             Effect::Grant {
                 kernel,
@@ -115,18 +118,15 @@ impl Flat {
         self.make(at, decl, are_flags(flags), 0)
     }
 
-    fn unmap(&mut self, at: usize, space: SpaceNo, vpn: Vpn) -> Result<(), NoMemory>
+    fn unmap(&mut self, at: usize, space: SpaceNo, vpn: Vpn)
         requires { at < length self.old.threads }
-        ensures ok { OnOk result (OfThread self.old at (λ t. space ≡ t.space → self.new ≡ unmapped self.old at t vpn.0)) }
-        ensures err { OnErr result (self.new ≡ self.old) }
+        ensures { OfThread self.old at (λ t. space ≡ t.space → self.new ≡ unmapped self.old at t vpn.0) }
     {
-        let found = self.rows.remove(space, vpn)?;
-        if found {
+        if self.rows.remove(space, vpn) {
             self.answer_at(at, 0);
         } else {
             self.answer_at(at, refusal(1));
         }
-        Ok(())
     }
 
     fn spawn(

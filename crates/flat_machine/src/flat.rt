@@ -1,6 +1,6 @@
 //! The machine and what can be read off it.
 
-ghost use Rattle.std.specs.Prelude.{◌≡◌, ◌<◌, length, slice_get};
+ghost use Rattle.std.specs.Prelude.{◌≡◌, ◌<◌, ◌^◌, length, slice_get};
 ghost use Rattle.std.specs.Option.{option_copied, option_map};
 ghost use Rattle.phys_groups.specs.Translation.{row_of};
 ghost use Rattle.flat_state.specs.State.{nothing_declared};
@@ -11,7 +11,7 @@ ghost use Rattle.flat_machine.specs.Readings.{is_fit_page};
 use cache_ident::{Caps, KernelNo, SpaceNo, ThreadNo, Vpn};
 use flat_state::{FlatKernel, FlatThread, Machine, Settled};
 use phys_groups::{Memory, Rights, Row};
-use row_table::RowTable;
+use row_table::{RowTable, Rows};
 use rv32_exec::Status;
 use std::alloc::Global;
 use std::marker::Model;
@@ -78,11 +78,12 @@ impl Flat {
         self.threads.len() as u32
     }
 
-    /// The rows in declared order.
-    pub fn rows(&self) -> &[Row]
-        ensures { result.now ≡ self.now.rows }
+    /// The rows in declared order. To go over them all takes a time linear in the rows.
+    pub fn rows(&self) -> Rows<'_>
+        ensures rows { result ≡ self.now.rows }
+        ensures few { length self.now.rows < 2 ^ 63 }
     {
-        self.rows.as_slice()
+        self.rows.iter()
     }
 
     /// The thread of that number, and none where there is none. Constant time.

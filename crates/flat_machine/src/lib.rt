@@ -17,3 +17,4 @@ pub use flat::Flat;
 pub use flat_state::{
     DataAccess, Decl, Event, FlatKernel, FlatThread, Machine, NextStep, Settled, Signal,
 };
+pub use row_table::Rows;

@@ -2,5 +2,6 @@ pub mod Texts
 pub mod Steps
 pub mod Trapped
 pub mod Choices
+pub mod Counting
 pub mod Journeys
 pub mod Answered

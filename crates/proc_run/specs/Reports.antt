@@ -1,5 +1,5 @@
 -- The report of a machine.
-use Rattle.std.specs.Prelude.{ℕ, ◌+◌, ◌/◌, ◌%◌, nat_lt, Bool, ◌&&◌, ◌==◌, if◌then◌else◌, List, [], ◌∷◌, ◌++◌, length, count_by, codes, slice_index}
+use Rattle.std.specs.Prelude.{◌≡◌, ℕ, ◌+◌, ◌<◌, ◌/◌, ◌%◌, nat_lt, cond, Bool, ◌&&◌, ◌==◌, if◌then◌else◌, List, [], ◌∷◌, ◌++◌, length, count_by, codes, slice_index, slice_index_or}
 use Rattle.std.specs.Fmt.{decimal}
 use Rattle.std.specs.List.{flat_map}
 use Rattle.cache_ident.specs.declared.names.KernelNo.{KernelNo}
@@ -18,6 +18,7 @@ use Rattle.flat_state.specs.declared.records.FlatThread.{FlatThread}
 use Rattle.flat_state.specs.declared.records.Settled.{Settled}
 use Rattle.flat_state.specs.declared.records.Settled.TheVariants.{Done, Stalled, Spent, Running}
 use Rattle.flat_state.specs.State.{FlatState}
+use Rattle.proc_run.specs.declared.report.RowCounts.{RowCounts}
 
 -- a hexadecimal digit, in lower case
 abbrev pub hex_digit : ℕ → ℕ
@@ -86,12 +87,28 @@ is_modified_of space row = is_of space row && row.modified
 unfoldable pub count_text : List ℕ → ℕ → List ℕ
 count_text what count = codes " " ++ what ++ codes " " ++ decimal count
 
+-- what the rows of a space come to
+abbrev pub counted : List Row → ℕ → RowCounts
+counted rows space = record { rows = count_by (is_of space) rows; referenced = count_by (is_referenced_of space) rows; modified = count_by (is_modified_of space) rows }
+
+-- the counts with one row more
+abbrev pub with_row : Row → RowCounts → RowCounts
+with_row row counts = record { rows = counts.rows + 1; referenced = counts.referenced + cond row.referenced 1 0; modified = counts.modified + cond row.modified 1 0 }
+
+-- what is counted of each of so many spaces
+pub record AreCounts (rows : List Row) (spaces : ℕ) (counts : List RowCounts) : Type 0 where
+  pub len : length counts ≡ spaces
+  pub each : (space : ℕ) (d : RowCounts) → space < spaces → slice_index_or counts space d ≡ counted rows space
+
+-- the line of a space with these counts
+unfoldable pub counts_text : ℕ → RowCounts → List ℕ
+counts_text space counts =
+    codes "space " ++ decimal space ++ count_text (codes "rows") counts.rows ++ count_text (codes "referenced") counts.referenced
+    ++ count_text (codes "modified") counts.modified ++ codes "\n"
+
 -- how many rows a space has, and how many of them have each bit
-unfoldable pub space_text : List Row → ℕ → List ℕ
-space_text rows space =
-    codes "space " ++ decimal space ++ count_text (codes "rows") (count_by (is_of space) rows)
-    ++ count_text (codes "referenced") (count_by (is_referenced_of space) rows)
-    ++ count_text (codes "modified") (count_by (is_modified_of space) rows) ++ codes "\n"
+abbrev pub space_text : List Row → ℕ → List ℕ
+space_text rows space = counts_text space (counted rows space)
 
 -- a line for each space from a number on
 abbrev pub spaces_text : List Row → ℕ → List KernelNo → List ℕ

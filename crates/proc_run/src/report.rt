@@ -1,9 +1,9 @@
 //! The text of a report.
 
-ghost use Rattle.std.specs.Prelude.{◌≡◌, ◌<◌, ◌++◌, OnOk, IfOk, count_by};
+ghost use Rattle.std.specs.Prelude.{◌≡◌, ◌<◌, ◌^◌, ◌++◌, OnOk, IfOk, length};
 ghost use Rattle.std.specs.Fmt.{decimal};
 ghost use Rattle.std.specs.List.{flat_map};
-ghost use Rattle.proc_run.specs.Reports.{hex_digit as hex_digit_lem, word_text as word_text_lem, settled_text as settled_text_lem, kind_text as kind_text_lem, access_text as access_text_lem, misaligned_text as misaligned_text_lem, reason_text, state_text, output_text, thread_text, is_of, is_referenced_of, is_modified_of, count_text, space_text, spaces_text, report as report_lem};
+ghost use Rattle.proc_run.specs.Reports.{hex_digit as hex_digit_lem, word_text as word_text_lem, settled_text as settled_text_lem, kind_text as kind_text_lem, access_text as access_text_lem, misaligned_text as misaligned_text_lem, reason_text, state_text, output_text, thread_text, count_text, counts_text, spaces_text, with_row, AreCounts, report as report_lem};
 
 use cache_ident::ThreadNo;
 use flat_machine::{Flat, FlatThread, NoMemory, Settled};
@@ -166,26 +166,37 @@ fn put_thread(out: &mut Vec<u8>, alloc: Global, thread: &FlatThread) -> Result<(
     put_output(out, bytes)
 }
 
-fn rows_of(rows: &[Row], space: u32) -> u64
-    ensures { result ≡ count_by (is_of space) rows.now }
-{
-    rows.iter().filter(|row| row.space.0 == space).count() as u64
+// How many rows a space has, and how many of them have each bit.
+#[derive(Clone, Copy, Default)]
+struct RowCounts {
+    rows: u64,
+    referenced: u64,
+    modified: u64,
 }
 
-fn referenced_of(rows: &[Row], space: u32) -> u64
-    ensures { result ≡ count_by (is_referenced_of space) rows.now }
+// Counts a row.
+fn count(counts: &mut RowCounts, row: &Row)
+    requires rows { counts.old.rows < 2 ^ 63 }
+    requires referenced { counts.old.referenced < 2 ^ 63 }
+    requires modified { counts.old.modified < 2 ^ 63 }
+    ensures { counts.new ≡ with_row row.now counts.old }
 {
-    rows.iter()
-        .filter(|row| row.space.0 == space && row.referenced)
-        .count() as u64
+    counts.rows += 1;
+    counts.referenced += u64::from(row.referenced);
+    counts.modified += u64::from(row.modified);
 }
 
-fn modified_of(rows: &[Row], space: u32) -> u64
-    ensures { result ≡ count_by (is_modified_of space) rows.now }
+// What is counted of each space, in one pass over the rows.
+fn row_counts(alloc: Global, flat: &Flat) -> Result<Vec<RowCounts>, NoMemory>
+    ensures { IfOk result (λ counts. AreCounts flat.now.rows (length flat.now.spaces) counts.items) }
 {
-    rows.iter()
-        .filter(|row| row.space.0 == space && row.modified)
-        .count() as u64
+    let mut counts = vec![in alloc; RowCounts::default(); flat.spaces() as usize]?;
+    for row in flat.rows() {
+        if let Some(counts) = counts.get_mut(row.space.0 as usize) {
+            count(counts, row);
+        }
+    }
+    Ok(counts)
 }
 
 #[tactic(auto, unfolding(crate::specs::Reports::count_text))]
@@ -198,25 +209,29 @@ fn put_count(out: &mut Vec<u8>, alloc: Global, what: &str, count: u64) -> Result
     put_number(out, alloc, count)
 }
 
-#[tactic(auto, unfolding(crate::specs::Reports::space_text))]
-fn put_space(out: &mut Vec<u8>, alloc: Global, rows: &[Row], space: u32) -> Result<(), NoMemory>
-    ensures { OnOk result (out.new.items ≡ out.old.items ++ space_text rows.now space) }
+#[tactic(auto, unfolding(crate::specs::Reports::counts_text))]
+fn put_space(
+    out: &mut Vec<u8>,
+    alloc: Global,
+    space: u64,
+    counts: RowCounts,
+) -> Result<(), NoMemory>
+    ensures { OnOk result (out.new.items ≡ out.old.items ++ counts_text space counts) }
 {
     put(out, "space ")?;
-    put_number(out, alloc, u64::from(space))?;
-    put_count(out, alloc, "rows", rows_of(rows, space))?;
-    put_count(out, alloc, "referenced", referenced_of(rows, space))?;
-    put_count(out, alloc, "modified", modified_of(rows, space))?;
+    put_number(out, alloc, space)?;
+    put_count(out, alloc, "rows", counts.rows)?;
+    put_count(out, alloc, "referenced", counts.referenced)?;
+    put_count(out, alloc, "modified", counts.modified)?;
     put(out, "\n")
 }
 
 fn put_spaces(out: &mut Vec<u8>, alloc: Global, flat: &Flat) -> Result<(), NoMemory>
     ensures { OnOk result (out.new.items ≡ out.old.items ++ spaces_text flat.now.rows 0 flat.now.spaces) }
 {
-    let rows = flat.rows();
-    let count = flat.spaces();
-    for space in 0..count {
-        put_space(out, alloc, rows, space)?;
+    let counts = row_counts(alloc, flat)?;
+    for (space, counts) in counts.iter().enumerate() {
+        put_space(out, alloc, space as u64, *counts)?;
     }
     Ok(())
 }

@@ -1,20 +1,19 @@
--- Lists of which none or only one passes a test.
-use Rattle.std.proofs.Common.{◌≡◌, ℕ, zero, suc, ◌<◌, Bool, true, false, not, List, [], ◌∷◌, length, get_or, set, map, filter, find, Option, Some, None, refl, sym, ap, ◌∙◌, inl, inr, arith}
-use Rattle.std.specs.List.{AllByRecursion, remove, Contains}
-use Rattle.std.specs.Option.{IfNone}
+-- Lists of which none or at most one passes a test.
+use Rattle.std.proofs.Common.{◌≡◌, zero, suc, Bool, true, false, not, List, [], ◌∷◌, map, filter, find, Some, None, refl, sym, ap, ◌∙◌, inl, inr, arith}
+use Rattle.std.specs.Prelude.{⊤}
+use Rattle.std.specs.List.{AllByRecursion, Contains}
 use Rattle.std.proofs.lemmas.Bool.{cases_Bool, both_ways}
-use Rattle.std.proofs.lemmas.Option.{none-some}
+use Rattle.std.proofs.lemmas.Option.{none-some, same_Some}
 
 module _ {X : Type 0} (p : X → Bool) where
   -- none passes
   abbrev pub NonePass : List X → Type 0
   NonePass xs = AllByRecursion (λ x. p x ≡ false) xs
 
-  -- the one at the place passes, and no other
-  abbrev pub OnlyAt : List X → ℕ → Type 0
-  OnlyAt [] place = ⊥
-  OnlyAt (x ∷ xs) zero = (p x ≡ true) × NonePass xs
-  OnlyAt (x ∷ xs) (suc place) = (p x ≡ false) × OnlyAt xs place
+  -- after one that passes none does
+  abbrev pub AtMostOne : List X → Type 0
+  AtMostOne [] = ⊤
+  AtMostOne (x ∷ xs) = (p x ≡ true → NonePass xs) × AtMostOne xs
 
   pub none_from_find : (xs : List X) → find p xs ≡ None → NonePass xs
   none_from_find [] e = tt
@@ -27,60 +26,49 @@ module _ {X : Type 0} (p : X → Bool) where
   find-none [] h = refl
   find-none (x ∷ xs) h = rw h.0 (find-none xs h.1)
 
-  pub find-only : (xs : List X) (place : ℕ) (d : X) → OnlyAt xs place → find p xs ≡ Some (get_or xs place d)
-  find-only [] place d h = absurd h
-  find-only (x ∷ xs) zero d h = rw h.0 refl
-  find-only (x ∷ xs) (suc place) d h = rw h.0 (find-only xs place d h.1)
+  -- what is found passes
+  pub find-passes : (xs : List X) (x : X) → find p xs ≡ Some x → p x ≡ true
+  find-passes [] x e = absurd (none-some x e)
+  find-passes (y ∷ ys) x e = elim (cases_Bool (p y)) [
+    | inl h ↦ ap p (sym (same_Some y x (rw h at e))) ∙ h
+    | inr h ↦ find-passes ys x (rw h at e)
+  ]
 
   pub filter-none : (xs : List X) → NonePass xs → filter (λ x. not (p x)) xs ≡ xs
   filter-none [] h = refl
   filter-none (x ∷ xs) h = rw h.0 (ap (λ (ys : List X). x ∷ ys) (filter-none xs h.1))
 
-  pub filter-only : (xs : List X) (place : ℕ) → OnlyAt xs place → filter (λ x. not (p x)) xs ≡ remove xs place
-  filter-only [] place h = absurd h
-  filter-only (x ∷ xs) zero h = rw h.0 (filter-none xs h.1)
-  filter-only (x ∷ xs) (suc place) h = rw h.0 (ap (λ (ys : List X). x ∷ ys) (filter-only xs place h.1))
-
-  pub none_left : (xs : List X) (place : ℕ) → OnlyAt xs place → NonePass (remove xs place)
-  none_left [] place h = absurd h
-  none_left (x ∷ xs) zero h = h.1
-  none_left (x ∷ xs) (suc place) h = (h.0, none_left xs place h.1)
-
   pub map-none : (f : X → X) → ((x : X) → p x ≡ false → f x ≡ x) → (xs : List X) → NonePass xs → map f xs ≡ xs
   map-none f same [] h = refl
   map-none f same (x ∷ xs) h = ap (λ (y : X). y ∷ map f xs) (same x h.0) ∙ ap (λ (ys : List X). x ∷ ys) (map-none f same xs h.1)
 
-  pub map-only : (f : X → X) → ((x : X) → p x ≡ false → f x ≡ x) → (xs : List X) (place : ℕ) (d : X) → OnlyAt xs place → map f xs ≡ set xs place (f (get_or xs place d))
-  map-only f same [] place d h = absurd h
-  map-only f same (x ∷ xs) zero d h = ap (λ (ys : List X). f x ∷ ys) (map-none f same xs h.1)
-  map-only f same (x ∷ xs) (suc place) d h = ap (λ (y : X). y ∷ map f xs) (same x h.0) ∙ ap (λ (ys : List X). x ∷ ys) (map-only f same xs place d h.1)
-
   -- one that passes isn't in a list of which none does
-  pub none_contained : (xs : List X) (x : X) → NonePass xs → Contains xs x → p x ≡ true → ⊥
+  none_contained : (xs : List X) (x : X) → NonePass xs → Contains xs x → p x ≡ true → ⊥
   none_contained [] x h c e = absurd (omega arith)
   none_contained (y ∷ ys) x h (zero, lt, is) e = both_ways (p y) h.0 (ap p is ∙ e)
   none_contained (y ∷ ys) x h (suc k, lt, is) e = none_contained ys x h.1 (k, omega arith, is) e
 
-  -- one that passes is the one at the place
-  pub only_contained : (xs : List X) (place : ℕ) (x d : X) → OnlyAt xs place → Contains xs x → p x ≡ true → get_or xs place d ≡ x
-  only_contained [] place x d h c e = absurd h
-  only_contained (y ∷ ys) zero x d h (zero, lt, is) e = is
-  only_contained (y ∷ ys) zero x d h (suc k, lt, is) e = absurd (none_contained ys x h.1 (k, omega arith, is) e)
-  only_contained (y ∷ ys) (suc place) x d h (zero, lt, is) e = absurd (both_ways (p y) h.0 (ap p is ∙ e))
-  only_contained (y ∷ ys) (suc place) x d h (suc k, lt, is) e = only_contained ys place x d h.1 (k, omega arith, is) e
+  -- one that passes is the one that is found
+  pub find-contained : (xs : List X) (x : X) → AtMostOne xs → Contains xs x → p x ≡ true → find p xs ≡ Some x
+  find-contained [] x one c e = absurd (omega arith)
+  find-contained (y ∷ ys) x one (zero, lt, is) e = rw (ap p is ∙ e) (ap Some is)
+  find-contained (y ∷ ys) x one (suc k, lt, is) e = elim (cases_Bool (p y)) [
+    | inl h ↦ absurd (none_contained ys x (one.0 h) (k, omega arith, is) e)
+    | inr h ↦ rw h (find-contained ys x one.1 (k, omega arith, is) e)
+  ]
 
--- what stands at a place
-pub at_place : {X : Type 0} (xs : List X) (place : ℕ) → place < length xs → X
-at_place [] place lt = absurd (omega arith)
-at_place (x ∷ xs) zero lt = x
-at_place (x ∷ xs) (suc place) lt = at_place xs place (omega arith)
+  -- where the one that passes fails another test, it counts for nothing there
+  pub filter-others : (q : X → Bool) (xs : List X) (x : X) → AtMostOne xs → find p xs ≡ Some x → q x ≡ false → filter q (filter (λ y. not (p y)) xs) ≡ filter q xs
+  filter-others q [] x one found fails = refl
+  filter-others q (y ∷ ys) x one found fails = elim (cases_Bool (p y)) [
+    | inl h ↦ rw (h, ap q (same_Some y x (rw h at found)) ∙ fails) (ap (filter q) (filter-none ys (one.0 h)))
+    | inr h ↦ rw h (elim (cases_Bool (q y)) [
+      | inl t ↦ rw t (ap (λ (zs : List X). y ∷ zs) (filter-others q ys x one.1 (rw h at found) fails))
+      | inr t ↦ rw t (filter-others q ys x one.1 (rw h at found) fails)
+    ])
+  ]
 
 -- of two tests that agree, none passes the one where none passes the other
 pub none_agree : {X : Type 0} (p q : X → Bool) → ((x : X) → p x ≡ q x) → (xs : List X) → NonePass q xs → NonePass p xs
 none_agree p q same [] h = tt
 none_agree p q same (x ∷ xs) h = (same x ∙ h.0, none_agree p q same xs h.1)
-
--- what follows from what a clause says where there is no value
-pub IfNone_then : {X : Type 0} {P Q : Type 0} (o : Option X) → (P → Q) → IfNone o P → IfNone o Q
-IfNone_then None f h = f h
-IfNone_then (Some x) f h = tt

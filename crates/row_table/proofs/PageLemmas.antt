@@ -1,19 +1,20 @@
 -- Pages of rows, and when two are one.
-use Rattle.std.proofs.Common.{◌≡◌, ℕ, zero, suc, ◌<◌, Bool, true, false, ◌&&◌, eqb, List, [], ◌∷◌, length, get_or, take, refl, sym, ap, ◌∙◌, inl, inr, arith}
-use Rattle.std.specs.List.{AllPairs}
+use Rattle.std.proofs.Common.{◌≡◌, ℕ, suc, Bool, true, false, ◌&&◌, eqb, List, [], ◌∷◌, ◌++◌, length, get_or, find, None, refl, sym, ap, ◌∙◌, inl, inr, arith}
 use Rattle.std.specs.Ordering.{nat_cmp, is_eq, ordering_then}
 use Rattle.std.specs.Cmp.{nat_cmp_is}
 use Rattle.std.specs.BTreeMap.{is_at}
 use Rattle.std.specs.declared.cmp.Ordering.{Ordering}
 use Rattle.std.specs.declared.cmp.Ordering.TheVariants.{Less, Equal, Greater}
-use Rattle.std.proofs.lemmas.Bool.{and_from, and_parts, both_ways, cases_Bool, cases_eq, cases_order, eq-eqb, eqb-true, ne_eqb}
-use Rattle.std.proofs.lemmas.List.{get_or_default, get_or-take, length-take-le}
+use Rattle.std.proofs.Math.Seq.{get_or-append_seam}
+use Rattle.std.proofs.lemmas.Bool.{and_from, and_parts, cases_eq, cases_order, eq-eqb, eqb-true, ne_eqb}
+use Rattle.std.proofs.lemmas.List.{length-append}
 use Rattle.std.proofs.lemmas.List.Elements.{recursion_from_All}
 use Rattle.phys_groups.specs.declared.rows.Row.{Row}
-use Rattle.row_table.specs.declared.index.PageKey.{PageKey}
 use Rattle.phys_groups.specs.Translation.{is_row_of}
-use Rattle.row_table.specs.Stamps.{is_of, key_of, page_cmp}
-use Rattle.row_table.proofs.OnlyOne.{NonePass, OnlyAt}
+use Rattle.row_table.specs.declared.pages.PageKey.{PageKey}
+use Rattle.row_table.specs.Pages.{is_of, key_of, page_cmp}
+use Rattle.row_table.specs.Stamps.{HaveOneRow}
+use Rattle.row_table.proofs.OnlyOne.{AtMostOne}
 
 -- two numbers compare as equal where they are
 pub equal_numbers : (a b : ℕ) → is_eq (nat_cmp a b) ≡ eqb a b
@@ -47,6 +48,13 @@ is_of-same page other row h =
     ∙ ap (λ (n : ℕ). eqb page.space other.space && eqb n other.vpn) (eqb-true _ _ both.1)
     ∙ sym (same_page page other)
 
+-- where two pages are one, so are their rows
+pub is_of-one : (page other : PageKey) (row : Row) → is_at (page_cmp page) other ≡ true → is_of other row ≡ is_of page row
+is_of-one page other row h =
+    let both = and_parts (eqb page.space other.space) (eqb page.vpn other.vpn) (sym (same_page page other) ∙ h) in
+    ap (λ (n : ℕ). eqb row.space.0 n && eqb row.vpn.0 other.vpn) (sym (eqb-true _ _ both.0))
+    ∙ ap (λ (n : ℕ). eqb row.space.0 page.space && eqb row.vpn.0 n) (sym (eqb-true _ _ both.1))
+
 -- the page of a row that is of the page
 pub is_of-row : (page : PageKey) (row other : Row) → is_of page row ≡ true → is_of page other ≡ is_row_of row.space row.vpn.0 other
 is_of-row page row other h =
@@ -63,26 +71,24 @@ is_row_of-flip a b =
     ap (λ (t : Bool). t && eqb b.vpn.0 a.vpn.0) (eqb_comm b.space.0 a.space.0)
     ∙ ap (λ (t : Bool). eqb a.space.0 b.space.0 && t) (eqb_comm b.vpn.0 a.vpn.0)
 
--- where no page has two rows, a row of the page is the only one
-pub only_from_place : (page : PageKey) (rows : List Row) (place : ℕ) → AllPairs (λ a b. is_row_of a.space a.vpn.0 b ≡ false) rows
-    → place < length rows → ((d : Row) → is_of page (get_or rows place d) ≡ true) → OnlyAt (is_of page) rows place
-only_from_place page [] place one lt here = absurd (omega arith)
-only_from_place page (row ∷ rows) zero one lt here =
-    (here row, recursion_from_All (λ other. is_of page other ≡ false) rows (λ k d below. is_of-row page row (get_or rows k d) (here row) ∙ one 0 (suc k) d (omega arith) (omega arith)))
-only_from_place page (row ∷ rows) (suc place) one lt here =
-    elim (cases_Bool (is_of page row)) [
-      | inl h ↦ absurd (both_ways (is_of page (get_or rows place row)) (is_of-row page row (get_or rows place row) h ∙ one 0 (suc place) row (omega arith) lt) (here row))
-      | inr h ↦ (h, only_from_place page rows place (λ i j d below within. one (suc i) (suc j) d (omega arith) (omega arith)) (omega arith) here)
-    ]
+-- where no page has two rows, at most one is of the page
+pub one_of_page : (page : PageKey) (rows : List Row) → HaveOneRow rows → AtMostOne (is_of page) rows
+one_of_page page [] one = tt
+one_of_page page (row ∷ rows) one = (
+  λ here. recursion_from_All (λ other. is_of page other ≡ false) rows (λ k d below. is_of-row page row (get_or rows k d) here ∙ one 0 (suc k) d (omega arith) (omega arith)),
+  one_of_page page rows (λ i j d below within. one (suc i) (suc j) d (omega arith) (omega arith)),
+)
 
--- where no page has two rows, those before a row aren't of its page
-pub none_before : (rows : List Row) (place : ℕ) (d : Row) → AllPairs (λ a b. is_row_of a.space a.vpn.0 b ≡ false) rows
-    → place < length rows → NonePass (is_of (key_of (get_or rows place d))) (take place rows)
-none_before rows place d one lt =
-    let row : Row = get_or rows place d in
-    let len : length (take place rows) ≡ place = length-take-le place rows (omega arith) in
-    recursion_from_All (λ other. is_of (key_of row) other ≡ false) (take place rows)
-    (λ k e below.
-    let inside : k < place = omega arith in
-    ap (is_of (key_of row)) (get_or-take place rows k e inside ∙ get_or_default rows k e d (omega arith))
-    ∙ sym (is_row_of-flip (get_or rows k d) row) ∙ one k place d inside lt)
+-- rows before one are of other pages
+pub none_before : (front : List Row) (row : Row) (back : List Row) → HaveOneRow (front ++ row ∷ back) → find (is_of (key_of row)) front ≡ None
+none_before [] row back one = refl
+none_before (first ∷ front) row back one =
+    let fails : is_of (key_of row) first ≡ false =
+    sym (is_row_of-flip first row) ∙ ap (is_row_of first.space first.vpn.0) (sym (get_or-append_seam front row back row)) ∙ one 0 (suc (length front)) row (omega arith) (omega (arith, length-append front (row ∷ back))) in
+    rw fails (none_before front row back (λ i j d below within. one (suc i) (suc j) d (omega arith) (omega arith)))
+
+-- the page that a row is of is its own
+pub page_is : (page : PageKey) (row : Row) → is_of page row ≡ true → page ≡ key_of row
+page_is page row h =
+    let both = and_parts (eqb row.space.0 page.space) (eqb row.vpn.0 page.vpn) h in
+    ap (λ (n : ℕ). record { space = n; vpn = page.vpn }) (sym (eqb-true _ _ both.0)) ∙ ap (λ (n : ℕ). record { space = row.space.0; vpn = n }) (sym (eqb-true _ _ both.1))

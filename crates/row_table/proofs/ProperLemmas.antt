@@ -1,25 +1,35 @@
 -- No page has two rows and no frame more than four signal rows, as rows come, go and change.
-use Rattle.std.proofs.Common.{◌≡◌, ℕ, ◌+◌, ◌<◌, ◌≤◌, Bool, true, false, ◌&&◌, ◌||◌, cond, eqb, List, [], ◌∷◌, ◌++◌, length, get_or, map, filter, count_by, is_some, refl, sym, ap, ◌∙◌, subst, arith}
-use Rattle.std.specs.List.{remove}
+use Rattle.std.proofs.Common.{◌≡◌, ℕ, ◌+◌, ◌<◌, ◌≤◌, Bool, true, false, not, ◌&&◌, ◌||◌, cond, eqb, List, [], ◌∷◌, ◌++◌, length, get_or, map, filter, count_by, is_some, refl, sym, ap, ◌∙◌, subst, arith}
 use Rattle.std.proofs.lemmas.Bool.{and_parts, eqb-true}
 use Rattle.std.proofs.lemmas.List.{get_or-map, length-map}
 use Rattle.std.proofs.lemmas.List.Elements.{All-from_recursion}
-use Rattle.std.proofs.lemmas.List.Quantifiers.{all_pairs_push, all_pairs_remove}
-use Rattle.std.proofs.lemmas.List.Sums.{length-filter, sum_by_push, sum_by-remove}
+use Rattle.std.proofs.lemmas.List.Filters.{sum_by-filter_both}
+use Rattle.std.proofs.lemmas.List.Kept.{AllPairs-filter}
+use Rattle.std.proofs.lemmas.List.Quantifiers.{all_pairs_push}
+use Rattle.std.proofs.lemmas.List.Sums.{length-filter, sum_by_push}
 use Rattle.cache_ident.specs.declared.names.Frame.{Frame}
 use Rattle.cache_ident.specs.declared.names.SpaceNo.{SpaceNo}
 use Rattle.phys_groups.specs.declared.rows.Row.{Row}
 use Rattle.signal_pages.specs.Signals.{is_signal_row_of}
 use Rattle.phys_groups.specs.Translation.{is_row_of}
+use Rattle.row_table.specs.declared.pages.PageKey.{PageKey}
+use Rattle.row_table.specs.Pages.{is_of, key_of}
 use Rattle.row_table.specs.Rows.{marked, IsProper}
-use Rattle.row_table.specs.Stamps.{is_of, key_of}
-use Rattle.row_table.specs.declared.index.PageKey.{PageKey}
-use Rattle.row_table.proofs.OnlyOne.{NonePass, at_place}
+use Rattle.row_table.specs.Stamps.{HaveOneRow}
+use Rattle.row_table.proofs.OnlyOne.{NonePass}
 use Rattle.row_table.proofs.PageLemmas.{is_row_of-flip}
 use Rattle.row_table.proofs.SignalLemmas.{listed-map}
 
-pub IsProper-nil : IsProper []
-IsProper-nil = record { one_row = λ i j d lt within. absurd (omega arith); few_signal_rows = λ frame. omega arith }
+pub HaveOneRow-nil : HaveOneRow []
+HaveOneRow-nil = λ i j d lt within. absurd (omega arith)
+
+pub HaveOneRow-push : (rows : List Row) (row : Row) → HaveOneRow rows → NonePass (is_of (key_of row)) rows → HaveOneRow (rows ++ row ∷ [])
+HaveOneRow-push rows row one none =
+    all_pairs_push (λ a b. is_row_of a.space a.vpn.0 b ≡ false) rows row one
+    (λ k d lt. is_row_of-flip (get_or rows k d) row ∙ All-from_recursion (λ other. is_of (key_of row) other ≡ false) rows none k d lt)
+
+pub HaveOneRow-filter : (p : Row → Bool) (rows : List Row) → HaveOneRow rows → HaveOneRow (filter p rows)
+HaveOneRow-filter p rows one = AllPairs-filter (λ a b. is_row_of a.space a.vpn.0 b ≡ false) p rows one
 
 -- a count with one more, or not
 count_more : (p : Row → Bool) (rows : List Row) (row : Row) → count_by p (rows ++ row ∷ []) ≡ count_by p rows + cond (p row) 1 0
@@ -29,11 +39,13 @@ few_more : (b : Bool) (n : ℕ) → n ≤ 4 → (b ≡ true → n < 4) → n + c
 few_more true n le few = omega (arith, few refl)
 few_more false n le few = omega arith
 
+pub IsProper-nil : IsProper []
+IsProper-nil = record { one_row = HaveOneRow-nil; few_signal_rows = λ frame. omega arith }
+
 pub IsProper-push : (rows : List Row) (row : Row) → IsProper rows → NonePass (is_of (key_of row)) rows
     → (is_some row.receiver ≡ true → count_by (is_signal_row_of row.frame) rows < 4) → IsProper (rows ++ row ∷ [])
 IsProper-push rows row proper none few = record {
-  one_row = all_pairs_push (λ a b. is_row_of a.space a.vpn.0 b ≡ false) rows row proper.one_row
-      (λ k d lt. is_row_of-flip (get_or rows k d) row ∙ All-from_recursion (λ other. is_of (key_of row) other ≡ false) rows none k d lt);
+  one_row = HaveOneRow-push rows row proper.one_row none;
   few_signal_rows = λ frame.
       rw (count_more (is_signal_row_of frame) rows row)
       (few_more (is_signal_row_of frame row) (count_by (is_signal_row_of frame) rows) (proper.few_signal_rows frame)
@@ -41,10 +53,10 @@ IsProper-push rows row proper none few = record {
       subst (λ (n : ℕ). count_by (is_signal_row_of (record { 0 = n })) rows < 4) (eqb-true row.frame.0 frame.0 both.0) (few both.1)));
 }
 
-pub IsProper-remove : (rows : List Row) (place : ℕ) → place < length rows → IsProper rows → IsProper (remove rows place)
-IsProper-remove rows place lt proper = record {
-  one_row = all_pairs_remove (λ a b. is_row_of a.space a.vpn.0 b ≡ false) rows place lt proper.one_row;
-  few_signal_rows = λ frame. omega (arith, proper.few_signal_rows frame, sum_by-remove (λ row. cond (is_signal_row_of frame row) 1 0) rows place (at_place rows place lt) lt);
+pub IsProper-filter : (p : Row → Bool) (rows : List Row) → IsProper rows → IsProper (filter p rows)
+IsProper-filter p rows proper = record {
+  one_row = HaveOneRow-filter p rows proper.one_row;
+  few_signal_rows = λ frame. omega (arith, proper.few_signal_rows frame, sum_by-filter_both p (λ row. not (p row)) (λ row. refl) (λ row. cond (is_signal_row_of frame row) 1 0) rows);
 }
 
 -- a mark keeps page, frame and receiver
@@ -75,16 +87,19 @@ count_kept f keeps frame rows =
     ∙ length-map (filter p rows) key_of
     ∙ length-filter p rows
 
+pub HaveOneRow-map : (f : Row → Row) → Keeps f → (rows : List Row) → HaveOneRow rows → HaveOneRow (map f rows)
+HaveOneRow-map f keeps rows one = λ i j d lt within.
+    let inside : j < length rows = omega (arith, length-map rows f) in
+    let first : get_or (map f rows) i d ≡ f (get_or rows i d) = get_or-map f rows i d d (omega arith) in
+    let second : get_or (map f rows) j d ≡ f (get_or rows j d) = get_or-map f rows j d d inside in
+    ap (λ (a : Row). is_row_of a.space a.vpn.0 (get_or (map f rows) j d)) first
+    ∙ ap (λ (b : Row). is_row_of (f (get_or rows i d)).space (f (get_or rows i d)).vpn.0 b) second
+    ∙ one_row-kept f keeps (get_or rows i d) (get_or rows j d)
+    ∙ one i j d lt inside
+
 pub IsProper-map : (f : Row → Row) → Keeps f → (rows : List Row) → IsProper rows → IsProper (map f rows)
 IsProper-map f keeps rows proper = record {
-  one_row = λ i j d lt within.
-      let inside : j < length rows = omega (arith, length-map rows f) in
-      let first : get_or (map f rows) i d ≡ f (get_or rows i d) = get_or-map f rows i d d (omega arith) in
-      let second : get_or (map f rows) j d ≡ f (get_or rows j d) = get_or-map f rows j d d inside in
-      ap (λ (a : Row). is_row_of a.space a.vpn.0 (get_or (map f rows) j d)) first
-      ∙ ap (λ (b : Row). is_row_of (f (get_or rows i d)).space (f (get_or rows i d)).vpn.0 b) second
-      ∙ one_row-kept f keeps (get_or rows i d) (get_or rows j d)
-      ∙ proper.one_row i j d lt inside;
+  one_row = HaveOneRow-map f keeps rows proper.one_row;
   few_signal_rows = λ frame. rw (count_kept f keeps frame rows) (proper.few_signal_rows frame);
 }
 

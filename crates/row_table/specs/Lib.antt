@@ -1,3 +1,4 @@
+pub mod Pages
 pub mod Rows
 pub mod Stamps
 pub mod SignalPages

@@ -8,9 +8,9 @@ use Rattle.arrayvec.specs.ArrayVec.{ArrayVec}
 use Rattle.cache_ident.specs.declared.names.Frame.{Frame}
 use Rattle.phys_groups.specs.declared.rows.Row.{Row}
 use Rattle.signal_pages.specs.Signals.{is_signal_row_of}
-use Rattle.row_table.specs.declared.index.PageKey.{PageKey}
+use Rattle.row_table.specs.declared.pages.PageKey.{PageKey}
 use Rattle.row_table.specs.declared.signals.SignalIndex.{SignalIndex}
-use Rattle.row_table.specs.Stamps.{key_of}
+use Rattle.row_table.specs.Pages.{key_of}
 
 -- what the index has for a frame, if anything
 abbrev pub list_in : SignalIndex → Frame → Option (ArrayVec PageKey)

@@ -1,10 +1,13 @@
 //! The rows of the machine with unlimited tables, in declared order, with the indexes that find them.
 #![tactic(auto)]
 
-mod index;
+mod iter;
+mod pages;
 mod signals;
+mod stamped;
 mod table;
 #[cfg(test)]
 mod tests;
 
+pub use iter::Rows;
 pub use table::RowTable;

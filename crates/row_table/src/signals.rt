@@ -4,7 +4,7 @@ ghost use Rattle.std.specs.Prelude.{◌≡◌, ◌<◌, [], length, is_some, tru
 ghost use Rattle.cache_ident.specs.declared.names.Frame.{Frame};
 ghost use Rattle.row_table.specs.SignalPages.{other_pages, pages_in, HasList, IsListed, IsSignalIndexOf, IsUnlisted};
 
-use super::index::PageKey;
+use super::pages::PageKey;
 use arrayvec::ArrayVec;
 use cache_ident::{Frame, NoMemory};
 use phys_groups::Row;

@@ -43,15 +43,14 @@ fn rows_come_and_go(rt: HostRuntime) -> Result<(), Fail> {
     add(&rt, &mut table, row(1, 3, 7, None))?;
     add(&rt, &mut table, row(1, 4, 7, Some(2)))?;
     assert_eq!(rt; pages(&rt, &table, 7), Some((3, 4)));
-    assert!(rt; table.remove(SpaceNo(0), Vpn(3))?);
-    assert!(rt; !table.remove(SpaceNo(0), Vpn(3))?);
+    assert!(rt; table.remove(SpaceNo(0), Vpn(3)));
+    assert!(rt; !table.remove(SpaceNo(0), Vpn(3)));
     assert_eq!(rt; pages(&rt, &table, 7), None);
     add(&rt, &mut table, row(0, 3, 7, Some(1)))?;
     assert_eq!(rt; pages(&rt, &table, 7), Some((4, 3)));
     table.mark(SpaceNo(1), Vpn(4), false);
     table.mark(SpaceNo(0), Vpn(3), true);
     let marks = table
-        .as_slice()
         .iter()
         .map(|row| (row.space.0, row.referenced, row.modified));
     let marks: Vec<(u32, bool, bool)> = marks.collect(rt.alloc())?;

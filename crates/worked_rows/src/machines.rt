@@ -2,7 +2,7 @@
 
 use cache_ident::{Caps, Frame, KernelNo, SpaceNo, ThreadNo, Vpn};
 use flat_machine::{Decl, Event, Flat, Machine, Settled};
-use phys_groups::Flags;
+use phys_groups::{Flags, Row};
 use rv32_asm::assemble;
 use rv32_exec::Status;
 use std::alloc::Global;
@@ -143,20 +143,10 @@ pub(crate) fn run(flat: &mut Flat, limit: u64) -> Result<(Settled, u64), Fail> {
 
 /// How many rows a space has, how many are referenced and how many modified.
 pub(crate) fn bits(flat: &Flat, space: u32) -> (usize, usize, usize) {
-    let of = |row: &&phys_groups::Row| row.space.0 == space;
-    let rows = flat.rows().iter().filter(of).count();
-    let referenced = flat
-        .rows()
-        .iter()
-        .filter(of)
-        .filter(|row| row.referenced)
-        .count();
-    let modified = flat
-        .rows()
-        .iter()
-        .filter(of)
-        .filter(|row| row.modified)
-        .count();
+    let of = |row: &&Row| row.space.0 == space;
+    let rows = flat.rows().filter(of).count();
+    let referenced = flat.rows().filter(of).filter(|row| row.referenced).count();
+    let modified = flat.rows().filter(of).filter(|row| row.modified).count();
     (rows, referenced, modified)
 }
 

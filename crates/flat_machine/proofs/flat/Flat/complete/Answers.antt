@@ -77,19 +77,7 @@ returns-in-Unmap-clause-ok c =
     let here : slice_get s.threads n ≡ Some t = sym c.in-Some.ensures in
     let e : (call_of t).effect ≡ effects.Unmap c.in-Unmap.vpn = sym (c.in_ok-carry_out_at.ensures.effect t here) ∙ c.in-Unmap.is in
     let same = kept s n t here c.carry_out_at.new.self (c.in_ok-carry_out_at.ensures.ok t here) (ap (own_part_so t (call_of t)) e) in
-    on_ok_weaker c.unmap.result
-    (λ done. done t (rw same here) refl ∙ ap (λ (x : FlatState). unmapped x n t c.in-Unmap.vpn) same ∙ comes_to s n t here _ (sym c.if-not-is_completable.ensures) e)
-    c.unmap.ensures.ok
-
-pub returns-in-Unmap-clause-err : goal.returns-in-Unmap-clause-err
-returns-in-Unmap-clause-err c =
-    let s = c.args.self.now in
-    let n = c.args.no.0 in
-    let t = c.in-Some.thread.now in
-    let here : slice_get s.threads n ≡ Some t = sym c.in-Some.ensures in
-    let e : (call_of t).effect ≡ effects.Unmap c.in-Unmap.vpn = sym (c.in_ok-carry_out_at.ensures.effect t here) ∙ c.in-Unmap.is in
-    let same = kept s n t here c.carry_out_at.new.self (c.in_ok-carry_out_at.ensures.ok t here) (ap (own_part_so t (call_of t)) e) in
-    on_err_weaker c.unmap.result (λ left. left ∙ same) c.unmap.ensures.err
+    c.unmap.ensures t (rw same here) refl ∙ ap (λ (x : FlatState). unmapped x n t c.in-Unmap.vpn) same ∙ comes_to s n t here _ (sym c.if-not-is_completable.ensures) e
 
 pub spawn-requires : goal.spawn-requires
 spawn-requires c =

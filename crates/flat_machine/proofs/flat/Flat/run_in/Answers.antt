@@ -15,7 +15,7 @@ use Rattle.flat_machine.proofs.flat.Flat.run_in.Goals as goal
 pub new-mmu-requires : goal.new-mmu-requires
 new-mmu-requires c = subst₂ IsMapped (sym c.replace-memory.ensures.value) (sym c.replace-rows.ensures.value) (rows_mapped _ c.self.invariant.formed)
 
-module _ (c : goal.After-drop-self-inside-5) where
+module _ (c : goal.After-drop-self-inside-4) where
   -- the state before the step
   abbrev s : FlatState
   s = record { machine = c.self.inside.machine; memory = c.self.inside.memory; kernels = c.self.inside.kernels.items; spaces = c.self.inside.spaces.items; rows = c.self.inside.rows; threads = c.self.inside.threads.items }

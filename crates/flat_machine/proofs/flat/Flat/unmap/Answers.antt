@@ -7,16 +7,16 @@ use Rattle.flat_machine.specs.contracts.flat.Flat.{the_view}
 use Rattle.flat_machine.proofs.CallSound.{without_sound, unmapped_none}
 use Rattle.flat_machine.proofs.flat.Flat.unmap.Goals as goal
 
-pub invariant_of-self-then-found : goal.invariant_of-self-then-found
-invariant_of-self-then-found c = rw c.in_ok-found.ensures.ok (without_sound (the_view c.self.inside) _ c.self.invariant c.args.space c.args.vpn.0)
+pub invariant_of-self : goal.invariant_of-self
+invariant_of-self c = rw c.remove.ensures.rows (without_sound (the_view c.self.inside) _ c.self.invariant c.args.space c.args.vpn.0)
 
-pub invariant_of-self-else-found : goal.invariant_of-self-else-found
-invariant_of-self-else-found c = rw c.in_ok-found.ensures.ok (without_sound (the_view c.self.inside) _ c.self.invariant c.args.space c.args.vpn.0)
+pub invariant_of-self-else-remove : goal.invariant_of-self-else-remove
+invariant_of-self-else-remove c = rw c.remove.ensures.rows (without_sound (the_view c.self.inside) _ c.self.invariant c.args.space c.args.vpn.0)
 
-pub returns-else-found-clause-ok : goal.returns-else-found-clause-ok
-returns-else-found-clause-ok c = λ t here same.
+pub returns-else-remove : goal.returns-else-remove
+returns-else-remove c = λ t here same.
     let a = c.args in
     let s = the_view c.self.inside in
     let was = subst (λ (s : FlatState). slice_get s.threads a.at ≡ Some t) (sym c.self.view_is) here in
-    let none : is_some (row_of s.rows a.space a.vpn.0) ≡ false = sym c.in_ok-found.ensures.found ∙ c.if-found.false in
-    c.answer_at-else-found.ensures t was ∙ unmapped_none s a.at t a.space a.vpn.0 c.remove.new.self c.refusal.result same none c.in_ok-found.ensures.ok c.refusal.ensures ∙ ap (λ (x : FlatState). unmapped x a.at t a.vpn.0) c.self.view_is
+    let none : is_some (row_of s.rows a.space a.vpn.0) ≡ false = sym c.remove.ensures.found ∙ c.if-remove.false in
+    c.answer_at-else-remove.ensures t was ∙ unmapped_none s a.at t a.space a.vpn.0 c.remove.new.self c.refusal.result same none c.remove.ensures.rows c.refusal.ensures ∙ ap (λ (x : FlatState). unmapped x a.at t a.vpn.0) c.self.view_is

@@ -1,17 +1,16 @@
 use Rattle.std.proofs.Common.{◌∙◌, ◌<◌, ◌∷◌, ◌++◌, [], List, length, get_or, filter, take, ap, sym, arith}
+use Rattle.std.specs.Map.{values_of}
 use Rattle.std.proofs.lemmas.List.{length-take, take_all, take_more}
 use Rattle.std.proofs.lemmas.List.Sums.{length-filter}
+use Rattle.std.proofs.lemmas.Option.{same_Some}
 use Rattle.phys_groups.specs.declared.rows.Row.{Row}
 use Rattle.signal_pages.specs.Signals.{is_signal_row_of}
-use Rattle.row_table.specs.declared.index.PageKey.{PageKey}
-use Rattle.row_table.specs.Stamps.{is_of, IsPlaceOf}
-use Rattle.row_table.proofs.OnlyOne.{NonePass, none_from_find}
 use Rattle.row_table.proofs.SoundnessLemmas.{length_pages, listed_has_row, signal_row_at, within_filter}
 use Rattle.row_table.proofs.table.RowTable.signal_rows.Goals as goal
 
 pub push-requires : goal.push-requires
 push-requires c =
-    let rows = c.self.inside.rows.items in
+    let rows = values_of c.self.inside.rows in
     let filtered : List Row = filter (is_signal_row_of c.args.frame) rows in
     let listed = c.pages-page-items.ensures ∙ c.self.invariant.signal_pages c.args.frame in
     let within : c.loop-page.page-index < length filtered = within_filter c.args.frame rows c.pages-page-items.result.now listed c.loop-page.page-index c.loop-page-test.true in
@@ -21,32 +20,26 @@ push-requires c =
 
 pub unreachable-requires : goal.unreachable-requires
 unreachable-requires c =
-    let rows = c.self.inside.rows.items in
-    let pages = c.pages-page-items.result.now in
     let listed = c.pages-page-items.ensures ∙ c.self.invariant.signal_pages c.args.frame in
-    let page : PageKey = get_or pages c.loop-page.page-index (record { space = 0; vpn = 0 }) in
-    let none : NonePass (is_of page) rows = none_from_find (is_of page) rows (rw c.self.view_is c.in-None.ensures.absent) in
-    listed_has_row c.args.frame rows pages listed c.loop-page.page-index c.loop-page-test.true (record { space = 0; vpn = 0 }) none
+    listed_has_row c.args.frame (values_of c.self.inside.rows) c.pages-page-items.result.now listed c.loop-page.page-index c.loop-page-test.true (record { space = 0; vpn = 0 }) c.self.invariant.proper c.in-None.ensures
 
 pub loop-page-preserved : goal.loop-page-preserved
 loop-page-preserved c =
-    let rows = c.self.inside.rows.items in
+    let rows = values_of c.self.inside.rows in
     let i = c.loop-page.page-index in
-    let row = c.index.result.now in
+    let row = c.in-Some.row.now in
     let filtered : List Row = filter (is_signal_row_of c.args.frame) rows in
     let listed = c.pages-page-items.ensures ∙ c.self.invariant.signal_pages c.args.frame in
     let within : i < length filtered = within_filter c.args.frame rows c.pages-page-items.result.now listed i c.loop-page-test.true in
-    let page : PageKey = get_or c.pages-page-items.result.now i (record { space = 0; vpn = 0 }) in
-    let at : IsPlaceOf rows page c.in-Some.place = rw c.self.view_is c.in-Some.ensures.found in
-    let same = signal_row_at c.args.frame rows c.pages-page-items.result.now listed i c.loop-page-test.true (record { space = 0; vpn = 0 }) c.in-Some.place row c.self.invariant.proper at in
+    let found = c.in-Some.ensures ∙ signal_row_at c.args.frame rows c.pages-page-items.result.now listed i c.loop-page-test.true (record { space = 0; vpn = 0 }) row c.self.invariant.proper in
     c.push.ensures.items
     ∙ ap (λ (taken : List Row). taken ++ row ∷ []) c.loop-page.invariant
-    ∙ ap (λ (last : Row). take i filtered ++ last ∷ []) (c.index.ensures ∙ same)
+    ∙ ap (λ (last : Row). take i filtered ++ last ∷ []) (same_Some row (get_or filtered i row) found)
     ∙ sym (take_more filtered i row within)
 
 pub returns : goal.returns
 returns c =
-    let rows = c.self.inside.rows.items in
+    let rows = values_of c.self.inside.rows in
     let filtered : List Row = filter (is_signal_row_of c.args.frame) rows in
     let listed = c.pages-page-items.ensures in
     c.loop-page.invariant
