@@ -1,7 +1,7 @@
 #!/usr/bin/env bash
-# Times the store of rows with 16,384, 65,536 and 262,144 rows: adding them, taking out the last row and adding
-# it again, and the same with a row in the middle. Four times the rows should make the first two little slower for
-# each row. In the middle the rows behind are moved up, which takes longer with more rows.
+# Times the store of rows with 16,384, 65,536 and 262,144 rows: adding them, going over them, taking out the last row
+# and adding it again, and the same with rows in the middle. Four times the rows should make each little slower for each
+# row, wherever it stands.
 #
 # Makes a program in a temporary folder, and lets rt prove and build it there.
 set -euo pipefail
@@ -46,7 +46,7 @@ fn filled(alloc: Global, count: u32) -> Result<RowTable, NoMemory> {
 
 // Takes out the row of a page and adds it again.
 fn turn(table: &mut RowTable, vpn: u32) -> Result<(), NoMemory> {
-    table.remove(SpaceNo(0), Vpn(vpn))?;
+    table.remove(SpaceNo(0), Vpn(vpn));
     add(table, vpn)
 }
 
@@ -76,8 +76,10 @@ fn timed(rt: &(impl Print + std::rt::Clock), alloc: Global, count: u32) -> io::R
     let start = Instant::now(rt)?;
     let _ = turns_in_middle(&mut table, count / 2);
     let in_middle = start.elapsed(rt)?.as_micros();
-    let left = table.len();
-    println!(rt; "{count} rows: all added in {adding} us; {TURNS} taken out and added again: the last one in {at_end} us, in the middle in {in_middle} us (left {left})")
+    let start = Instant::now(rt)?;
+    let marked = table.iter().filter(|row| row.referenced).count();
+    let going = start.elapsed(rt)?.as_micros();
+    println!(rt; "{count} rows: all added in {adding} us, gone over in {going} us ({marked} marked); {TURNS} taken out and added again: the last one in {at_end} us, in the middle in {in_middle} us")
 }
 
 fn main(rt: HostRuntime) -> io::Result<()> {

@@ -24,9 +24,9 @@ fn new_context(pc: u32, a0: u32, a1: u32) -> Context
 }
 
 impl Flat {
-    /// Makes the event happen. One that doesn't fit leaves the machine as it is, and so does want of memory. A step,
-    /// a call or a declared row costs the logarithm of the rows. The machine costs its memory, and all else constant
-    /// time, amortised.
+    /// Makes the event happen. One that doesn't fit leaves the machine as it is, and so does want of memory. A step, a
+    /// call or a declared row costs the logarithm of the rows, the machine its memory, and all else constant time. Where
+    /// a thread is added or an output grows, that is amortised.
     pub fn apply(&mut self, event: &Event) -> Result<(), NoMemory>
         ensures ok { OnOk result (self.new ≡ applied self.old event.now) }
         ensures err { OnErr result (self.new ≡ self.old) }

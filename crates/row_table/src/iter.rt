@@ -47,3 +47,9 @@ impl<'a> Iterator for Rows<'a> {
         self.rows.size_hint()
     }
 }
+
+impl<'a> ExactSizeIterator for Rows<'a> {
+    fn len(&self) -> usize {
+        self.rows.len()
+    }
+}
