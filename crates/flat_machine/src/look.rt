@@ -1,15 +1,17 @@
 //! What the next step of a thread would do, without taking it.
 
-ghost use Rattle.std.specs.Prelude.{◌≡◌, ◌%◌, IfSome, not};
+ghost use Rattle.std.specs.Prelude.{◌≡◌, ◌%◌, IfSome, true, not};
+ghost use Rattle.std.specs.Option.{option_map};
 ghost use Rattle.phys_groups.specs.Memory.{word_at as word_at_lem};
 ghost use Rattle.phys_groups.specs.Translation.{place_in};
 ghost use Rattle.rv32_exec.specs.declared.statuses.Access.TheVariants.{Write};
 ghost use Rattle.rv32_exec.specs.Pages.{fetched, translates};
+ghost use Rattle.flat_state.specs.State.{is_ready};
 ghost use Rattle.flat_state.specs.Translation.{reached as reached_lem};
 ghost use Rattle.flat_state.specs.Pages.{pages_of};
 ghost use Rattle.flat_state.specs.Signals.{next_action as next_action_lem, next_signal as next_signal_lem, signal_of as signal_of_lem, signal_through as signal_through_lem};
 ghost use Rattle.flat_state.specs.Dependence.{row_name as row_name_lem};
-ghost use Rattle.flat_state.specs.NextSteps.{data_row as data_row_lem, fetch_row as fetch_row_lem, faults as faults_lem, next_step as next_step_lem, next_step_of as next_step_of_lem};
+ghost use Rattle.flat_state.specs.NextSteps.{fetch_row as fetch_row_lem, faults as faults_lem, next_step as next_step_lem, next_step_of as next_step_of_lem, row_of_action as row_of_action_lem};
 ghost use Rattle.flat_mmu.specs.Seen.{IsInMemory};
 ghost use Rattle.flat_mmu.specs.Translation.{Reaches};
 ghost use Rattle.flat_machine.specs.Looking.{does_any_miss, does_miss};
@@ -31,6 +33,13 @@ pub(crate) fn row_name(row: Row) -> Name
     Name::Mapping(row.space, row.vpn)
 }
 
+// The name of a row, if there is one.
+fn name_of(row: Option<Row>) -> Option<Name>
+    ensures { result ≡ option_map row_name_lem row }
+{
+    row.map(row_name)
+}
+
 impl Flat {
     /// What can be said of a thread's next step, and none where there is no such thread. It costs the logarithm of
     /// the rows.
@@ -50,18 +59,30 @@ impl Flat {
         ensures { result ≡ next_step_of_lem self.now thread.now }
     {
         match thread.status {
-            Status::Ready => NextStep {
-                runnable: self.full_receiver(thread).is_none(),
-                faults: self.faults(thread),
-                fetch_row: self.fetch_row(thread).map(row_name),
-                data_row: self.data_row(thread).map(row_name),
-            },
+            Status::Ready => self.next_step_of_ready(thread),
             Status::Trapped | Status::Ended(_) => NextStep {
                 runnable: false,
                 faults: false,
                 fetch_row: None,
                 data_row: None,
             },
+        }
+    }
+
+    // The same of a thread that is ready. It fetches and decodes once.
+    fn next_step_of_ready(&self, thread: &FlatThread) -> NextStep
+        requires thread { IsThreadOf self.now thread.now }
+        requires ready { is_ready thread.now.status ≡ true }
+        ensures { result ≡ next_step_of_lem self.now thread.now }
+    {
+        let fetch_row = self.fetch_row(thread);
+        let word = self.word_through(thread, fetch_row);
+        let action = self.action_of(thread, word);
+        NextStep {
+            runnable: self.full_for(self.signal_of(thread, action)).is_none(),
+            faults: self.faults(thread, word, action),
+            fetch_row: name_of(fetch_row),
+            data_row: name_of(self.row_of_action(thread, action)),
         }
     }
 
@@ -94,20 +115,23 @@ impl Flat {
         self.reached(thread, Access::Fetch, thread.context.pc).ok()
     }
 
-    fn data_row(&self, thread: &FlatThread) -> Option<Row>
+    // The row that the first access to data of the action goes through, if there is an action.
+    fn row_of_action(&self, thread: &FlatThread, action: Option<Action>) -> Option<Row>
         requires { IsThreadOf self.now thread.now }
-        ensures { result ≡ data_row_lem self.now thread.now }
+        ensures { result ≡ row_of_action_lem self.now thread.now action }
     {
-        let access = data_access(self.next_action(thread)?)?;
+        let access = data_access(action?)?;
         self.reached(thread, access.access, access.va).ok()
     }
 
-    // The word at the thread's pc, where its fetch translates.
-    fn next_word(&self, thread: &FlatThread) -> Option<u32>
-        requires { IsThreadOf self.now thread.now }
+    // The word at the thread's pc, where its fetch goes through that row.
+    fn word_through(&self, thread: &FlatThread, row: Option<Row>) -> Option<u32>
+        requires thread { IsThreadOf self.now thread.now }
+        requires row { row ≡ fetch_row_lem self.now thread.now }
+        requires in_memory { IfSome row (λ row. IsInMemory self.now.memory row.frame) }
         ensures { result ≡ fetched (pages_of self.now thread.now.space) thread.now.context.pc }
     {
-        match self.fetch_row(thread) {
+        match row {
             Some(row) => Some(self.word_at(&row, thread.context.pc)),
             None => None,
         }
@@ -124,24 +148,36 @@ impl Flat {
 
     // What the thread's next instruction asks for; none where its fetch doesn't translate, or the word is no
     // instruction.
-    #[tactic(auto, unfolding(flat_state::specs::Signals::next_action))]
     fn next_action(&self, thread: &FlatThread) -> Option<Action>
         requires { IsThreadOf self.now thread.now }
         ensures { result ≡ next_action_lem thread.now.context (pages_of self.now thread.now.space) }
     {
-        match self.next_word(thread) {
+        let fetch_row = self.fetch_row(thread);
+        self.action_of(thread, self.word_through(thread, fetch_row))
+    }
+
+    // The same where that is the word fetched, if there is one.
+    #[tactic(auto, unfolding(flat_state::specs::Signals::next_action))]
+    fn action_of(&self, thread: &FlatThread, word: Option<u32>) -> Option<Action>
+        requires thread { IsThreadOf self.now thread.now }
+        requires word { word ≡ fetched (pages_of self.now thread.now.space) thread.now.context.pc }
+        ensures { result ≡ next_action_lem thread.now.context (pages_of self.now thread.now.space) }
+    {
+        match word {
             Some(word) => action_for_word(&thread.context, word),
             None => None,
         }
     }
 
-    // Whether an access of the thread's next step doesn't translate.
-    fn faults(&self, thread: &FlatThread) -> bool
-        requires { IsThreadOf self.now thread.now }
+    // Whether an access of the thread's next step doesn't translate, where that is the word fetched and what it asks for.
+    fn faults(&self, thread: &FlatThread, word: Option<u32>, action: Option<Action>) -> bool
+        requires thread { IsThreadOf self.now thread.now }
+        requires word { word ≡ fetched (pages_of self.now thread.now.space) thread.now.context.pc }
+        requires action { action ≡ next_action_lem thread.now.context (pages_of self.now thread.now.space) }
         ensures { result ≡ faults_lem self.now thread.now }
     {
-        match self.next_word(thread) {
-            Some(word) => self.misses_any(thread, action_for_word(&thread.context, word)),
+        match word {
+            Some(_) => self.misses_any(thread, action),
             None => true,
         }
     }

@@ -97,13 +97,20 @@ impl Flat {
         room(&lengths, &ended, &to)
     }
 
+    // The first receiver that has no room for the signal, if there is a signal.
+    pub(crate) fn full_for(&self, signal: Option<Signal>) -> Option<ThreadNo>
+        ensures { result ≡ full_among_lem self.now.threads (map (λ receiver. receiver.0) (receivers_for_lem self.now signal)) }
+    {
+        let receivers = self.receivers_for(signal);
+        self.full_among(&receivers)
+    }
+
     // The first receiver that has no room for what the thread's next step sends.
     pub(crate) fn full_receiver(&self, thread: &FlatThread) -> Option<ThreadNo>
         requires { IsThreadOf self.now thread.now }
         ensures { result ≡ full_receiver_lem self.now thread.now }
     {
-        let receivers = self.receivers_for(self.next_signal(thread));
-        self.full_among(&receivers)
+        self.full_for(self.next_signal(thread))
     }
 
     // Gives each receiver in turn the address of the message slot in its own page. There is room for all.
