@@ -1,7 +1,8 @@
 //! The rows one after another.
 
-ghost use Rattle.std.specs.Prelude.{◌≡◌};
-ghost use Rattle.std.specs.Iterator.{YieldsFirstRef, item_count};
+ghost use Rattle.std.specs.Prelude.{◌≡◌, length, Some, IfSome};
+ghost use Rattle.std.specs.Iterator.{UpTo, YieldsFirstRef, item_count};
+ghost use Rattle.std.specs.Iterator.SizeHint.{IsWithinCount};
 
 use phys_groups::Row;
 use std::collections::btree_map::Values;
@@ -43,8 +44,14 @@ impl<'a> Iterator for Rows<'a> {
         self.rows.next()
     }
 
-    fn size_hint(&self) -> (usize, Option<usize>) {
-        self.rows.size_hint()
+    /// How many rows are left, as both bounds.
+    fn size_hint(&self) -> (usize, Option<usize>)
+        ensures lower { IsWithinCount result.0 (item_count (λ left. left) self.now) }
+        ensures upper { IfSome result.1 (UpTo (item_count (λ left. left) self.now)) }
+        ensures exact { result ≡ (length self.now, Some (length self.now)) }
+    {
+        let left = self.rows.len();
+        (left, Some(left))
     }
 }
 
