@@ -1,9 +1,9 @@
 -- Counts of rows, a row more at a time.
-use Rattle.std.proofs.Common.{◌≡◌, ℕ, ◌+◌, ◌<◌, Bool, true, false, cond, List, ◌∷◌, length, get_or, set, count_by, sym, ap, ◌∙◌, inl, inr, arith}
+use Rattle.std.proofs.Common.{◌≡◌, ℕ, ◌+◌, ◌<◌, true, false, cond, List, ◌∷◌, length, get_or, set, sym, ap, ◌∙◌, inl, inr, arith}
 use Rattle.std.proofs.lemmas.Bool.{cases_eq, eq-eqb, ne_eqb}
 use Rattle.std.proofs.lemmas.List.{get_or_default, get_or-set_other, get_or-set_same, length-set}
-use Rattle.std.proofs.lemmas.List.Sums.{sum_by-cons}
 use Rattle.phys_groups.specs.declared.rows.Row.{Row}
+use Rattle.flat_state.proofs.Places.{count_by-cons}
 use Rattle.proc_run.specs.declared.report.RowCounts.{RowCounts}
 use Rattle.proc_run.specs.Reports.{counted, is_modified_of, is_of, is_referenced_of, with_row}
 
@@ -16,15 +16,11 @@ pub record IsCountedTo (rows left : List Row) (spaces : ℕ) (counts : List RowC
   pub len : length counts ≡ spaces
   pub each : (space : ℕ) (d : RowCounts) → space < spaces → sum_of (get_or counts space d) (counted left space) ≡ counted rows space
 
--- a count with one row more ahead
-ahead : (p : Row → Bool) (row : Row) (next : List Row) → count_by p (row ∷ next) ≡ cond (p row) 1 0 + count_by p next
-ahead p row next = sum_by-cons (λ other. cond (p other) 1 0) row next
-
 -- a row of the space is counted
 counted_here : (row : Row) (next : List Row) (space : ℕ) (own : RowCounts) → row.space.0 ≡ space → sum_of (with_row row own) (counted next space) ≡ sum_of own (counted (row ∷ next) space)
 counted_here row next space own e =
     let is : is_of space row ≡ true = eq-eqb row.space.0 space e in
-    rw (ahead (is_of space) row next, ahead (is_referenced_of space) row next, ahead (is_modified_of space) row next, is)
+    rw (count_by-cons (is_of space) row next, count_by-cons (is_referenced_of space) row next, count_by-cons (is_modified_of space) row next, is)
     (ap (λ n. record { rows = n; referenced = (own.referenced + cond row.referenced 1 0) + (counted next space).referenced; modified = (own.modified + cond row.modified 1 0) + (counted next space).modified }) (omega arith)
     ∙ ap (λ n. record { rows = own.rows + (1 + (counted next space).rows); referenced = n; modified = (own.modified + cond row.modified 1 0) + (counted next space).modified }) (omega arith)
     ∙ ap (λ n. record { rows = own.rows + (1 + (counted next space).rows); referenced = own.referenced + (cond row.referenced 1 0 + (counted next space).referenced); modified = n }) (omega arith))
@@ -33,7 +29,7 @@ counted_here row next space own e =
 counted_elsewhere : (row : Row) (next : List Row) (space : ℕ) → (row.space.0 ≡ space → ⊥) → counted (row ∷ next) space ≡ counted next space
 counted_elsewhere row next space ne =
     let other : is_of space row ≡ false = ne_eqb row.space.0 space ne in
-    rw (ahead (is_of space) row next, ahead (is_referenced_of space) row next, ahead (is_modified_of space) row next, other)
+    rw (count_by-cons (is_of space) row next, count_by-cons (is_referenced_of space) row next, count_by-cons (is_modified_of space) row next, other)
     (ap (λ n. record { rows = n; referenced = 0 + (counted next space).referenced; modified = 0 + (counted next space).modified }) (omega arith)
     ∙ ap (λ n. record { rows = (counted next space).rows; referenced = n; modified = 0 + (counted next space).modified }) (omega arith)
     ∙ ap (λ n. record { rows = (counted next space).rows; referenced = (counted next space).referenced; modified = n }) (omega arith))
