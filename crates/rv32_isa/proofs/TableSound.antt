@@ -1,5 +1,5 @@
 -- What is read from a word is valid, and its word is that word.
-use Rattle.std.proofs.Common.{◌≡◌, ℕ, ◌+◌, ◌*◌, ◌/◌, ◌%◌, ◌^◌, ◌<◌, ◌≤◌, true, false, refl, ap, sym, ◌∙◌, arith, inl, inr, Option, Some, None}
+use Rattle.std.proofs.Common.{◌≡◌, ℕ, ◌+◌, ◌*◌, ◌/◌, ◌%◌, ◌^◌, ◌<◌, ◌≤◌, true, false, refl, ap, sym, ◌∙◌, subst, arith, inl, inr, Option, Some, None}
 use Rattle.std.specs.Prelude.{ℤ, pos, negsuc, ◌≤ℤ◌, nat_eq, if◌then◌else◌, ◌==◌, unsigned_abs}
 use Rattle.std.proofs.lemmas.Int.{ints}
 use Rattle.rv32_isa.specs.Word.{twos_complement, bit_of, opcode_of, rd_of, funct3_of, rs1_of, rs2_of, funct7_of, funct5_of, high12_of, aq_of, rl_of, immediate_i_of, immediate_s_of, immediate_b_of, immediate_j_of, r_word, i_word, s_word, b_word, j_word}
@@ -227,13 +227,17 @@ instruction_of-sound w h = sound_form w (opcode_of w) (funct3_of w) (funct7_of w
 
 -- The three facts that decoding promises of what it reads
 
-pub valid_where_read : (w : ℕ) (r : Option Instr) → IsSound w r → IfSome r IsValid
-valid_where_read w None h = tt
-valid_where_read w (Some i) h = h.0
+sound_where_read : (w : ℕ) (r : Option Instr) → w < 2 ^ 32 → r ≡ instruction_of w → IsSound w r
+sound_where_read w r fits e = subst (λ (o : Option Instr). IsSound w o) (sym e) (instruction_of-sound w fits)
 
-pub same_word_where_read : (w : ℕ) (r : Option Instr) → IsSound w r → IfSome r (λ i. word_of i ≡ w)
-same_word_where_read w None h = tt
-same_word_where_read w (Some i) h = h.1
+-- what a word reads as is valid, and has that word
+pub valid_where_read : (w : ℕ) (r : Option Instr) → w < 2 ^ 32 → r ≡ instruction_of w → IfSome r IsValid
+valid_where_read w None fits e = tt
+valid_where_read w (Some i) fits e = (sound_where_read w (Some i) fits e).0
+
+pub same_word_where_read : (w : ℕ) (r : Option Instr) → w < 2 ^ 32 → r ≡ instruction_of w → IfSome r (λ i. word_of i ≡ w)
+same_word_where_read w None fits e = tt
+same_word_where_read w (Some i) fits e = (sound_where_read w (Some i) fits e).1
 
 -- a word that reads as none is no instruction's word
 pub no_word_where_none : (w : ℕ) (r : Option Instr) → r ≡ instruction_of w → IfNone r ((i : Instr) → IsValid i → word_of i ≢ w)

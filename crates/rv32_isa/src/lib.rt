@@ -8,7 +8,7 @@ mod writing;
 
 pub use forms::Instr;
 pub use reading::decode;
-pub use writing::{encode, reencode};
+pub use writing::encode;
 
 #[cfg(test)]
 mod tests;

@@ -1,6 +1,6 @@
 // Words that GNU binutils made, with the form and the fields that they have, and words that it has none for.
 
-use crate::{Instr, decode, encode, reencode};
+use crate::{Instr, decode, encode};
 
 static ENCODINGS: [(u32, &str, [i64; 4]); 442] = [
     (0x233c_3e37, "lui", [28, 144323, 0, 0]),
@@ -713,19 +713,27 @@ fn ordered(
     )
 }
 
+// The word of the instruction that a word is.
+fn reencoded(word: u32) -> Option<u32> {
+    match decode(word) {
+        Some(instr) => Some(encode(instr)),
+        None => None,
+    }
+}
+
 #[test]
 fn words_of_the_assembler(rt: HostRuntime) {
     for (word, name, fields) in &ENCODINGS {
         let found = decode(*word).map(described);
         assert!(rt; found == Some((*name, *fields)), "{word:08x} is {name}");
-        assert_eq!(rt; reencode(*word), Some(*word));
+        assert_eq!(rt; reencoded(*word), Some(*word));
     }
 }
 
 #[test]
 fn words_of_no_instruction(rt: HostRuntime) {
     for word in &NO_INSTRUCTIONS {
-        assert_eq!(rt; reencode(*word), None, "{word:08x}");
+        assert_eq!(rt; reencoded(*word), None, "{word:08x}");
     }
 }
 

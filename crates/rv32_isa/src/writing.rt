@@ -1,13 +1,11 @@
 // The word of an instruction: one function for each format of word.
 
 ghost use Rattle.std.specs.Prelude.{◌≡◌, ◌<◌, ◌+◌, ◌*◌, Some};
-ghost use Rattle.std.specs.Option.{option_map};
 ghost use Rattle.rv32_isa.specs.Word.{bit_of, r_word, i_word, s_word, b_word, u_word, j_word};
 ghost use Rattle.rv32_isa.specs.Table.{word_of, IsValid, instruction_of, IsRegister};
 
 use crate::fields::{bits_12, bits_13, bits_21, flag};
 use crate::forms::Instr;
-use crate::reading::decode;
 
 /// The word of an instruction: the constant fields of its form and its own fields at their places.
 pub fn encode(instr: Instr) -> u32
@@ -16,16 +14,6 @@ pub fn encode(instr: Instr) -> u32
     ensures decodes { instruction_of result ≡ Some instr }
 {
     by_form(instr)
-}
-
-/// The word of the instruction that a word is: the word itself, where it is an instruction at all.
-pub fn reencode(word: u32) -> Option<u32>
-    ensures { result ≡ option_map (λ _. word) (instruction_of word) }
-{
-    match decode(word) {
-        Some(instr) => Some(encode(instr)),
-        None => None,
-    }
 }
 
 /// The word of an instruction, by its form.
