@@ -11,6 +11,7 @@ use cache_ident::{Frame, SpaceNo, Vpn};
 use phys_groups::{Memory, Rights, Row};
 use row_table::RowTable;
 use rv32_exec::{Access, Hole, Space, Width};
+use rv32_isa::{Instr, decode};
 use std::marker::Model;
 
 /// Memory and rows, held for a step in one space.
@@ -124,6 +125,10 @@ impl Space for Mmu {
             Some(row) => Ok(self.number(&row, va, Width::Word)),
             None => Err(Hole),
         }
+    }
+
+    fn instruction(&mut self, _va: u32, word: u32) -> Option<Instr> {
+        decode(word)
     }
 
     fn load(&self, va: u32, width: Width) -> Result<u32, Hole> {

@@ -1,2 +1,2 @@
-pub mod Misses
+pub mod StepChanges
 pub mod Translations

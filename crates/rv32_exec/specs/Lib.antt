@@ -1,4 +1,5 @@
 pub mod Pages
+pub mod Changes
 pub mod Registers
 pub mod Actions
 pub mod Steps

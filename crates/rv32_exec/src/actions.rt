@@ -52,6 +52,7 @@ pub enum Action {
 }
 
 /// What the instruction asks for in this context.
+#[inline(always)]
 #[tactic(auto, unfolding(crate::specs::Actions::action_of, rv32_isa::specs::Table::IsValid))]
 pub fn action_for(from: &Context, instr: Instr) -> Action
     requires { IsValid instr }

@@ -3,6 +3,7 @@
 
 mod actions;
 mod contexts;
+mod decoded;
 mod outputs;
 mod spaces;
 mod statuses;
@@ -10,6 +11,7 @@ mod steps;
 
 pub use actions::{Action, action_for};
 pub use contexts::Context;
+pub use decoded::DecodedWords;
 pub use outputs::{NoMemory, Output};
 pub use spaces::{Hole, Space, Width};
 pub use statuses::{Access, FaultKind, Misaligned, Reason, Status};

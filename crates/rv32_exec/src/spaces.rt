@@ -1,10 +1,12 @@
 // Address spaces, as a step uses them.
 
-ghost use Rattle.std.specs.Prelude.{◌≡◌, ◌%◌, List, IsTrue, is_ok};
+ghost use Rattle.std.specs.Prelude.{◌≡◌, ◌%◌, List, IfSome, IsTrue, is_ok};
 ghost use Rattle.std.specs.Result.{result_ok};
+ghost use Rattle.rv32_isa.specs.Table.{IsValid, instruction_of};
 ghost use Rattle.rv32_exec.specs.Pages.{Page, size_of, translates, fetched, loaded, stored, touched_at};
 
 use crate::statuses::Access;
+use rv32_isa::Instr;
 
 /// How many bytes an access takes: 1, 2 or 4.
 #[derive(Clone, Copy, Debug, PartialEq, Eq)]
@@ -47,6 +49,13 @@ pub trait Space {
     fn fetch(&self, va: u32) -> Result<u32, Hole>
         requires { va % 4 ≡ 0 }
         ensures { result_ok result ≡ fetched (pages self.now) va };
+
+    /// The instruction that a word fetched at `va` is, as `decode` answers it. A space may remember it by its address.
+    fn instruction(&mut self, va: u32, word: u32) -> Option<Instr>
+        ensures decoded { result ≡ instruction_of word }
+        ensures valid { IfSome result IsValid }
+        ensures pages { pages self.new ≡ pages self.old }
+        ensures kept { kept self.new ≡ kept self.old };
 
     /// The number at `va`, little-endian. A hole where the load does not translate.
     fn load(&self, va: u32, width: Width) -> Result<u32, Hole>

@@ -9,7 +9,6 @@ use crate::actions::{Action, action_for};
 use crate::contexts::Context;
 use crate::spaces::{Space, Width};
 use crate::statuses::{Access, Misaligned, Reason};
-use rv32_isa::decode;
 use rv32_ma::{AmoOp, amo};
 
 /// What a step came to.
@@ -28,6 +27,7 @@ pub enum Stepped {
 /// Takes one step.
 ///
 /// A few comparisons and the accesses of the instruction; no memory.
+#[inline(always)]
 pub fn step<S: Space>(context: &mut Context, space: &mut S) -> Stepped
     requires { context.old.pc % 4 ≡ 0 }
     ensures aligned { context.new.pc % 4 ≡ 0 }
@@ -39,6 +39,7 @@ pub fn step<S: Space>(context: &mut Context, space: &mut S) -> Stepped
 }
 
 /// Fetches the word at pc, and does the instruction that it is.
+#[inline(always)]
 #[tactic(auto, using(crate::proofs::Translations::translations), unfolding(crate::specs::Steps::after_step))]
 fn fetch<S: Space>(context: &mut Context, space: &mut S) -> Stepped
     requires { context.old.pc % 4 ≡ 0 }
@@ -53,13 +54,14 @@ fn fetch<S: Space>(context: &mut Context, space: &mut S) -> Stepped
             access: Access::Fetch,
         };
     };
-    match decode(word) {
+    match space.instruction(pc, word) {
         Some(instr) => act(context, space, action_for(context, instr)),
         None => end(context, space, Reason::Illegal { word }),
     }
 }
 
 /// Does what an instruction asks for, after its fetch.
+#[inline(always)]
 #[tactic(auto, unfolding(crate::specs::Steps::after_action))]
 fn act<S: Space>(context: &mut Context, space: &mut S, action: Action) -> Stepped
     requires aligned { context.old.pc % 4 ≡ 0 }
@@ -105,6 +107,7 @@ fn act<S: Space>(context: &mut Context, space: &mut S, action: Action) -> Steppe
 }
 
 /// Ends the thread: its fetch was its last access.
+#[inline(always)]
 fn end<S: Space>(context: &Context, space: &mut S, reason: Reason) -> Stepped
     requires { IsTrue (translates (S.pages space.old) context.now.pc Access.Fetch) }
     ensures after { IsAfter context.now (S.pages space.new) result (ended context.now (S.pages space.old) reason) }
@@ -115,6 +118,7 @@ fn end<S: Space>(context: &Context, space: &mut S, reason: Reason) -> Stepped
 }
 
 /// Jumps, or ends the thread where 4 does not divide the target.
+#[inline(always)]
 fn jump<S: Space>(context: &mut Context, space: &mut S, rd: u32, target: u32) -> Stepped
     requires aligned { context.old.pc % 4 ≡ 0 }
     requires register { rd < 32 }
@@ -134,6 +138,7 @@ fn jump<S: Space>(context: &mut Context, space: &mut S, rd: u32, target: u32) ->
 }
 
 /// Loads into a register.
+#[inline(always)]
 #[tactic(auto, using(crate::proofs::Translations::translations))]
 fn load<S: Space>(
     context: &mut Context,
@@ -168,6 +173,7 @@ fn load<S: Space>(
 }
 
 /// Stores the low bytes of a value.
+#[inline(always)]
 #[tactic(auto, using(crate::proofs::Translations::translations))]
 fn store<S: Space>(
     context: &mut Context,
@@ -199,6 +205,7 @@ fn store<S: Space>(
 }
 
 /// Reads a word, and writes what the operation makes of it.
+#[inline(always)]
 #[tactic(auto, using(crate::proofs::Translations::translations))]
 fn atomic<S: Space>(
     context: &mut Context,

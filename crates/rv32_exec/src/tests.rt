@@ -6,7 +6,10 @@ ghost use Rattle.rv32_exec.specs.declared.spaces.Width.TheVariants.{Word};
 
 mod model;
 
-use crate::{Access, Context, Hole, Misaligned, Output, Reason, Space, Stepped, Width, step};
+use crate::{
+    Access, Context, DecodedWords, Hole, Misaligned, Output, Reason, Space, Stepped, Width, step,
+};
+use rv32_isa::{Instr, decode};
 use std::test::Fail;
 
 #[derive(Drop)]
@@ -67,6 +70,10 @@ impl Space for Shared {
         } else {
             Err(Hole)
         }
+    }
+
+    fn instruction(&mut self, _va: u32, word: u32) -> Option<Instr> {
+        decode(word)
     }
 
     #[tactic(auto, unfolding(crate::specs::Pages::read_through, crate::specs::Pages::translation))]
@@ -278,6 +285,35 @@ fn atomic_sum(rt: HostRuntime) {
     context.set(11, 0x1800);
     assert_eq!(rt; run(&mut context, &mut space, 2), Stepped::Next);
     assert_eq!(rt; (context.x(10), context.x(11)), (40, 42));
+}
+
+// Words at one address, at addresses that share a line, and one that is no instruction.
+#[test]
+fn remembered_words_are_compared(rt: HostRuntime) -> Result<(), Fail> {
+    let mut words = DecodedWords::new(rt.alloc())?;
+    let is_load = |found| matches!(
+        found,
+        Some(Instr::Lw {
+            rd: 10,
+            rs1: 11,
+            imm: 0
+        })
+    );
+    let is_store = |found| matches!(
+        found,
+        Some(Instr::Sw {
+            rs1: 11,
+            rs2: 10,
+            imm: 0
+        })
+    );
+    assert!(rt; words.instruction(0, 0).is_none());
+    assert!(rt; is_load(words.instruction(0, 0x0005_a503)));
+    assert!(rt; is_load(words.instruction(0, 0x0005_a503)));
+    assert!(rt; is_store(words.instruction(4_096, 0x00a5_a023)));
+    assert!(rt; is_load(words.instruction(0, 0x0005_a503)));
+    assert!(rt; words.instruction(0, 0x0000_100f).is_none());
+    Ok(())
 }
 
 #[test]

@@ -1,6 +1,6 @@
 -- A missed step leaves everything.
-use Rattle.rv32_exec.proofs.Misses.{missed_after}
+use Rattle.rv32_exec.proofs.StepChanges.{missed_after}
 use Rattle.rv32_exec.proofs.steps.step.Goals as goal
 
 pub returns-clause-missed : goal.returns-clause-missed
-returns-clause-missed g c = missed_after _ _ _ _ _ c.fetch.ensures.after
+returns-clause-missed g c = let after = c.fetch.ensures.after in missed_after _ _ _ _ _ after.context_is after.pages_are after.answer_is
