@@ -160,8 +160,8 @@ impl Memory {
         self.bytes[start..start + PAGE_BYTES].copy_from_slice(bytes);
     }
 
-    // The bytes of a frame.
-    fn page(&self, frame: Frame) -> &[u8]
+    /// The 4,096 bytes of a frame, without a copy.
+    pub fn page(&self, frame: Frame) -> &[u8]
         requires { HasFrame self.now frame }
         ensures bytes { result.now ≡ page_at self.now frame }
         ensures whole_page { length result.now ≡ 4096 }
@@ -211,6 +211,7 @@ mod tests {
         memory.copy_in(Frame(127), page);
         assert!(rt; memory.equals(Frame(127), page));
         assert_eq!(rt; memory.byte(LAST_BYTE), 5);
+        assert_eq!(rt; memory.page(Frame(127)).last().copied(), Some(5));
         memory.copy_out(Frame(126), page);
         assert_eq!(rt; page.last().copied(), Some(0));
     }
