@@ -14,6 +14,7 @@ sed 's/rv32_exec\.proofs\.tests/step_times.proofs/' \
 {
     echo '#![tactic(auto)]'
     echo 'use rv32_exec::{Access, Context, Hole, Space, Stepped, Width, step};'
+    echo 'use rv32_isa::{Instr, decode};'
     echo 'use std::io;'
     echo 'use std::time::Instant;'
     # the space and the loop of the tests, up to the first test
