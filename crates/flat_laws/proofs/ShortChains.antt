@@ -24,8 +24,7 @@ use Rattle.flat_state.specs.declared.records.FlatThread.{FlatThread}
 use Rattle.flat_state.specs.State.{FlatState}
 use Rattle.flat_state.specs.Translation.{is_fit_row, row_through}
 use Rattle.flat_state.specs.Declaration.{is_receiver_in, thread_is_in}
-use Rattle.flat_state.specs.Dependence.{row_name, signal_rows_of, parents_of_row, parents_of_found, parents}
-use Rattle.flat_state.specs.NextSteps.{up}
+use Rattle.flat_state.specs.Dependence.{row_name, signal_rows_of, parents_of_row, parents_of_found, parents, up}
 use Rattle.flat_state.specs.WellFormed.{IsWellFormed}
 use Rattle.flat_state.proofs.Places.{get_from_Contains, Contains-from_get, fails_if_not_found}
 use Rattle.flat_laws.specs.Counts.{AtMost}
