@@ -25,6 +25,7 @@ find_rt() {
     rt=
     if hash rt 2> /dev/null; then
         rt=${BASH_CMDS[rt]}
+        [[ $rt == /* ]] || rt="$PWD/$rt"
     fi
 }
 
@@ -75,16 +76,28 @@ find_proved() {
     [ -x "$proved" ]
 }
 
-# keep_proved SUM LISTING FOLDER: takes the programs that FOLDER/NAME/out has as those of the sources with that sum, all
-# at once, and forgets all but the last few sums.
+# Whether all programs of the sources with that sum are kept.
+are_kept() {
+    local name
+    for name in "${programs[@]}"; do
+        [ -x "$proved_folder/$1/$name" ] || return
+    done
+}
+
+# keep_proved SUM LISTING: takes what rt left of the programs as those of the sources with that sum, all at once, and forgets
+# all but the last few sums.
 keep_proved() {
     local name new old
-    mkdir -p -- "$proved_folder" && new=$(mktemp -d -- "$proved_folder/new.XXXXXX") || return
-    for name in "${programs[@]}"; do
-        cp -- "$3/$name/out/$name" "$new/$name" && chmod 755 "$new/$name" || return
-    done
-    chmod 755 "$new" && rm -rf -- "${proved_folder:?}/$1" && mv -- "$new" "$proved_folder/$1" || return
-    "$rt" version > "$new.kit" && mv -f -- "$new.kit" "$proved_folder/kit" || return
+    mkdir -p -- "$proved_folder" || return
+    if ! are_kept "$1"; then
+        new=$(mktemp -d -- "$proved_folder/new.XXXXXX") || return
+        for name in "${programs[@]}"; do
+            cp -- "$top/crates/$name/out/$name" "$new/$name" && chmod 755 "$new/$name" || return
+        done
+        rm -rf -- "${proved_folder:?}/$1"
+        chmod 755 "$new" && mv -T -- "$new" "$proved_folder/$1" || return
+    fi
+    "$rt" version > "$proved_folder/kit" || return
     keep_listing "$1" "$2"
     ls -dt -- "$proved_folder"/*/ | tail -n +5 | while IFS= read -r old; do rm -rf -- "$old"; done
 }
