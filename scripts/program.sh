@@ -60,20 +60,24 @@ keep_listing() {
 
 # Sets proved to the path of the program of that name that is proved and built from the sources as they are, or fails.
 find_proved() {
-    local listing sum='' kept_sum='' kept_rt='' kept=''
+    local listing sum
     find_rt
-    listing=$(list_sources) || return 1
-    if [ -r "$proved_folder/listing" ]; then
-        { IFS= read -r kept_sum; IFS= read -r kept_rt; IFS= read -r -d '' kept; } < "$proved_folder/listing"
-        [ -z "$rt" ] || kept="$kept_rt"$'\n'"$kept"
-        if [ "$kept" = "$listing"$'\n' ]; then sum=$kept_sum; fi
-    fi
-    if [ -z "$sum" ]; then
-        sum=$(sum_sources 2> /dev/null) || return 1
+    if ! take_kept_sum 2> /dev/null; then
+        listing=$(list_sources) && sum=$(sum_sources 2> /dev/null) || return
         if [ -n "$rt" ] && [ -x "$proved_folder/$sum/$1" ]; then keep_listing "$sum" "$listing"; fi
     fi
     proved="$proved_folder/$sum/$1"
     [ -x "$proved" ]
+}
+
+# Sets sum to the one that is kept, and fails where the sources aren't listed as they were when it was found. The line on rt
+# doesn't count where rt isn't on the path.
+take_kept_sum() {
+    {
+        IFS= read -r sum
+        [ -n "$rt" ] || IFS= read -r _
+        cmp -s -- - <(list_sources)
+    } < "$proved_folder/listing"
 }
 
 # Whether all programs of the sources with that sum are kept.
