@@ -89,15 +89,23 @@ are_kept() {
 }
 
 # keep_proved SUM LISTING: takes what rt left of the programs as those of the sources with that sum, all at once, and forgets
-# all but the last few sums.
+# all but the last few sums. It fails where a source was written to since they were listed: which text rt read isn't known then.
 keep_proved() {
-    local name new old
+    local name changed old new=''
     mkdir -p -- "$proved_folder" || return
     if ! are_kept "$1"; then
         new=$(mktemp -d -- "$proved_folder/new.XXXXXX") || return
         for name in "${programs[@]}"; do
             cp -- "$top/crates/$name/out/$name" "$new/$name" && chmod 755 "$new/$name" || return
         done
+    fi
+    changed=$(diff <(printf '%s\n' "$2") <(list_sources) | sed -n 's/^[<>] \([^ ]*\).*/\1/p' | sort -u | head -n 3)
+    if [ -n "$changed" ]; then
+        [ -z "$new" ] || rm -rf -- "$new"
+        say "these changed meanwhile, so no program counts as that of these sources: ${changed//$'\n'/, }"
+        return 1
+    fi
+    if [ -n "$new" ]; then
         rm -rf -- "${proved_folder:?}/$1"
         chmod 755 "$new" && mv -T -- "$new" "$proved_folder/$1" || return
     fi
