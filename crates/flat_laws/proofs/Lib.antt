@@ -8,3 +8,4 @@ pub mod Changes
 pub mod StepsAlike
 pub mod MemoryAfter
 pub mod RightsLaws
+pub mod FarParents

@@ -16,7 +16,7 @@ use Rattle.flat_state.specs.declared.events.Decl.TheVariants as decls
 use Rattle.flat_state.specs.declared.events.Machine.{Machine}
 use Rattle.flat_state.specs.declared.records.FlatThread.{FlatThread}
 use Rattle.flat_state.specs.State.{FlatState, with_thread}
-use Rattle.flat_state.specs.Declaration.{breaks, broken_rule, declared, new_thread, rule_by_machine, rule_of_first, rule_of_other}
+use Rattle.flat_state.specs.Declaration.{breaks, broken_rule, declared, has_no_flag, new_thread, rule_by_machine, rule_of_first, rule_of_other}
 use Rattle.flat_state.specs.Call.{answered, made, mapped, mapping, refusal, unmapped}
 use Rattle.flat_state.proofs.Places.{get-append}
 use Rattle.flat_state.proofs.FormedParts.{thread_formed, without_formed}
@@ -132,7 +132,11 @@ of_first (decls.Kernel number limits) = one_rule 5 refl
 of_first (decls.Right kernel group read write) = one_rule 5 refl
 of_first (decls.Space number kernel) = one_rule 5 refl
 of_first (decls.Thread number space pc priority a0 a1) = one_rule 5 refl
-of_first (decls.Map space vpn frame flags receiver) = one_rule 5 refl
+of_first (decls.Map space vpn frame flags receiver) = by (has_no_flag flags)
+  where
+    by : (none : Bool) → IsOfRules (Some (if none then 4 else 5))
+    by true = one_rule 4 refl
+    by false = one_rule 5 refl
 of_first (decls.Word frame offset value) = one_rule 5 refl
 
 by_machine : (machine : Option Machine) (s : FlatState) (d : Decl) → IsOfRules (rule_by_machine machine s d)
