@@ -9,3 +9,5 @@ pub mod StepsAlike
 pub mod MemoryAfter
 pub mod RightsLaws
 pub mod FarParents
+pub mod PageMarks
+pub mod RowMarks
