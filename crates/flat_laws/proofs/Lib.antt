@@ -9,5 +9,6 @@ pub mod StepsAlike
 pub mod MemoryAfter
 pub mod RightsLaws
 pub mod FarParents
-pub mod PageMarks
 pub mod RowMarks
+pub mod StepSame
+pub mod EventKeeps

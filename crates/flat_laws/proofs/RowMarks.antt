@@ -23,14 +23,14 @@ use Rattle.flat_state.specs.Translation.{rights_of, reached, row_through, wants}
 use Rattle.flat_state.specs.Pages.{is_in, page_of, pages_of, with_marks_of, with_marks}
 use Rattle.flat_state.specs.Signals.{is_runnable, next_action}
 use Rattle.flat_state.specs.Step.{outcome, stepped_so, stepped, step_if, step_of, after_step}
-use Rattle.flat_state.specs.NextSteps.{fetch_row, data_row, data_access, row_of_access, row_of_action, is_miss, faults}
+use Rattle.flat_state.specs.NextSteps.{fetch_row, data_row, data_access, stores, row_of_access, row_of_action, is_miss, faults}
 use Rattle.flat_state.specs.WellFormed.{IsWellFormed}
 use Rattle.flat_state.proofs.Found.{found-row_of, found-space, found-page}
 use Rattle.flat_state.proofs.Translating.{translation-pages}
 use Rattle.flat_state.proofs.WritingBack.{page-found}
-use Rattle.flat_laws.specs.Marks.{is_through, stores, marked_by}
+use Rattle.flat_laws.specs.Marks.{is_through, marked_by}
 use Rattle.flat_laws.proofs.Members.{find-map, map-agree}
-use Rattle.flat_laws.proofs.PageMarks.{IsWalked, is_at, access_of, step_walks, atomic_writes}
+use Rattle.flat_state.proofs.PageMarks.{IsWalked, is_at, access_of, step_walks, atomic_writes}
 
 is_some-option_map : {X Y : Type 0} (f : X → Y) (o : Option X) → is_some (option_map f o) ≡ is_some o
 is_some-option_map f None = refl

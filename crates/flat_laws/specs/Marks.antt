@@ -1,25 +1,17 @@
 -- Through which rows a step goes, and which bits it leaves there.
-use Rattle.std.specs.Prelude.{Bool, true, false, ◌&&◌, ◌||◌, List, Option, Some, None}
+use Rattle.std.specs.Prelude.{Bool, false, ◌&&◌, ◌||◌, Option, Some, None}
 use Rattle.phys_groups.specs.declared.rows.Row.{Row}
 use Rattle.phys_groups.specs.Translation.{is_row_of}
-use Rattle.rv32_exec.specs.declared.actions.Action.{Action}
-use Rattle.rv32_exec.specs.declared.actions.Action.TheVariants as actions
 use Rattle.flat_state.specs.declared.records.FlatThread.{FlatThread}
 use Rattle.flat_state.specs.State.{FlatState}
 use Rattle.flat_state.specs.Pages.{pages_of}
 use Rattle.flat_state.specs.Signals.{next_action}
-use Rattle.flat_state.specs.NextSteps.{fetch_row, data_row}
+use Rattle.flat_state.specs.NextSteps.{fetch_row, data_row, stores}
 
 -- the row is the one that an access goes through
 abbrev pub is_through : Option Row → Row → Bool
 is_through None row = false
 is_through (Some found) row = is_row_of found.space found.vpn.0 row
-
--- a store and an atomic action store
-abbrev pub stores : Option Action → Bool
-stores (Some (actions.Store va width value)) = true
-stores (Some (actions.Atomic rd va op operand)) = true
-stores _ = false
 
 -- The row as the thread's next step leaves it where it doesn't fault: the rows of its fetch and of its data access are
 -- referenced, and the latter is modified where the step stores. No other bit changes.

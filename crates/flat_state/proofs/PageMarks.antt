@@ -26,8 +26,7 @@ use Rattle.rv32_exec.specs.Actions.{action_of}
 use Rattle.rv32_exec.specs.Steps.{After, ended, after_jump, load_found, store_found, write_found, read_found, after_action, after_decoding, after_fetch, after_step}
 use Rattle.flat_state.specs.declared.records.DataAccess.{DataAccess}
 use Rattle.flat_state.specs.Signals.{next_action}
-use Rattle.flat_state.specs.NextSteps.{if_aligned, data_access, is_miss}
-use Rattle.flat_laws.specs.Marks.{stores}
+use Rattle.flat_state.specs.NextSteps.{data_access, stores, is_miss}
 
 abbrev is_write : Access → Bool
 is_write Fetch = false
