@@ -12,3 +12,5 @@ pub mod FarParents
 pub mod RowMarks
 pub mod StepSame
 pub mod EventKeeps
+pub mod ParentLaws
+pub mod ReceiverLaws
