@@ -266,26 +266,26 @@ room_from threads ((first, vpn) ∷ rest) has = record {
 }
 
 -- a thread that got an address is the same but for its queue
-record IsAddressed (t u : FlatThread) : Type 0 where
-  no : u.no ≡ t.no
-  space : u.space ≡ t.space
-  priority : u.priority ≡ t.priority
-  context : u.context ≡ t.context
-  status : u.status ≡ t.status
-  ended : is_ended t.status ≡ true → length u.queue.items ≡ length t.queue.items
-  running : is_ended t.status ≡ false → length u.queue.items ≡ length t.queue.items + 1
+pub record IsAddressed (t u : FlatThread) : Type 0 where
+  pub no : u.no ≡ t.no
+  pub space : u.space ≡ t.space
+  pub priority : u.priority ≡ t.priority
+  pub context : u.context ≡ t.context
+  pub status : u.status ≡ t.status
+  pub ended : is_ended t.status ≡ true → length u.queue.items ≡ length t.queue.items
+  pub running : is_ended t.status ≡ false → length u.queue.items ≡ length t.queue.items + 1
 
-addressed : (va : ℕ) (t : FlatThread) → IsAddressed t (with_address va t)
+pub addressed : (va : ℕ) (t : FlatThread) → IsAddressed t (with_address va t)
 addressed va t = by (is_ended t.status) refl
   where
     by : (b : Bool) → is_ended t.status ≡ b → IsAddressed t (cond b t (record t { queue = record { items = t.queue.items ++ va ∷ [] } }))
     by true is = record { no = refl; space = refl; priority = refl; context = refl; status = refl; ended = λ e. refl; running = λ e. absurd (cc) }
     by false is = record { no = refl; space = refl; priority = refl; context = refl; status = refl; ended = λ e. absurd (cc); running = λ e. length_push t.queue.items va }
 
-keeps_all : (threads : List FlatThread) → KeepSpaces threads threads
+pub keeps_all : (threads : List FlatThread) → KeepSpaces threads threads
 keeps_all threads = record { kept = λ n t there. (t, there, refl) }
 
-keeps_on : (a b c : List FlatThread) → KeepSpaces a b → KeepSpaces b c → KeepSpaces a c
+pub keeps_on : (a b c : List FlatThread) → KeepSpaces a b → KeepSpaces b c → KeepSpaces a c
 keeps_on a b c first then = record {
   kept = λ n t there.
       let u = first.kept n t there in

@@ -36,6 +36,12 @@ data_access (actions.Jump rd target) = None
 data_access actions.Call = None
 data_access actions.Break = None
 
+-- a store and an atomic action store
+abbrev pub stores : Option Action → Bool
+stores (Some (actions.Store va width value)) = true
+stores (Some (actions.Atomic rd va op operand)) = true
+stores _ = false
+
 -- the row that the next step's fetch goes through
 abbrev pub fetch_row : FlatState → FlatThread → Option Row
 fetch_row s t = row_through (reached s Fetch t.space t.context.pc)
