@@ -18,7 +18,7 @@ scenario() {
     echo 'end'
 }
 
-"$top/run" < "$top/examples/hello.scenario" > "$place/report"
+"$top/build"
 for rows in 50000 100000 200000; do
     scenario "$rows" > "$place/scenario"
     start=$(date +%s%N)

@@ -1,3 +1,4 @@
 pub mod Idents
 pub mod Names
 pub mod Rolls
+pub mod Residents

@@ -8,3 +8,9 @@ pub mod Changes
 pub mod StepsAlike
 pub mod MemoryAfter
 pub mod RightsLaws
+pub mod FarParents
+pub mod RowMarks
+pub mod StepSame
+pub mod EventKeeps
+pub mod ParentLaws
+pub mod ReceiverLaws

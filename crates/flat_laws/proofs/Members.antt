@@ -1,5 +1,5 @@
 -- What stands in a list that is made of others.
-use Rattle.std.proofs.Common.{◌≡◌, ℕ, zero, suc, ◌+◌, ◌≤◌, Bool, true, false, cond, List, [], ◌∷◌, map, length, Option, Some, None, slice_get, Contains, filter, count_by, refl, ap, sym, ◌∙◌, subst, ◌⊎◌, inl, inr, arith}
+use Rattle.std.proofs.Common.{◌≡◌, ℕ, zero, suc, ◌+◌, ◌≤◌, Bool, true, false, cond, List, [], ◌∷◌, map, length, Option, Some, None, slice_get, Contains, filter, count_by, refl, ap, ap₂, sym, ◌∙◌, subst, ◌⊎◌, inl, inr, arith}
 use Rattle.std.specs.Prelude.{option_to_list}
 use Rattle.std.specs.List.{find, filter_map, flat_map, cons_option}
 use Rattle.std.specs.Option.{option_map}
@@ -134,6 +134,20 @@ module _ {X Y : Type 0} where
   pub length-filter_map : (h : X → Option Y) (xs : List X) → length (filter_map h xs) ≤ length xs
   length-filter_map h [] = omega arith
   length-filter_map h (x ∷ xs) = let rest = length-filter_map h xs in let one = length-cons_option (h x) (filter_map h xs) in omega arith
+
+  -- what is found among the images of a list
+  pub find-map : (q : Y → Bool) (p : X → Bool) (f : X → Y) → ((x : X) → q (f x) ≡ p x) → (xs : List X) → find q (map f xs) ≡ option_map f (find p xs)
+  find-map q p f same [] = refl
+  find-map q p f same (x ∷ xs) = ap (λ b. cond b (Some (f x)) (find q (map f xs))) (same x) ∙ (ap (cond (p x) (Some (f x))) (find-map q p f same xs) ∙ by_test (p x) (find p xs))
+    where
+      by_test : (b : Bool) (later : Option X) → cond b (Some (f x)) (option_map f later) ≡ option_map f (cond b (Some x) later)
+      by_test true later = refl
+      by_test false later = refl
+
+  -- two maps that agree on the elements
+  pub map-agree : (f g : X → Y) (xs : List X) → ((i : ℕ) (x : X) → slice_get xs i ≡ Some x → f x ≡ g x) → map f xs ≡ map g xs
+  map-agree f g [] same = refl
+  map-agree f g (x ∷ xs) same = ap₂ (λ (y : Y) (ys : List Y). y ∷ ys) (same zero x refl) (map-agree f g xs (λ i z there. same (suc i) z there))
 
   pub Contains-option_map : (f : X → Y) (o : Option X) (y : Y) → Contains (option_to_list (option_map f o)) y → (x : X) × (o ≡ Some x) × (f x ≡ y)
   Contains-option_map f None y there = absurd (contains_nothing y there)

@@ -1,4 +1,4 @@
--- The chain of a step is short.
+-- A thread, a row that is fetched through and a row of data, all of one space, want little.
 use Rattle.std.proofs.Common.{◌≡◌, ℕ, zero, suc, ◌/◌, ◌≤◌, Bool, true, false, not, List, [], ◌∷◌, ◌++◌, map, length, Option, Some, None, slice_get, Contains, filter, refl, ap, sym, ◌∙◌, subst, ◌⊎◌, inl, inr, arith, length-append}
 use Rattle.std.specs.Prelude.{if◌then◌else◌, ◌==◌, ◌&&◌, ◌||◌, is_some, option_to_list}
 use Rattle.std.specs.List.{filter_map, flat_map}
@@ -24,17 +24,16 @@ use Rattle.flat_state.specs.declared.records.FlatThread.{FlatThread}
 use Rattle.flat_state.specs.State.{FlatState}
 use Rattle.flat_state.specs.Translation.{is_fit_row, row_through}
 use Rattle.flat_state.specs.Declaration.{is_receiver_in, thread_is_in}
-use Rattle.flat_state.specs.Dependence.{row_name, signal_rows_of, parents_of_row, parents_of_found, parents}
-use Rattle.flat_state.specs.NextSteps.{up}
+use Rattle.flat_state.specs.Dependence.{row_name, signal_rows_of, parents_of_row, parents_of_found, parents, up}
 use Rattle.flat_state.specs.WellFormed.{IsWellFormed}
 use Rattle.flat_state.proofs.Places.{get_from_Contains, Contains-from_get, fails_if_not_found}
 use Rattle.flat_laws.specs.Counts.{AtMost}
-use Rattle.flat_laws.proofs.Members.{Contains-here, Contains-behind, Contains-cases, contains_nothing, Contains-option, Contains-filter, count_by-le, found_place, Contains-map, Contains-from_map, Contains-from_flat_map, Contains-filter_map, Contains-from_filter_map, length-filter_map, Contains-option_map}
+use Rattle.flat_laws.proofs.Members.{Contains-here, Contains-behind, Contains-cases, contains_nothing, Contains-option, Contains-some, Contains-filter, count_by-le, found_place, Contains-map, Contains-from_map, Contains-from_flat_map, Contains-filter_map, Contains-from_filter_map, length-filter_map, Contains-option_map}
 
-same_space : (a b : SpaceNo) → a.0 ≡ b.0 → a ≡ b
+pub same_space : (a b : SpaceNo) → a.0 ≡ b.0 → a ≡ b
 same_space a b e = ap (λ (n : ℕ). let x : SpaceNo = record { 0 = n } in x) e
 
-same_vpn : (a b : Vpn) → a.0 ≡ b.0 → a ≡ b
+pub same_vpn : (a b : Vpn) → a.0 ≡ b.0 → a ≡ b
 same_vpn a b e = ap (λ (n : ℕ). let x : Vpn = record { 0 = n } in x) e
 
 -- a row with x has neither m nor a receiver
@@ -85,6 +84,17 @@ goes_through rights rows allows space va row e = by (row_of rows space (va / 409
           in_space = same_space x.space space (eqb-true x.space.0 space.0 parts.0);
           allowed = passes.1;
         })
+
+at_most_one : {X : Type 0} (o : Option X) → length (option_to_list o) ≤ 1
+at_most_one None = omega arith
+at_most_one (Some x) = omega arith
+
+-- few names of each kind
+pub record AreFew (names : List Name) : Type 0 where
+  pub kernels : AtMost 5 kinds.Kernel names
+  pub spaces : AtMost 5 kinds.Space names
+  pub threads : AtMost 5 kinds.Thread names
+  pub rows : AtMost 6 kinds.Mapping names
 
 -- the signal rows of a message row that is there
 abbrev signals_for : FlatState → Option Row → List Row
@@ -150,8 +160,14 @@ module _ (s : FlatState) (formed : IsWellFormed s) where
       by None e = refl
       by (Some thread) e = absurd (false≢true (sym (received row there (ap (λ (o : Option ThreadNo). is_some o) e)) ∙ is))
 
-module _ (s : FlatState) (formed : IsWellFormed s) (n : ℕ) (t : FlatThread) (here : slice_get s.threads n ≡ Some t) (f d : Option Row) (fetches : (row : Row) → f ≡ Some row → IsThrough s.rows allows_fetch t.space row) (accesses : (row : Row) → d ≡ Some row → Contains s.rows row × (row.space ≡ t.space)) where
-  -- the rows, threads, spaces and kernels of the chain
+-- what is known of them: each is there, in the space
+pub record AreIn (s : FlatState) (space : SpaceNo) (own : Option ThreadNo) (f d : Option Row) : Type 0 where
+  pub thread : (thread : ThreadNo) (u : FlatThread) → own ≡ Some thread → slice_get s.threads thread.0 ≡ Some u → u.space ≡ space
+  pub fetched : (row : Row) → f ≡ Some row → IsThrough s.rows allows_fetch space row
+  pub accessed : (row : Row) → d ≡ Some row → Contains s.rows row × (row.space ≡ space)
+
+module _ (s : FlatState) (formed : IsWellFormed s) (space : SpaceNo) (own : Option ThreadNo) (f d : Option Row) (are : AreIn s space own f d) where
+  -- their rows, threads, spaces and kernels, and those that they depend on
   abbrev signals : List Row
   signals = signals_for s d
 
@@ -165,10 +181,10 @@ module _ (s : FlatState) (formed : IsWellFormed s) (n : ℕ) (t : FlatThread) (h
   receivers = filter_map (λ (row : Row). row.receiver) sending
 
   abbrev threads : List ThreadNo
-  threads = t.no ∷ receivers
+  threads = option_to_list own ++ receivers
 
   abbrev spaces : List SpaceNo
-  spaces = t.space ∷ map (λ (row : Row). row.space) signals
+  spaces = space ∷ map (λ (row : Row). row.space) signals
 
   abbrev kernels : List KernelNo
   kernels = filter_map (λ (space : SpaceNo). slice_get s.spaces space.0) spaces
@@ -188,9 +204,9 @@ module _ (s : FlatState) (formed : IsWellFormed s) (n : ℕ) (t : FlatThread) (h
       by (Some row) = few_signals s formed row
 
   few_receivers : length receivers ≤ 4
-  few_receivers = by d accesses
+  few_receivers = by d are.accessed
     where
-      by : (o : Option Row) → ((row : Row) → o ≡ Some row → Contains s.rows row × (row.space ≡ t.space)) → length (filter_map (λ (row : Row). row.receiver) (option_to_list o ++ signals_for s o)) ≤ 4
+      by : (o : Option Row) → ((row : Row) → o ≡ Some row → Contains s.rows row × (row.space ≡ space)) → length (filter_map (λ (row : Row). row.receiver) (option_to_list o ++ signals_for s o)) ≤ 4
       by None accesses = omega arith
       by (Some row) accesses = elim (cases_Bool row.flags.m) [
         | inl m ↦
@@ -209,12 +225,11 @@ module _ (s : FlatState) (formed : IsWellFormed s) (n : ℕ) (t : FlatThread) (h
   few_kernels : length kernels ≤ 5
   few_kernels = let few = few_spaces in let fewer = length-filter_map (λ (space : SpaceNo). slice_get s.spaces space.0) spaces in omega (arith, few, fewer)
 
+  few_threads : length threads ≤ 5
+  few_threads = let few = few_receivers in omega (arith, few, length-append (option_to_list own) receivers, at_most_one own)
+
   few_rows : length rows ≤ 6
   few_rows = let few = few_for in omega (arith, few, length-append (option_to_list f) sending, length-append (option_to_list d) signals, at_most_one f, at_most_one d)
-    where
-      at_most_one : (o : Option Row) → length (option_to_list o) ≤ 1
-      at_most_one None = omega arith
-      at_most_one (Some row) = omega arith
 
   -- each of the rows is one of the state's, in one of the spaces
   sending_cases : (row : Row) → Contains sending row → (d ≡ Some row) ⊎ Contains signals row
@@ -225,8 +240,8 @@ module _ (s : FlatState) (formed : IsWellFormed s) (n : ℕ) (t : FlatThread) (h
 
   sending_row : (row : Row) → Contains sending row → Contains s.rows row × Contains spaces row.space
   sending_row row there = elim (sending_cases row there) [
-    | inl is ↦ ((accesses row is).0, subst (λ (x : SpaceNo). Contains spaces x) (sym (accesses row is).1) (Contains-here t.space (map (λ (r : Row). r.space) signals)))
-    | inr signal ↦ ((signal_row s formed d row signal).0, Contains-behind t.space (map (λ (r : Row). r.space) signals) row.space (Contains-map (λ (r : Row). r.space) signals row signal))
+    | inl is ↦ ((are.accessed row is).0, subst (λ (x : SpaceNo). Contains spaces x) (sym (are.accessed row is).1) (Contains-here space (map (λ (r : Row). r.space) signals)))
+    | inr signal ↦ ((signal_row s formed d row signal).0, Contains-behind space (map (λ (r : Row). r.space) signals) row.space (Contains-map (λ (r : Row). r.space) signals row signal))
   ]
 
   rows_cases : (row : Row) → Contains rows row → (f ≡ Some row) ⊎ Contains sending row
@@ -247,38 +262,33 @@ module _ (s : FlatState) (formed : IsWellFormed s) (n : ℕ) (t : FlatThread) (h
   unfolding In
   from_thread thread parent there is_in =
       let found = Contains-option_map (λ (u : FlatThread). Space u.space) (slice_get s.threads thread.0) parent is_in in
-      subst In found.2 (elim (Contains-cases t.no receivers thread there) [
-        | inl own ↦ own_space found.0 (subst (λ (x : ThreadNo). slice_get s.threads x.0 ≡ Some found.0) (sym own) found.1)
+      subst In found.2 (elim (Contains-append_cases (option_to_list own) receivers thread there) [
+        | inl first ↦ subst (λ (x : SpaceNo). Contains spaces x) (sym (are.thread thread found.0 (Contains-option own thread first) found.1)) (Contains-here space (map (λ (r : Row). r.space) signals))
         | inr receives ↦
             let row = Contains-from_filter_map (λ (r : Row). r.receiver) sending thread receives in
             let its = sending_row row.0 row.1 in
             let same = receiver_space row.0.space s.threads row.0.receiver thread found.0 (formed.rows.each row.0 its.0).receiver row.2 found.1 in
             subst (λ (x : SpaceNo). Contains spaces x) (sym same) its.1
       ])
-    where
-      own_space : (u : FlatThread) → slice_get s.threads t.no.0 ≡ Some u → Contains spaces u.space
-      own_space u there =
-          let same : t ≡ u = same_Some t u (sym here ∙ ap (slice_get s.threads) (sym (formed.threads.each n t here).number) ∙ there) in
-          subst (λ (x : FlatThread). Contains spaces x.space) same (Contains-here t.space (map (λ (r : Row). r.space) signals))
 
   -- what a row depends on
   row_space : (row : Row) → Contains rows row → Contains spaces row.space
   row_space row there = elim (rows_cases row there) [
-    | inl fetch ↦ subst (λ (x : SpaceNo). Contains spaces x) (sym (fetches row fetch).in_space) (Contains-here t.space (map (λ (r : Row). r.space) signals))
+    | inl fetch ↦ subst (λ (x : SpaceNo). Contains spaces x) (sym (are.fetched row fetch).in_space) (Contains-here space (map (λ (r : Row). r.space) signals))
     | inr other ↦ (sending_row row other).1
   ]
 
   row_receiver : (row : Row) (thread : ThreadNo) → Contains rows row → row.receiver ≡ Some thread → Contains threads thread
   row_receiver row thread there is = elim (rows_cases row there) [
     | inl fetch ↦
-        let none = (plain s formed row (fetches row fetch).there (fetches row fetch).allowed).1 in
+        let none = (plain s formed row (are.fetched row fetch).there (are.fetched row fetch).allowed).1 in
         absurd (false≢true (sym none ∙ ap (λ (o : Option ThreadNo). is_some o) is))
-    | inr other ↦ Contains-behind t.no receivers thread (Contains-filter_map (λ (r : Row). r.receiver) sending row thread other is)
+    | inr other ↦ Contains-append_right (option_to_list own) receivers thread (Contains-filter_map (λ (r : Row). r.receiver) sending row thread other is)
   ]
 
   row_signals : (row other : Row) → Contains rows row → Contains (signal_rows_of s row) other → Contains rows other
   row_signals row other there signal = elim (rows_cases row there) [
-    | inl fetch ↦ nothing (plain s formed row (fetches row fetch).there (fetches row fetch).allowed).0
+    | inl fetch ↦ nothing (plain s formed row (are.fetched row fetch).there (are.fetched row fetch).allowed).0
     | inr sends ↦ elim (sending_cases row sends) [
       | inl is ↦ Contains-append_right (option_to_list f) sending other (Contains-append_right (option_to_list d) signals other (subst (λ (o : Option Row). Contains (signals_for s o) other) (sym is) signal))
       | inr is ↦ let its = signal_row s formed d row is in nothing (received s formed row its.0 its.1)
@@ -300,12 +310,12 @@ module _ (s : FlatState) (formed : IsWellFormed s) (n : ℕ) (t : FlatThread) (h
 
   row_is_there : (row : Row) → Contains rows row → Contains s.rows row
   row_is_there row there = elim (rows_cases row there) [
-    | inl fetch ↦ (fetches row fetch).there
+    | inl fetch ↦ (are.fetched row fetch).there
     | inr other ↦ (sending_row row other).0
   ]
 
   -- so nothing that they depend on is missing
-  closed : (name parent : Name) → In name → Contains (parents s name) parent → In parent
+  pub closed : (name parent : Name) → In name → Contains (parents s name) parent → In parent
   unfolding In parents
   closed (Kernel kernel) parent there depends = absurd (contains_nothing parent depends)
   closed (Space space) parent there depends = from_space space parent there depends
@@ -321,20 +331,26 @@ module _ (s : FlatState) (formed : IsWellFormed s) (n : ℕ) (t : FlatThread) (h
     | inr later ↦ up_in steps (flat_map (parents s) names) (λ x above. let child = Contains-from_flat_map (parents s) names x above in closed child.0 x (all child.0 child.1) child.2) name later
   ]
 
-  -- the chain begins with the thread and the two rows
-  pub begins_in : (name : Name) → Contains (Thread t.no ∷ (map row_name (option_to_list f) ++ map row_name (option_to_list d))) name → In name
+  -- they are among theirs
+  pub space_in : In (Space space)
   unfolding In
-  begins_in name there = elim (Contains-cases (Thread t.no) _ name there) [
-    | inl is ↦ subst In is (Contains-here t.no receivers)
-    | inr behind ↦ elim (Contains-append_cases (map row_name (option_to_list f)) (map row_name (option_to_list d)) name behind) [
-      | inl fetch ↦ let row = Contains-from_map row_name (option_to_list f) name fetch in subst In row.2 (row.0, Contains-append_left (option_to_list f) sending row.0 row.1, refl, refl)
-      | inr data_row ↦ let row = Contains-from_map row_name (option_to_list d) name data_row in subst In row.2 (row.0, Contains-append_right (option_to_list f) sending row.0 (Contains-append_left (option_to_list d) signals row.0 row.1), refl, refl)
-    ]
-  ]
+  space_in = Contains-here space (map (λ (row : Row). row.space) signals)
+
+  pub thread_in : (thread : ThreadNo) → own ≡ Some thread → In (Thread thread)
+  unfolding In
+  thread_in thread is = Contains-append_left (option_to_list own) receivers thread (Contains-some own thread is)
+
+  pub fetched_in : (row : Row) → f ≡ Some row → In (row_name row)
+  unfolding In
+  fetched_in row is = (row, Contains-append_left (option_to_list f) sending row (Contains-some f row is), refl, refl)
+
+  pub accessed_in : (row : Row) → d ≡ Some row → In (row_name row)
+  unfolding In
+  accessed_in row is = (row, Contains-append_right (option_to_list f) sending row (Contains-append_left (option_to_list d) signals row (Contains-some d row is)), refl, refl)
 
   -- how many there are of each kind in a list of such names
   module _ (names : List Name) (all : (name : Name) → Contains names name → In name) where
-    pub most_kernels : AtMost 5 kinds.Kernel names
+    most_kernels : AtMost 5 kinds.Kernel names
     unfolding In
     most_kernels = record {
       among = map Kernel kernels;
@@ -348,7 +364,7 @@ module _ (s : FlatState) (formed : IsWellFormed s) (n : ℕ) (t : FlatThread) (h
         by (Thread thread) kind is = absurd (cc)
         by (Mapping space vpn) kind is = absurd (cc)
 
-    pub most_spaces : AtMost 5 kinds.Space names
+    most_spaces : AtMost 5 kinds.Space names
     unfolding In
     most_spaces = record {
       among = map Space spaces;
@@ -362,11 +378,11 @@ module _ (s : FlatState) (formed : IsWellFormed s) (n : ℕ) (t : FlatThread) (h
         by (Thread thread) kind is = absurd (cc)
         by (Mapping space vpn) kind is = absurd (cc)
 
-    pub most_threads : AtMost 5 kinds.Thread names
+    most_threads : AtMost 5 kinds.Thread names
     unfolding In
     most_threads = record {
       among = map Thread threads;
-      few = let few = few_receivers in omega (arith, few, length-map threads Thread);
+      few = let few = few_threads in omega (arith, few, length-map threads Thread);
       all = λ name kind there. by name kind (all name there);
     }
       where
@@ -376,7 +392,7 @@ module _ (s : FlatState) (formed : IsWellFormed s) (n : ℕ) (t : FlatThread) (h
         by (Thread thread) kind is = Contains-map Thread threads thread is
         by (Mapping space vpn) kind is = absurd (cc)
 
-    pub most_rows : AtMost 6 kinds.Mapping names
+    most_rows : AtMost 6 kinds.Mapping names
     unfolding In
     most_rows = record {
       among = map row_name rows;
@@ -390,3 +406,6 @@ module _ (s : FlatState) (formed : IsWellFormed s) (n : ℕ) (t : FlatThread) (h
         by (Thread thread) kind is = absurd (cc)
         by (Mapping space vpn) kind (row, there, in_space, at) =
             subst (λ (x : SpaceNo). Contains (map row_name rows) (Mapping x vpn)) in_space (subst (λ (x : Vpn). Contains (map row_name rows) (Mapping row.space x)) at (Contains-map row_name rows row there))
+
+    pub few : AreFew names
+    few = record { kernels = most_kernels; spaces = most_spaces; threads = most_threads; rows = most_rows }

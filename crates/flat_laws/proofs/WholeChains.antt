@@ -10,19 +10,19 @@ use Rattle.phys_groups.specs.declared.rows.Row.{Row}
 use Rattle.phys_groups.specs.Translation.{row_of}
 use Rattle.flat_state.specs.declared.records.FlatThread.{FlatThread}
 use Rattle.flat_state.specs.State.{FlatState}
-use Rattle.flat_state.specs.Dependence.{row_name, signal_rows_of, parents_of_row, parents_of_found, parents}
-use Rattle.flat_state.specs.NextSteps.{up, fetch_row, data_row, chain}
+use Rattle.flat_state.specs.Dependence.{row_name, signal_rows_of, parents_of_row, parents_of_found, parents, up}
+use Rattle.flat_state.specs.NextSteps.{fetch_row, data_row, chain}
 use Rattle.flat_state.specs.WellFormed.{IsWellFormed}
 use Rattle.flat_laws.proofs.Members.{Contains-cases, contains_nothing, Contains-from_map, Contains-flat_map, Contains-from_flat_map, Contains-option_map}
 use Rattle.flat_laws.proofs.ShortChains.{own_row, signal_row, received, no_signals}
 
 -- over how many steps a row depends on others at most
-abbrev height_of : Option Row → ℕ
+abbrev pub height_of : Option Row → ℕ
 height_of None = 0
 height_of (Some row) = if row.flags.m then 4 else 3
 
 -- the same of a name
-height : FlatState → Name → ℕ
+pub height : FlatState → Name → ℕ
 height s (Kernel kernel) = 0
 height s (Space space) = 1
 height s (Thread thread) = 2
@@ -30,7 +30,7 @@ height s (Mapping space vpn) = height_of (row_of s.rows space vpn.0)
 
 module _ (s : FlatState) (formed : IsWellFormed s) where
   -- no dependence is longer than four steps
-  at_most_four : (name : Name) → height s name ≤ 4
+  pub at_most_four : (name : Name) → height s name ≤ 4
   unfolding height
   at_most_four (Kernel kernel) = omega arith
   at_most_four (Space space) = omega arith
@@ -87,7 +87,7 @@ module _ (s : FlatState) (formed : IsWellFormed s) where
       ]
 
   -- what a name depends on is less high
-  below : (name parent : Name) → Contains (parents s name) parent → height s parent < height s name
+  pub below : (name parent : Name) → Contains (parents s name) parent → height s parent < height s name
   unfolding height parents
   below (Kernel kernel) parent depends = absurd (contains_nothing parent depends)
   below (Space space) parent depends =
@@ -103,12 +103,12 @@ module _ (s : FlatState) (formed : IsWellFormed s) where
       by (Some row) depends = row_below row parent depends
 
   -- the names are among those that are reached from them
-  first_in_up : (steps : ℕ) (names : List Name) (name : Name) → Contains names name → Contains (up steps s names) name
+  pub first_in_up : (steps : ℕ) (names : List Name) (name : Name) → Contains names name → Contains (up steps s names) name
   first_in_up zero names name there = there
   first_in_up (suc steps) names name there = Contains-append_left names (up steps s (flat_map (parents s) names)) name there
 
   -- over as many steps as they are high, all is reached
-  whole : (steps : ℕ) (names : List Name) → ((name : Name) → Contains names name → height s name ≤ steps) → (name parent : Name) → Contains (up steps s names) name → Contains (parents s name) parent → Contains (up steps s names) parent
+  pub whole : (steps : ℕ) (names : List Name) → ((name : Name) → Contains names name → height s name ≤ steps) → (name parent : Name) → Contains (up steps s names) name → Contains (parents s name) parent → Contains (up steps s names) parent
   whole zero names low name parent there depends = let lt = below name parent depends in let le = low name there in absurd (omega arith)
   whole (suc steps) names low name parent there depends = elim (Contains-append_cases names (up steps s (flat_map (parents s) names)) name there) [
     | inl first ↦ Contains-append_right names (up steps s (flat_map (parents s) names)) parent (first_in_up steps (flat_map (parents s) names) parent (Contains-flat_map (parents s) names name parent first depends))

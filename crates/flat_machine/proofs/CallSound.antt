@@ -16,7 +16,7 @@ use Rattle.flat_state.specs.declared.events.Decl.TheVariants as decls
 use Rattle.flat_state.specs.declared.events.Machine.{Machine}
 use Rattle.flat_state.specs.declared.records.FlatThread.{FlatThread}
 use Rattle.flat_state.specs.State.{FlatState, with_thread}
-use Rattle.flat_state.specs.Declaration.{breaks, broken_rule, declared, new_thread, rule_by_machine, rule_of_first, rule_of_other}
+use Rattle.flat_state.specs.Declaration.{breaks, broken_rule, declared, has_no_flag, new_thread, rule_by_machine, rule_of_first, rule_of_other}
 use Rattle.flat_state.specs.Call.{answered, made, mapped, mapping, refusal, unmapped}
 use Rattle.flat_state.proofs.Places.{get-append}
 use Rattle.flat_state.proofs.FormedParts.{thread_formed, without_formed}
@@ -27,25 +27,25 @@ use Rattle.flat_machine.specs.Calls.{IsRule}
 use Rattle.flat_machine.proofs.DeclareSound.{Sound}
 
 module _ (s : FlatState) (granted : Caps) (sound : Sound s granted) (n : ℕ) (t : FlatThread) (here : slice_get s.threads n ≡ Some t) where
-  -- a thread in the place of one with its number, its space, its pc and no more in its queue
-  pub in_place : (u : FlatThread) → u.no ≡ t.no → u.space ≡ t.space → u.context.pc ≡ t.context.pc → length u.queue.items ≤ length t.queue.items → Sound (with_thread s n u) granted
-  in_place u same_no same_space same_pc shorter =
+  -- a thread in the place of one with its number, its space, its priority, its pc and no more in its queue
+  pub in_place : (u : FlatThread) → u.no ≡ t.no → u.space ≡ t.space → u.priority ≡ t.priority → u.context.pc ≡ t.context.pc → length u.queue.items ≤ length t.queue.items → Sound (with_thread s n u) granted
+  in_place u same_no same_space same_priority same_pc shorter =
       let is = sound.formed.threads.each n t here in
       let queued = is.queued in
-      record { formed = thread_formed s n t u sound.formed here same_no same_space (rw same_pc is.aligned) (omega (arith, queued, shorter)); sums = sound.sums }
+      record { formed = thread_formed s n t u sound.formed here same_no same_space same_priority (rw same_pc is.aligned) (omega (arith, queued, shorter)); sums = sound.sums }
 
   pub answered_sound : (value : ℕ) → Sound (with_thread s n (answered t value)) granted
-  answered_sound value = in_place (answered t value) refl refl refl (omega arith)
+  answered_sound value = in_place (answered t value) refl refl refl refl (omega arith)
 
   own_sound_so : (x : Completion) (effect : Effect) → KeepsCall t.context t.queue.items x → Sound (with_thread s n (own_part_so t x effect)) granted
-  own_sound_so x effects.Ready keeps = in_place _ refl refl keeps.pc keeps.shorter
-  own_sound_so x (effects.Put byte) keeps = in_place _ refl refl keeps.pc keeps.shorter
-  own_sound_so x (effects.Decimal number) keeps = in_place _ refl refl keeps.pc keeps.shorter
-  own_sound_so x (effects.End reason) keeps = in_place _ refl refl refl (omega arith)
-  own_sound_so x (effects.Map vpn frame flags receiver) keeps = in_place _ refl refl refl (omega arith)
-  own_sound_so x (effects.Unmap vpn) keeps = in_place _ refl refl refl (omega arith)
-  own_sound_so x (effects.Spawn pc a0 priority) keeps = in_place _ refl refl refl (omega arith)
-  own_sound_so x (effects.Grant kernel group bits) keeps = in_place _ refl refl refl (omega arith)
+  own_sound_so x effects.Ready keeps = in_place _ refl refl refl keeps.pc keeps.shorter
+  own_sound_so x (effects.Put byte) keeps = in_place _ refl refl refl keeps.pc keeps.shorter
+  own_sound_so x (effects.Decimal number) keeps = in_place _ refl refl refl keeps.pc keeps.shorter
+  own_sound_so x (effects.End reason) keeps = in_place _ refl refl refl refl (omega arith)
+  own_sound_so x (effects.Map vpn frame flags receiver) keeps = in_place _ refl refl refl refl (omega arith)
+  own_sound_so x (effects.Unmap vpn) keeps = in_place _ refl refl refl refl (omega arith)
+  own_sound_so x (effects.Spawn pc a0 priority) keeps = in_place _ refl refl refl refl (omega arith)
+  own_sound_so x (effects.Grant kernel group bits) keeps = in_place _ refl refl refl refl (omega arith)
 
   pub own_sound : Sound (with_thread s n (own_part t)) granted
   unfolding call_of
@@ -132,7 +132,11 @@ of_first (decls.Kernel number limits) = one_rule 5 refl
 of_first (decls.Right kernel group read write) = one_rule 5 refl
 of_first (decls.Space number kernel) = one_rule 5 refl
 of_first (decls.Thread number space pc priority a0 a1) = one_rule 5 refl
-of_first (decls.Map space vpn frame flags receiver) = one_rule 5 refl
+of_first (decls.Map space vpn frame flags receiver) = by (has_no_flag flags)
+  where
+    by : (none : Bool) → IsOfRules (Some (if none then 4 else 5))
+    by true = one_rule 4 refl
+    by false = one_rule 5 refl
 of_first (decls.Word frame offset value) = one_rule 5 refl
 
 by_machine : (machine : Option Machine) (s : FlatState) (d : Decl) → IsOfRules (rule_by_machine machine s d)

@@ -54,7 +54,7 @@ module _ (s : FlatState) (formed : IsWellFormed s) where
   pub thread_is_of : (n : ℕ) (t : FlatThread) → slice_get s.threads n ≡ Some t → IsThreadOf s t
   thread_is_of n t at =
       let r = formed.threads.each n t at in
-      record { number = refl; space = r.space; aligned = r.aligned; queued = r.queued }
+      record { number = refl; space = r.space; aligned = r.aligned; priority = r.priority; queued = r.queued }
 
   -- what is asked of a row is known of those that pass a test
   pub rows_known : (p : Row → Bool) → All (λ row. (row.space.0 < length s.spaces) × (row.frame.0 < 2048)) (filter p s.rows)

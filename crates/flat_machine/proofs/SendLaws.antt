@@ -57,6 +57,6 @@ pub addressed_formed : (s : FlatState) → IsWellFormed s → (n : ℕ) (t : Fla
 addressed_formed s formed n t va here room =
     let known = formed.threads.each n t here in
     elim (cases_Bool (is_ended t.status)) [
-      | inl ended ↦ rw ended (thread_formed s n t t formed here refl refl known.aligned known.queued)
-      | inr running ↦ rw running (thread_formed s n t (record t { queue = record { items = t.queue.items ++ va ∷ [] } }) formed here refl refl known.aligned (rw length-append (omega (arith, room running))))
+      | inl ended ↦ rw ended (thread_formed s n t t formed here refl refl refl known.aligned known.queued)
+      | inr running ↦ rw running (thread_formed s n t (record t { queue = record { items = t.queue.items ++ va ∷ [] } }) formed here refl refl refl known.aligned (rw length-append (omega (arith, room running))))
     ]

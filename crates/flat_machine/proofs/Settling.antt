@@ -13,7 +13,7 @@ use Rattle.flat_state.specs.declared.records.Settled.{Settled}
 use Rattle.flat_state.specs.declared.records.Settled.TheVariants.{Done, Stalled, Spent, Running}
 use Rattle.flat_state.specs.State.{FlatState, is_ready, is_trapped, is_ended}
 use Rattle.flat_state.specs.Signals.{full_receiver}
-use Rattle.flat_state.specs.Call.{is_completable, waits}
+use Rattle.flat_state.specs.Call.{has_nothing_to_take, is_completable}
 use Rattle.flat_state.specs.Settling.{is_stuck, settled_of}
 use Rattle.flat_machine.specs.Settling.{settled_by}
 
@@ -34,7 +34,7 @@ one_verdict Stalled spent ended stuck completable h = rw (h.0, h.1) refl
 one_verdict Spent spent ended stuck completable h = rw (h.0, h.1, h.2, h.3) refl
 one_verdict Running spent ended stuck completable h = rw (h.0, h.1, h.2) refl
 
-of_thread : (status : Status) (full waiting spent : Bool) → let ended = is_ended status in let stuck = ended || ((is_ready status && full) || (is_trapped status && waiting)) in let completable = is_trapped status && not waiting in Says (verdict spent ended stuck completable) spent ended stuck completable
+of_thread : (status : Status) (full waiting spent : Bool) → let ended = is_ended status in let stuck = ended || ((is_ready status && full) || (is_trapped status && waiting)) in let completable = is_trapped status && not (is_trapped status && waiting) in Says (verdict spent ended stuck completable) spent ended stuck completable
 of_thread (Ended reason) full waiting spent = (refl, refl, refl)
 of_thread Ready true waiting spent = (refl, refl, refl)
 of_thread Ready false waiting true = (refl, refl, refl, refl)
@@ -79,7 +79,7 @@ module _ (s : FlatState) (spent : Bool) (k : ℕ) (t : FlatThread) (at : slice_g
   here = get_or_from_slice_get ts k t t at
 
   by : (x : Settled) → settled_by s t spent ≡ x → Says x spent (is_ended t.status) (is_stuck s t) (is_completable t)
-  by x e = subst (λ (y : Settled). Says y spent (is_ended t.status) (is_stuck s t) (is_completable t)) e (of_thread t.status (is_some (full_receiver s t)) (waits t) spent)
+  by x e = subst (λ (y : Settled). Says y spent (is_ended t.status) (is_stuck s t) (is_completable t)) e (of_thread t.status (is_some (full_receiver s t)) (has_nothing_to_take t) spent)
 
   all_more : (p : FlatThread → Bool) (b : Bool) → p t ≡ b → list_all p (take (k + 1) ts) ≡ (list_all p (take k ts) && b)
   all_more p b e = rw (list_all_more p ts k t within, here, e) refl

@@ -2,7 +2,7 @@
 
 ghost use Rattle.std.specs.Prelude.{◌≡◌, ◌+◌, ◌^◌, ◌<◌, None, Some, MatchResult, nat_le};
 ghost use Rattle.flat_state.specs.State.{groups_of};
-ghost use Rattle.flat_state.specs.Declaration.{agree as agree_lem, are_capacities as are_capacities_lem, broken_rule, caps_of, has_four as has_four_lem, has_frame as has_frame_lem, has_no_flag as has_no_flag_lem, has_receiver as has_receiver_lem, is_capacity as is_capacity_lem, is_receiver_in as is_receiver_in_lem, leaves_room as leaves_room_lem, may_lock_kernels as may_lock_kernels_lem, rule_of_kernel as rule_of_kernel_lem, rule_of_machine as rule_of_machine_lem, rule_of_map as rule_of_map_lem, rule_of_right as rule_of_right_lem, rule_of_space as rule_of_space_lem, rule_of_thread as rule_of_thread_lem, rule_of_word as rule_of_word_lem};
+ghost use Rattle.flat_state.specs.Declaration.{agree as agree_lem, are_capacities as are_capacities_lem, broken_rule, caps_of, has_four as has_four_lem, has_frame as has_frame_lem, has_no_flag as has_no_flag_lem, has_receiver as has_receiver_lem, is_capacity as is_capacity_lem, is_receiver_in as is_receiver_in_lem, leaves_room as leaves_room_lem, may_lock_kernels as may_lock_kernels_lem, rule_of_early as rule_of_early_lem, rule_of_kernel as rule_of_kernel_lem, rule_of_machine as rule_of_machine_lem, rule_of_map as rule_of_map_lem, rule_of_right as rule_of_right_lem, rule_of_space as rule_of_space_lem, rule_of_thread as rule_of_thread_lem, rule_of_word as rule_of_word_lem};
 ghost use Rattle.flat_machine.specs.Readings.{Gives};
 
 use crate::flat::Flat;
@@ -79,6 +79,16 @@ fn rule_of_machine(machine: Machine) -> Result<(), u32>
     Ok(())
 }
 
+// The rule that any other declaration breaks before the machine's own.
+fn rule_of_early(decl: Decl) -> u32
+    ensures { result ≡ rule_of_early_lem decl }
+{
+    match decl {
+        Decl::Map { flags, .. } if has_no_flag(flags) => 4,
+        _ => 5,
+    }
+}
+
 impl Flat {
     /// Whether the declaration breaks a rule, and which one it breaks first:
     ///
@@ -108,7 +118,8 @@ impl Flat {
     {
         match (self.machine, *decl) {
             (None, Decl::Machine { machine }) => rule_of_machine(machine),
-            (None, _) | (Some(_), Decl::Machine { .. }) => Err(5),
+            (None, early) => Err(rule_of_early(early)),
+            (Some(_), Decl::Machine { .. }) => Err(5),
             (Some(machine), Decl::Kernel { no, limits }) => self.rule_of_kernel(
                 machine.caps,
                 no,

@@ -220,7 +220,7 @@ delivered_formed u (Some signal) receivers formed has = sent_formed u signal.off
 module _ (s : FlatState) (n : ℕ) (t : FlatThread) (formed : IsWellFormed s) (here : slice_get s.threads n ≡ Some t) where
   pub moved_formed : (after : After) (status : Status) → after.context.pc % 4 ≡ 0 → ArePagesOf (length s.memory) after.pages → IsWellFormed (moved s n t after status)
   moved_formed after status aligned are =
-      thread_formed (written_back s t.space after.pages) n t (record t { context = after.context; status = status }) (written_back_formed s t.space after.pages formed are) here refl refl aligned (formed.threads.each n t here).queued
+      thread_formed (written_back s t.space after.pages) n t (record t { context = after.context; status = status }) (written_back_formed s t.space after.pages formed are) here refl refl refl aligned (formed.threads.each n t here).queued
 
   went_on_formed : (after : After) (status : Status) → is_runnable s t ≡ true → after.context.pc % 4 ≡ 0 → ArePagesOf (length s.memory) after.pages → IsWellFormed (went_on s n t after status)
   went_on_formed after status runs aligned are =
@@ -229,7 +229,7 @@ module _ (s : FlatState) (n : ℕ) (t : FlatThread) (formed : IsWellFormed s) (h
       (room_kept s.threads (set s.threads n u) (receivers_for s (next_signal s t)) (ends_at_most s.threads n t u here refl (runnable_parts s t runs).0) (runnable_room s t formed runs))
 
   faulted_formed : (va : ℕ) (access : Access) → IsWellFormed (faulted s n t va access)
-  faulted_formed va access = thread_formed s n t _ formed here refl refl (formed.threads.each n t here).aligned (formed.threads.each n t here).queued
+  faulted_formed va access = thread_formed s n t _ formed here refl refl refl (formed.threads.each n t here).aligned (formed.threads.each n t here).queued
 
   stepped_formed : is_runnable s t ≡ true → (after : After) (answer : Stepped) → after.context.pc % 4 ≡ 0 → ArePagesOf (length s.memory) after.pages → IsWellFormed (stepped_so s n t after answer)
   stepped_formed runs after Next aligned are = went_on_formed after Ready runs aligned are
@@ -287,14 +287,14 @@ module _ (thread : ThreadNo) (c : Context) (queue : List ℕ) where
 
 module _ (s : FlatState) (n : ℕ) (t : FlatThread) (formed : IsWellFormed s) (here : slice_get s.threads n ≡ Some t) where
   -- the thread goes on in any such state
-  goes_on_formed : (s' : FlatState) (u : FlatThread) → IsWellFormed s' → slice_get s'.threads n ≡ Some t → u.no ≡ t.no → u.space ≡ t.space → u.context.pc ≡ t.context.pc → length u.queue.items ≤ length t.queue.items → IsWellFormed (with_thread s' n u)
-  goes_on_formed s' u formed' there same_no same_space same_pc shorter =
+  goes_on_formed : (s' : FlatState) (u : FlatThread) → IsWellFormed s' → slice_get s'.threads n ≡ Some t → u.no ≡ t.no → u.space ≡ t.space → u.priority ≡ t.priority → u.context.pc ≡ t.context.pc → length u.queue.items ≤ length t.queue.items → IsWellFormed (with_thread s' n u)
+  goes_on_formed s' u formed' there same_no same_space same_priority same_pc shorter =
       let is = formed.threads.each n t here in
       let queued = is.queued in
-      thread_formed s' n t u formed' there same_no same_space (rw same_pc is.aligned) (omega (arith, queued, shorter))
+      thread_formed s' n t u formed' there same_no same_space same_priority (rw same_pc is.aligned) (omega (arith, queued, shorter))
 
   answered_formed : (s' : FlatState) (answer : ℕ) → IsWellFormed s' → slice_get s'.threads n ≡ Some t → IsWellFormed (with_thread s' n (answered t answer))
-  answered_formed s' answer formed' there = goes_on_formed s' (answered t answer) formed' there refl refl refl (omega arith)
+  answered_formed s' answer formed' there = goes_on_formed s' (answered t answer) formed' there refl refl refl refl (omega arith)
 
   made_formed : (d : Decl) (answer : ℕ) (rule : Option ℕ) → (rule ≡ None → broken_rule s d ≡ None) → slice_get (declared s d).threads n ≡ Some t → IsWellFormed (made s n t d answer rule)
   made_formed d answer None fits there = answered_formed (declared s d) answer (declared_formed s d formed (fits refl)) there
@@ -330,10 +330,10 @@ module _ (s : FlatState) (n : ℕ) (t : FlatThread) (formed : IsWellFormed s) (h
       by false = answered_formed s (refusal 1) formed here
 
   completed_so_formed : (c : Completion) (effect : Effect) → KeepsCall t.context t.queue.items c → IsWellFormed (completed_so s n t c effect)
-  completed_so_formed c effects.Ready keeps = goes_on_formed s _ formed here refl refl keeps.pc keeps.shorter
-  completed_so_formed c (effects.Put byte) keeps = goes_on_formed s _ formed here refl refl keeps.pc keeps.shorter
-  completed_so_formed c (effects.Decimal number) keeps = goes_on_formed s _ formed here refl refl keeps.pc keeps.shorter
-  completed_so_formed c (effects.End reason) keeps = goes_on_formed s _ formed here refl refl refl (omega arith)
+  completed_so_formed c effects.Ready keeps = goes_on_formed s _ formed here refl refl refl keeps.pc keeps.shorter
+  completed_so_formed c (effects.Put byte) keeps = goes_on_formed s _ formed here refl refl refl keeps.pc keeps.shorter
+  completed_so_formed c (effects.Decimal number) keeps = goes_on_formed s _ formed here refl refl refl keeps.pc keeps.shorter
+  completed_so_formed c (effects.End reason) keeps = goes_on_formed s _ formed here refl refl refl refl (omega arith)
   completed_so_formed c (effects.Map vpn frame flags receiver) keeps = mapped_formed vpn frame flags receiver flags
   completed_so_formed c (effects.Unmap vpn) keeps = unmapped_formed vpn
   completed_so_formed c (effects.Spawn pc a0 priority) keeps = spawned_formed pc a0 priority

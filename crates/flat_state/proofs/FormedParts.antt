@@ -22,7 +22,7 @@ use Rattle.flat_state.specs.declared.events.Machine.{Machine}
 use Rattle.flat_state.specs.declared.records.FlatKernel.{FlatKernel}
 use Rattle.flat_state.specs.declared.records.FlatThread.{FlatThread}
 use Rattle.flat_state.specs.State.{FlatState, nothing_declared, groups_of, with_thread, is_ended}
-use Rattle.flat_state.specs.Declaration.{agree, is_receiver_in, thread_is_in, caps_of, locks_granted, breaks, may_lock_kernels, leaves_room, has_no_flag, has_receiver, has_frame, has_four, is_capacity, are_capacities, rule_of_first, rule_of_other, rule_of_machine, rule_by_machine, broken_rule, new_kernel, with_right, new_thread, new_row, declared}
+use Rattle.flat_state.specs.Declaration.{agree, is_receiver_in, thread_is_in, caps_of, locks_granted, breaks, may_lock_kernels, leaves_room, has_no_flag, has_receiver, has_frame, has_four, is_capacity, are_capacities, rule_of_early, rule_of_first, rule_of_other, rule_of_machine, rule_by_machine, broken_rule, new_kernel, with_right, new_thread, new_row, declared}
 use Rattle.flat_state.specs.Signals.{HasRoom, has_ended, queued, ended_by, queued_by, with_address, sent_to, sent}
 use Rattle.flat_state.specs.WellFormed.{AreWithin, AreKernels, AreSpaces, IsThread, AreThreads, IsRow, AreRows, IsWellFormed}
 use Rattle.flat_state.proofs.Places.{Contains-from_get, get_from_Contains, set_cases, get-set_same, get-set_other, get_from_filter, get_from_map, count_by-filter, count_by-map, count_by-cons, sum_by-set_same, push_cases, get-append, fails_if_not_found}
@@ -35,7 +35,7 @@ nothing_formed = record {
     caps = record { kernels = omega arith; spaces = omega arith; threads = omega arith; mappings = omega arith };
     size = refl;
   };
-  kernels = record { few = omega arith; locks = λ some. absurd (omega arith) };
+  kernels = record { few = omega arith; locking = λ n k e. absurd (cc); locks = λ some. absurd (omega arith) };
   spaces = record { few = omega arith; owned = λ n kernel e. absurd (cc) };
   threads = record { few = omega arith; each = λ n t e. absurd (cc) };
   rows = record {
@@ -80,6 +80,7 @@ rows_with_threads machine spaces before after rows keep are = record {
     space = (are.each row there).space;
     page = (are.each row there).page;
     frame = (are.each row there).frame;
+    some = (are.each row there).some;
     flags = (are.each row there).flags;
     receiver = receiver_kept before after keep row.space row.receiver (are.each row there).receiver;
   };
@@ -113,23 +114,24 @@ module _ (spaces : List KernelNo) (threads : List FlatThread) (n : ℕ) (t u : F
       same_thread : (k : ℕ) (v : FlatThread) → slice_get threads k ≡ Some v → k ≡ n → t ≡ v
       same_thread k v there same = some_same t v (sym here ∙ ap (slice_get threads) (sym same) ∙ there)
 
-  pub set_are : AreThreads spaces threads → u.no ≡ t.no → u.context.pc % 4 ≡ 0 → length u.queue.items ≤ 64 → AreThreads spaces (set threads n u)
-  set_are are same_no aligned queued = record {
+  pub set_are : AreThreads spaces threads → u.no ≡ t.no → u.priority ≡ t.priority → u.context.pc % 4 ≡ 0 → length u.queue.items ≤ 64 → AreThreads spaces (set threads n u)
+  set_are are same_no same_priority aligned queued = record {
     few = rw (length-set threads n u) are.few;
     each = λ k v there. elim (set_cases threads n k u v there) [
       | inl at ↦ subst (λ (w : FlatThread). IsThread spaces k w) at.1 (rw at.0 (record {
         number = ap (λ (no : ThreadNo). no.0) same_no ∙ (are.each n t here).number;
         space = rw same_space (are.each n t here).space;
         aligned = aligned;
+        priority = rw same_priority (are.each n t here).priority;
         queued = queued;
       }))
       | inr other ↦ are.each k v other
     ];
   }
 
-pub thread_formed : (s : FlatState) (n : ℕ) (t u : FlatThread) → IsWellFormed s → slice_get s.threads n ≡ Some t → u.no ≡ t.no → u.space ≡ t.space → u.context.pc % 4 ≡ 0 → length u.queue.items ≤ 64 → IsWellFormed (with_thread s n u)
-thread_formed s n t u formed here same_no same_space aligned queued =
-    threads_formed s (set s.threads n u) formed (set_are s.spaces s.threads n t u here same_space formed.threads same_no aligned queued) (set_keeps s.spaces s.threads n t u here same_space)
+pub thread_formed : (s : FlatState) (n : ℕ) (t u : FlatThread) → IsWellFormed s → slice_get s.threads n ≡ Some t → u.no ≡ t.no → u.space ≡ t.space → u.priority ≡ t.priority → u.context.pc % 4 ≡ 0 → length u.queue.items ≤ 64 → IsWellFormed (with_thread s n u)
+thread_formed s n t u formed here same_no same_space same_priority aligned queued =
+    threads_formed s (set s.threads n u) formed (set_are s.spaces s.threads n t u here same_space formed.threads same_no same_priority aligned queued) (set_keeps s.spaces s.threads n t u here same_space)
 
 -- a change of a row that leaves all but its bits
 pub record KeepsRow (f : Row → Row) : Type 0 where
@@ -145,6 +147,7 @@ module _ (f : Row → Row) (keeps : KeepsRow f) where
     space = rw keeps.space is.space;
     page = rw keeps.vpn is.page;
     frame = rw keeps.frame is.frame;
+    some = rw keeps.flags is.some;
     flags = rw (keeps.flags, keeps.receiver) is.flags;
     receiver = rw (keeps.space, keeps.receiver) is.receiver;
   }
@@ -263,25 +266,26 @@ room_from threads ((first, vpn) ∷ rest) has = record {
 }
 
 -- a thread that got an address is the same but for its queue
-record IsAddressed (t u : FlatThread) : Type 0 where
-  no : u.no ≡ t.no
-  space : u.space ≡ t.space
-  context : u.context ≡ t.context
-  status : u.status ≡ t.status
-  ended : is_ended t.status ≡ true → length u.queue.items ≡ length t.queue.items
-  running : is_ended t.status ≡ false → length u.queue.items ≡ length t.queue.items + 1
+pub record IsAddressed (t u : FlatThread) : Type 0 where
+  pub no : u.no ≡ t.no
+  pub space : u.space ≡ t.space
+  pub priority : u.priority ≡ t.priority
+  pub context : u.context ≡ t.context
+  pub status : u.status ≡ t.status
+  pub ended : is_ended t.status ≡ true → length u.queue.items ≡ length t.queue.items
+  pub running : is_ended t.status ≡ false → length u.queue.items ≡ length t.queue.items + 1
 
-addressed : (va : ℕ) (t : FlatThread) → IsAddressed t (with_address va t)
+pub addressed : (va : ℕ) (t : FlatThread) → IsAddressed t (with_address va t)
 addressed va t = by (is_ended t.status) refl
   where
     by : (b : Bool) → is_ended t.status ≡ b → IsAddressed t (cond b t (record t { queue = record { items = t.queue.items ++ va ∷ [] } }))
-    by true is = record { no = refl; space = refl; context = refl; status = refl; ended = λ e. refl; running = λ e. absurd (cc) }
-    by false is = record { no = refl; space = refl; context = refl; status = refl; ended = λ e. absurd (cc); running = λ e. length_push t.queue.items va }
+    by true is = record { no = refl; space = refl; priority = refl; context = refl; status = refl; ended = λ e. refl; running = λ e. absurd (cc) }
+    by false is = record { no = refl; space = refl; priority = refl; context = refl; status = refl; ended = λ e. absurd (cc); running = λ e. length_push t.queue.items va }
 
-keeps_all : (threads : List FlatThread) → KeepSpaces threads threads
+pub keeps_all : (threads : List FlatThread) → KeepSpaces threads threads
 keeps_all threads = record { kept = λ n t there. (t, there, refl) }
 
-keeps_on : (a b c : List FlatThread) → KeepSpaces a b → KeepSpaces b c → KeepSpaces a c
+pub keeps_on : (a b c : List FlatThread) → KeepSpaces a b → KeepSpaces b c → KeepSpaces a c
 keeps_on a b c first then = record {
   kept = λ n t there.
       let u = first.kept n t there in
@@ -342,7 +346,7 @@ module _ (spaces : List KernelNo) (threads : List FlatThread) (thread : ThreadNo
 
     sent_some : IsSentOne spaces threads (set threads thread.0 (with_address va t)) to
     sent_some = record {
-      are = set_are spaces threads thread.0 t (with_address va t) here (addressed va t).space are (addressed va t).no (rw (addressed va t).context (are.each thread.0 t here).aligned) short;
+      are = set_are spaces threads thread.0 t (with_address va t) here (addressed va t).space are (addressed va t).no (addressed va t).priority (rw (addressed va t).context (are.each thread.0 t here).aligned) short;
       keep = set_keeps spaces threads thread.0 t (with_address va t) here (addressed va t).space;
       room = record { room = room_after };
     }
@@ -370,7 +374,7 @@ breaks_none true rule later e = absurd (cc)
 breaks_none false rule later e = (refl, e)
 
 -- a declaration other than the machine's breaks none of the rules behind the machine's own
-pub other_rule : (machine : Option Machine) (s : FlatState) (d : Decl) → rule_of_first d ≡ Some 5 → rule_by_machine machine s d ≡ None → rule_of_other s d ≡ None
+pub other_rule : (machine : Option Machine) (s : FlatState) (d : Decl) → rule_of_first d ≡ Some (rule_of_early d) → rule_by_machine machine s d ≡ None → rule_of_other s d ≡ None
 other_rule None s d first e = absurd (cc)
 other_rule (Some m) s d first e = e
 
@@ -409,7 +413,7 @@ machine_formed s machine formed e =
         caps = within machine.caps (not-false _ (breaks_none (not (are_capacities machine.caps)) 7 None tests.1).0);
         size = length-replicate (524288 * machine.groups) 0;
       };
-      kernels = record { few = formed.kernels.few; locks = λ some. let room = (formed.kernels.locks some).0 in absurd (omega (arith, room, no_room)) };
+      kernels = record { few = formed.kernels.few; locking = formed.kernels.locking; locks = λ some. let room = (formed.kernels.locks some).0 in absurd (omega (arith, room, no_room)) };
       spaces = formed.spaces;
       threads = formed.threads;
       rows = record {
@@ -441,6 +445,12 @@ kernel_formed s n limits formed e =
       memory = formed.memory;
       kernels = record {
         few = let lt = leb-false 1024 (length s.kernels) few.0 in omega (arith, lt, more);
+        locking = λ k x there. elim (push_cases s.kernels (new_kernel limits) x k there) [
+          | inl before ↦ formed.kernels.locking k x before
+          | inr last ↦
+              let number : n.0 ≡ k = eqb-true n.0 (length s.kernels) (not-false _ next.0) ∙ sym last.0 in
+              subst (λ (y : FlatKernel). may_lock_kernels k y.limits ≡ true) last.1 (subst (λ (m : ℕ). may_lock_kernels m limits ≡ true) number (not-false _ locking.0))
+        ];
         locks = λ some. (
           rw (sum_by_push (λ (k : FlatKernel). k.limits.kernels) s.kernels (new_kernel limits)) room.0,
           rw (sum_by_push (λ (k : FlatKernel). k.limits.spaces) s.kernels (new_kernel limits)) room.1,
@@ -473,6 +483,10 @@ module _ (machine : Option Machine) (kernels : List FlatKernel) (kernel group : 
       let same : length (set kernels kernel u) ≡ length kernels = length-set kernels kernel u in (
         record {
           few = rw same are.few;
+          locking = λ n x there. elim (set_cases kernels kernel n u x there) [
+            | inl at ↦ subst (λ (y : FlatKernel). may_lock_kernels n y.limits ≡ true) at.1 (rw at.0 (are.locking kernel k here))
+            | inr other ↦ are.locking n x other
+          ];
           locks = λ some. subst (λ (c : Caps). (c.kernels + 5 ≤ (caps_of machine).kernels) × (c.spaces + 5 ≤ (caps_of machine).spaces) × (c.threads + 5 ≤ (caps_of machine).threads) × (c.mappings + 6 ≤ (caps_of machine).mappings)) (sym (same_locks k u here refl)) (are.locks (omega (arith, same, some)));
         },
         same,
@@ -514,6 +528,7 @@ space_formed s n kernel formed e =
           number = (formed.threads.each k t there).number;
           space = let lt = (formed.threads.each k t there).space in omega (arith, lt, more);
           aligned = (formed.threads.each k t there).aligned;
+          priority = (formed.threads.each k t there).priority;
           queued = (formed.threads.each k t there).queued;
         };
       };
@@ -523,6 +538,7 @@ space_formed s n kernel formed e =
           space = let lt = (formed.rows.each row there).space in omega (arith, lt, more);
           page = (formed.rows.each row there).page;
           frame = (formed.rows.each row there).frame;
+          some = (formed.rows.each row there).some;
           flags = (formed.rows.each row there).flags;
           receiver = (formed.rows.each row there).receiver;
         };
@@ -539,7 +555,7 @@ thread_declared_formed s n space pc priority a0 a1 formed e =
     let few = breaks_none (nat_le 16384 (length s.threads)) 9 _ next.1 in
     let owned = breaks_none (nat_le (length s.spaces) space.0) 12 _ few.1 in
     let starts = breaks_none (not (pc % 4 == 0) || nat_lt 31 priority) 14 _ owned.1 in
-    let aligned = (or_parts (not (pc % 4 == 0)) (nat_lt 31 priority) starts.0).0 in
+    let begins = or_parts (not (pc % 4 == 0)) (nat_lt 31 priority) starts.0 in
     let new = new_thread n space pc priority a0 a1 in
     let more : length (s.threads ++ new ∷ []) ≡ length s.threads + 1 = length_push s.threads new in
     threads_formed s (s.threads ++ new ∷ []) formed
@@ -550,7 +566,8 @@ thread_declared_formed s n space pc priority a0 a1 formed e =
         | inr last ↦ subst (λ (u : FlatThread). IsThread s.spaces k u) last.1 (record {
           number = eqb-true n.0 (length s.threads) (not-false _ next.0) ∙ sym last.0;
           space = leb-false (length s.spaces) space.0 owned.0;
-          aligned = eqb-true (pc % 4) 0 (not-false _ aligned);
+          aligned = eqb-true (pc % 4) 0 (not-false _ begins.0);
+          priority = ltb-false 31 priority begins.1;
           queued = omega arith;
         })
       ];
@@ -635,6 +652,7 @@ row_formed s space vpn frame flags receiver formed e =
           space = leb-false (length s.spaces) space.0 (or_parts _ _ there.0).0;
           page = ltb-false 1048575 vpn.0 at.1;
           frame = ltb-true frame.0 (128 * groups_of s.machine) (not-false _ at.0);
+          some = flagged.0;
           flags = not-false _ agreed.0;
           receiver = not-false _ received.0;
         };

@@ -8,3 +8,4 @@ pub mod FormedEvents
 pub mod WritingBack
 pub mod Found
 pub mod Keeping
+pub mod PageMarks

@@ -107,7 +107,7 @@ module _ (space : SpaceNo) where
         let found = found_at (is_row_of row.space row.vpn.0) rows i row at (and_from (eqb row.space.0 row.space.0) (eqb row.vpn.0 row.vpn.0) (eq-eqb row.space.0 row.space.0 refl) (eq-eqb row.vpn.0 row.vpn.0 refl)) in
         found.4 ∙ (sym found.2 ∙ ap (slice_get rows) (sym (single i found.0 row found.1 at found.2 found.3)) ∙ at)
 
-    page-found : (i : ℕ) (row : Row) (n : ℕ) → slice_get rows i ≡ Some row → row.space.0 ≡ space.0 → row.vpn.0 ≡ n → find (λ p. eqb p.number n) (pages_in rights memory rows space) ≡ Some (page_of rights memory row)
+    pub page-found : (i : ℕ) (row : Row) (n : ℕ) → slice_get rows i ≡ Some row → row.space.0 ≡ space.0 → row.vpn.0 ≡ n → find (λ p. eqb p.number n) (pages_in rights memory rows space) ≡ Some (page_of rights memory row)
     page-found i row n at inside page =
         find-map-filter (is_in space) (λ p. eqb p.number n) (page_of rights memory) rows
         ∙ ap (option_map (page_of rights memory)) (subst₂ (λ (a b : ℕ). find (λ r. eqb r.space.0 a && eqb r.vpn.0 b) rows ≡ Some row) inside page (row_of-own i row at))

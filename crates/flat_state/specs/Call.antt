@@ -15,9 +15,12 @@ use Rattle.flat_state.specs.declared.records.FlatThread.{FlatThread}
 use Rattle.flat_state.specs.State.{FlatState, is_trapped, with_thread}
 use Rattle.flat_state.specs.Declaration.{breaks, broken_rule, declared}
 
--- call 3 waits while the queue is empty
+-- a thread that is in a call waits where that is call 3 and its queue is empty
+abbrev pub has_nothing_to_take : FlatThread → Bool
+has_nothing_to_take t = (call_number t.context == 3) && (length t.queue.items == 0)
+
 abbrev pub waits : FlatThread → Bool
-waits t = (call_number t.context == 3) && (length t.queue.items == 0)
+waits t = is_trapped t.status && has_nothing_to_take t
 
 abbrev pub is_completable : FlatThread → Bool
 is_completable t = is_trapped t.status && not (waits t)

@@ -145,9 +145,14 @@ rule_of_machine m =
     breaks (not (nat_lt 0 m.groups && nat_le m.groups 16)) 6
     (breaks (not (are_capacities m.caps)) 7 None)
 
+-- before the machine nothing else is declared, and of a row without a flag that is said first
+abbrev pub rule_of_early : Decl → ℕ
+rule_of_early (decls.Map space vpn frame flags receiver) = if has_no_flag flags then 4 else 5
+rule_of_early d = 5
+
 abbrev pub rule_of_first : Decl → Option ℕ
 rule_of_first (decls.Machine machine) = rule_of_machine machine
-rule_of_first d = Some 5
+rule_of_first d = Some (rule_of_early d)
 
 abbrev pub rule_by_machine : Option Machine → FlatState → Decl → Option ℕ
 rule_by_machine None s d = rule_of_first d

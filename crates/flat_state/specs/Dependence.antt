@@ -1,5 +1,6 @@
 -- What a descriptor depends on, and who owns it.
-use Rattle.std.specs.Prelude.{◌&&◌, nat_lt, if◌then◌else◌, List, [], ◌∷◌, ◌++◌, length, map, filter, Contains, Option, Some, None, option_to_list, slice_get}
+use Rattle.std.specs.Prelude.{ℕ, zero, suc, ◌&&◌, nat_lt, if◌then◌else◌, List, [], ◌∷◌, ◌++◌, length, map, filter, Contains, Option, Some, None, option_to_list, slice_get}
+use Rattle.std.specs.List.{flat_map}
 use Rattle.std.specs.Option.{option_map}
 use Rattle.cache_ident.specs.declared.names.KernelNo.{KernelNo}
 use Rattle.cache_ident.specs.declared.names.Name.{Name}
@@ -38,6 +39,21 @@ parents s (Mapping space vpn) = parents_of_found s (row_of s.rows space vpn.0)
 
 abbrev pub Depends : FlatState → Name → Name → Type 0
 Depends s child parent = Contains (parents s child) parent
+
+-- the names, and what they depend on over at most so many steps
+abbrev pub up : ℕ → FlatState → List Name → List Name
+up zero s names = names
+up (suc n) s names = names ++ up n s (flat_map (parents s) names)
+
+-- All that a name depends on, over any number of steps. No dependence is longer than four: from a message row over a
+-- signal row, a thread and a space to a kernel. What is reached in two ways may stand twice.
+unfoldable pub all_parents : FlatState → Name → List Name
+all_parents s name = up 3 s (parents s name)
+
+-- the child depends on the name over any number of steps
+pub data DependsFar (s : FlatState) (child : Name) : Name → Type 0 where
+  directly : {parent : Name} → Depends s child parent → DependsFar s child parent
+  further : {between parent : Name} → DependsFar s child between → Depends s between parent → DependsFar s child parent
 
 abbrev pub owner_of_thread : FlatState → Option FlatThread → Option KernelNo
 owner_of_thread s None = None

@@ -9,5 +9,6 @@ pub mod Call
 pub mod Events
 pub mod Settling
 pub mod Dependence
+pub mod Names
 pub mod NextSteps
 pub mod WellFormed

@@ -1,7 +1,6 @@
 -- What the next step of a thread goes through, and all that it wants.
-use Rattle.std.specs.Prelude.{ℕ, zero, suc, ◌%◌, Bool, true, false, ◌==◌, if◌then◌else◌, List, ◌∷◌, ◌++◌, map, Option, Some, None, option_to_list, slice_get}
+use Rattle.std.specs.Prelude.{ℕ, ◌%◌, Bool, true, false, ◌==◌, if◌then◌else◌, List, ◌∷◌, ◌++◌, map, Option, Some, None, option_to_list, slice_get}
 use Rattle.std.specs.Option.{option_map}
-use Rattle.std.specs.List.{flat_map}
 use Rattle.cache_ident.specs.declared.names.Name.{Name}
 use Rattle.cache_ident.specs.declared.names.Name.TheVariants.{Thread}
 use Rattle.phys_groups.specs.declared.rows.Row.{Row}
@@ -20,7 +19,7 @@ use Rattle.flat_state.specs.Translation.{reached, row_through}
 use Rattle.flat_state.specs.Pages.{pages_of}
 use Rattle.flat_state.specs.Signals.{next_action, is_runnable}
 use Rattle.flat_state.specs.Step.{outcome}
-use Rattle.flat_state.specs.Dependence.{parents, row_name}
+use Rattle.flat_state.specs.Dependence.{row_name, up}
 
 abbrev pub if_aligned : ℕ → Access → ℕ → Option DataAccess
 if_aligned size access va = if va % size == 0 then Some (record { access = access; va = va }) else None
@@ -36,6 +35,12 @@ data_access actions.Pass = None
 data_access (actions.Jump rd target) = None
 data_access actions.Call = None
 data_access actions.Break = None
+
+-- a store and an atomic action store
+abbrev pub stores : Option Action → Bool
+stores (Some (actions.Store va width value)) = true
+stores (Some (actions.Atomic rd va op operand)) = true
+stores _ = false
 
 -- the row that the next step's fetch goes through
 abbrev pub fetch_row : FlatState → FlatThread → Option Row
@@ -81,14 +86,8 @@ next_step_of s t = next_step_if (is_ready t.status) s t
 unfoldable pub next_step : FlatState → ℕ → Option NextStep
 next_step s n = option_map (next_step_of s) (slice_get s.threads n)
 
--- the names, and what they depend on over at most so many steps
-abbrev pub up : ℕ → FlatState → List Name → List Name
-up zero s names = names
-up (suc n) s names = names ++ up n s (flat_map (parents s) names)
-
 -- The chain of a thread's next step: the thread, the rows that its fetch and its data access go through, and all that
--- these depend on. No dependence is longer than four steps: from a message row over a signal row, a thread and a space
--- to a kernel.
+-- these depend on, which takes four steps at most.
 unfoldable pub chain : FlatState → FlatThread → List Name
 chain s t =
     up 4 s (Thread t.no ∷ (map row_name (option_to_list (fetch_row s t)) ++ map row_name (option_to_list (data_row s t))))

@@ -4,13 +4,13 @@ use Rattle.std.specs.List.{list_all, list_any}
 use Rattle.flat_state.specs.declared.records.FlatThread.{FlatThread}
 use Rattle.flat_state.specs.declared.records.Settled.{Settled}
 use Rattle.flat_state.specs.declared.records.Settled.TheVariants.{Done, Stalled, Spent, Running}
-use Rattle.flat_state.specs.State.{FlatState, is_ended, is_trapped}
+use Rattle.flat_state.specs.State.{FlatState, is_ended}
 use Rattle.flat_state.specs.Signals.{is_held}
 use Rattle.flat_state.specs.Call.{waits, is_completable}
 
 -- the thread has ended, or it is held, or it waits for a signal
 abbrev pub is_stuck : FlatState → FlatThread → Bool
-is_stuck s t = is_ended t.status || (is_held s t || (is_trapped t.status && waits t))
+is_stuck s t = is_ended t.status || (is_held s t || waits t)
 
 -- Done: each thread has ended. Stalled: not so, and each that hasn't is held or waits for a signal. Spent: neither,
 -- no thread's call can be completed, and the steps taken are the limit.

@@ -1,5 +1,5 @@
 -- What holds of every state that events can reach.
-use Rattle.std.specs.Prelude.{◌≡◌, ℕ, ◌+◌, ◌*◌, ◌%◌, ◌<◌, ◌≤◌, true, is_some, List, length, count_by, Contains, Option, Some, slice_get}
+use Rattle.std.specs.Prelude.{◌≡◌, ℕ, ◌+◌, ◌*◌, ◌%◌, ◌<◌, ◌≤◌, true, false, is_some, List, length, count_by, Contains, Option, Some, slice_get}
 use Rattle.cache_ident.specs.declared.names.Caps.{Caps}
 use Rattle.cache_ident.specs.declared.names.Frame.{Frame}
 use Rattle.cache_ident.specs.declared.names.KernelNo.{KernelNo}
@@ -10,7 +10,7 @@ use Rattle.flat_state.specs.declared.events.Machine.{Machine}
 use Rattle.flat_state.specs.declared.records.FlatKernel.{FlatKernel}
 use Rattle.flat_state.specs.declared.records.FlatThread.{FlatThread}
 use Rattle.flat_state.specs.State.{FlatState, groups_of}
-use Rattle.flat_state.specs.Declaration.{agree, is_receiver_in, locks_granted, caps_of}
+use Rattle.flat_state.specs.Declaration.{agree, has_no_flag, is_receiver_in, locks_granted, caps_of, may_lock_kernels}
 
 -- no capacity is above its greatest
 pub record AreWithin (caps : Caps) : Type 0 where
@@ -25,9 +25,11 @@ pub record IsSized (machine : Option Machine) (memory : List ℕ) : Type 0 where
   pub caps : AreWithin (caps_of machine)
   pub size : length memory ≡ 524288 * groups_of machine
 
--- there are at most 1,024 kernels, and the locks that they are granted leave room in the caches
+-- there are at most 1,024 kernels, of which the first alone may lock kernels, and the locks that they are granted leave
+-- room in the caches
 pub record AreKernels (machine : Option Machine) (kernels : List FlatKernel) : Type 0 where
   pub few : length kernels ≤ 1024
+  pub locking : (n : ℕ) (k : FlatKernel) → slice_get kernels n ≡ Some k → may_lock_kernels n k.limits ≡ true
   pub locks : 0 < length kernels → ((locks_granted kernels).kernels + 5 ≤ (caps_of machine).kernels) × ((locks_granted kernels).spaces + 5 ≤ (caps_of machine).spaces) × ((locks_granted kernels).threads + 5 ≤ (caps_of machine).threads) × ((locks_granted kernels).mappings + 6 ≤ (caps_of machine).mappings)
 
 -- there are at most 4,096 spaces, each of a kernel that is declared
@@ -35,11 +37,13 @@ pub record AreSpaces (kernels : List FlatKernel) (spaces : List KernelNo) : Type
   pub few : length spaces ≤ 4096
   pub owned : (n : ℕ) (kernel : KernelNo) → slice_get spaces n ≡ Some kernel → kernel.0 < length kernels
 
--- a thread has its place as its number, a space that is declared, and an aligned pc
+-- a thread has its place as its number, a space that is declared, an aligned pc, one of 32 priorities, and a queue that
+-- isn't longer than it may be
 pub record IsThread (spaces : List KernelNo) (n : ℕ) (t : FlatThread) : Type 0 where
   pub number : t.no.0 ≡ n
   pub space : t.space.0 < length spaces
   pub aligned : t.context.pc % 4 ≡ 0
+  pub priority : t.priority ≤ 31
   pub queued : length t.queue.items ≤ 64
 
 pub record AreThreads (spaces : List KernelNo) (threads : List FlatThread) : Type 0 where
@@ -51,6 +55,7 @@ pub record IsRow (machine : Option Machine) (spaces : List KernelNo) (threads : 
   pub space : row.space.0 < length spaces
   pub page : row.vpn.0 ≤ 1048575
   pub frame : row.frame.0 < 128 * groups_of machine
+  pub some : has_no_flag row.flags ≡ false
   pub flags : agree row.flags (is_some row.receiver) ≡ true
   pub receiver : is_receiver_in row.space threads row.receiver ≡ true
 

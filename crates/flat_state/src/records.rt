@@ -45,11 +45,13 @@ impl FlatThread {
         matches!(self.status, Status::Ended(_))
     }
 
-    /// Whether the thread waits for a signal, where it is in a call: that call is call 3, and the queue is empty.
+    /// Whether the thread waits for a signal: it is in call 3, and its queue is empty.
     pub fn waits(&self) -> bool
         ensures { result ≡ waits_lem self.now }
     {
-        self.context.regs[17] == 3 && self.queue.is_empty()
+        matches!(self.status, Status::Trapped)
+            && self.context.regs[17] == 3
+            && self.queue.is_empty()
     }
 
     /// Whether the call that the thread is in can be completed.
@@ -135,8 +137,8 @@ mod tests {
             (Status::Trapped, 3, false, true, false),
             (Status::Trapped, 3, true, false, true),
             (Status::Trapped, 2, false, false, true),
-            (Status::Ready, 2, false, false, false),
-            (ended, 2, false, false, false),
+            (Status::Ready, 3, false, false, false),
+            (ended, 3, false, false, false),
         ];
         for (status, call, signalled, waits, completable) in cases {
             let thread = thread(rt.alloc(), status, call, signalled);

@@ -50,7 +50,7 @@ run_of ds j s how steps text bytes ran reported few built = record {
 }
 
 pub run_is_due : (ds : List Decl) (j : List Entry) (s : FlatState) (how : Settled) (steps : ℕ) (text : List ℕ) → IsRun ds j s how steps step_limit → text ≡ report s how steps → IsDueFor ds (status_of how) (kept.Journal j) text
-run_is_due ds j s settled.Done steps text ran reported words bytes left few built at_end = (at_end, run_of ds j s settled.Done steps text bytes ran reported few built)
-run_is_due ds j s settled.Stalled steps text ran reported words bytes left few built at_end = (at_end, run_of ds j s settled.Stalled steps text bytes ran reported few built)
-run_is_due ds j s settled.Spent steps text ran reported words bytes left few built at_end = (at_end, run_of ds j s settled.Spent steps text bytes ran reported few built)
-run_is_due ds j s settled.Running steps text ran reported words bytes left few built at_end = absurd (ran.over refl)
+run_is_due ds j s settled.Done steps text ran reported bytes left few built at_end = (refl, at_end, run_of ds j s settled.Done steps text bytes ran reported few built)
+run_is_due ds j s settled.Stalled steps text ran reported bytes left few built at_end = (refl, at_end, run_of ds j s settled.Stalled steps text bytes ran reported few built)
+run_is_due ds j s settled.Spent steps text ran reported bytes left few built at_end = (refl, at_end, run_of ds j s settled.Spent steps text bytes ran reported few built)
+run_is_due ds j s settled.Running steps text ran reported bytes left few built at_end = absurd (ran.over refl)

@@ -11,7 +11,7 @@ use Rattle.flat_state.specs.declared.records.FlatThread.{FlatThread}
 use Rattle.flat_state.specs.declared.records.Settled.TheVariants.{Done, Stalled, Spent, Running}
 use Rattle.flat_state.specs.State.{FlatState, is_ready, is_ended, is_trapped}
 use Rattle.flat_state.specs.Signals.{full_receiver, is_runnable}
-use Rattle.flat_state.specs.Call.{waits, is_completable}
+use Rattle.flat_state.specs.Call.{has_nothing_to_take, is_completable}
 use Rattle.flat_state.specs.NextSteps.{next_step, next_step_if}
 use Rattle.flat_state.specs.Settling.{is_stuck, settled_of}
 use Rattle.proc_run.specs.Running.{stands_so, may_step}
@@ -21,7 +21,7 @@ or_false true b e = absurd cc
 or_false false b e = (refl, e)
 
 -- a thread that isn't in a call to be completed, and isn't runnable, is stuck
-else_stuck : (status : Status) (full waiting : Bool) → (is_trapped status && not waiting) ≡ false → (is_ready status && not full) ≡ false → (is_ended status || ((is_ready status && full) || (is_trapped status && waiting))) ≡ true
+else_stuck : (status : Status) (full waiting : Bool) → (is_trapped status && not (is_trapped status && waiting)) ≡ false → (is_ready status && not full) ≡ false → (is_ended status || ((is_ready status && full) || (is_trapped status && waiting))) ≡ true
 else_stuck Ready true waiting completable runnable = refl
 else_stuck Ready false waiting completable runnable = absurd cc
 else_stuck Trapped full true completable runnable = refl
@@ -33,7 +33,7 @@ all_stuck s [] completable runnable = refl
 all_stuck s (t ∷ ts) completable runnable =
     let first = or_false (is_completable t) (list_any is_completable ts) completable in
     let second = or_false (is_runnable s t) (list_any (is_runnable s) ts) runnable in
-    rw (else_stuck t.status (is_some (full_receiver s t)) (waits t) first.0 second.0) (all_stuck s ts first.1 second.1)
+    rw (else_stuck t.status (is_some (full_receiver s t)) (has_nothing_to_take t) first.0 second.0) (all_stuck s ts first.1 second.1)
 
 true_is_false : true ≡ false → ⊥
 true_is_false e = cc

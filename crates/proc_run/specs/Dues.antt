@@ -1,5 +1,5 @@
 -- What is told of a text before it is written.
-use Rattle.std.specs.Prelude.{◌≡◌, ℕ, List, Option, Result, Err, IfSome, ◌≤◌, length}
+use Rattle.std.specs.Prelude.{◌≡◌, ℕ, List, [], Option, Result, Err, IfSome, ◌≤◌, length}
 use Rattle.std.specs.Io.KnownBytes.{IsAtEnd}
 use Rattle.flat_state.specs.declared.events.Decl.{Decl}
 use Rattle.flat_state.specs.declared.records.Settled.{Settled}
@@ -29,11 +29,11 @@ abbrev pub UnlessFailed : {X : Type 0} → Result X NoText → Type 0 → Type 0
 UnlessFailed (Err none.ReadFault) P = Unit {0}
 UnlessFailed _ P = P
 
--- due for whatever bytes are not too many and a built scenario with these declarations, once they are read to their end
+-- due without words for whatever bytes are not too many and a built scenario with these declarations, once they are read to their end
 abbrev pub IsDueFor : List Decl → RunStatus → Kept → List ℕ → Type 0
-IsDueFor ds status kept text = (words : List (List ℕ)) (bytes left : Option (List ℕ)) → IfSome bytes (λ bs. length bs ≤ most_bytes) → IfSome bytes (λ bs. IsBuilt bs ds) → IsAtEnd left
-    → IsDue words bytes left status kept text
+IsDueFor ds status kept text = (bytes left : Option (List ℕ)) → IfSome bytes (λ bs. length bs ≤ most_bytes) → IfSome bytes (λ bs. IsBuilt bs ds) → IsAtEnd left
+    → IsDue [] bytes left status kept text
 
--- due for these bytes, where they are those that the source had, once they are read to their end
+-- due without words for these bytes, where they are those that the source had, once they are read to their end
 abbrev pub IsDueOf : List ℕ → RunStatus → Kept → List ℕ → Type 0
-IsDueOf bs status kept text = (words : List (List ℕ)) (bytes left : Option (List ℕ)) → IfSome bytes (λ told. bs ≡ told) → IsAtEnd left → IsDue words bytes left status kept text
+IsDueOf bs status kept text = (bytes left : Option (List ℕ)) → IfSome bytes (λ told. bs ≡ told) → IsAtEnd left → IsDue [] bytes left status kept text

@@ -64,16 +64,16 @@ abbrev pub IsNotBuilt : List ℕ → Type 0
 IsNotBuilt bytes = (ds : List Decl) → IsBuilt bytes ds → ⊥
 
 -- This text is due with this status, and this is kept: from the words, the bytes that the source had, and those that
--- it has left.
+-- it has left. With words it is the usage line.
 abbrev pub IsDue : List (List ℕ) → Option (List ℕ) → Option (List ℕ) → RunStatus → Kept → List ℕ → Type 0
-IsDue words bytes left Done (kept.Journal j) text = IsAtEnd left × IsRunOf bytes settled.Done j text
-IsDue words bytes left Stalled (kept.Journal j) text = IsAtEnd left × IsRunOf bytes settled.Stalled j text
-IsDue words bytes left Spent (kept.Journal j) text = IsAtEnd left × IsRunOf bytes settled.Spent j text
+IsDue words bytes left Done (kept.Journal j) text = (words ≡ []) × IsAtEnd left × IsRunOf bytes settled.Done j text
+IsDue words bytes left Stalled (kept.Journal j) text = (words ≡ []) × IsAtEnd left × IsRunOf bytes settled.Stalled j text
+IsDue words bytes left Spent (kept.Journal j) text = (words ≡ []) × IsAtEnd left × IsRunOf bytes settled.Spent j text
 IsDue words bytes left Usage kept.Nothing text = (words ≢ []) × Keeps bytes left × (text ≡ usage_line)
 IsDue words bytes left TooLong kept.Nothing text =
-    IfSome bytes (λ bs. most_bytes < length bs) × TakesMore bytes left most_bytes × (text ≡ too_long_line)
+    (words ≡ []) × IfSome bytes (λ bs. most_bytes < length bs) × TakesMore bytes left most_bytes × (text ≡ too_long_line)
 IsDue words bytes left (Unbuilt line) kept.Nothing text =
-    IsAtEnd left × IfSome bytes (λ bs. (length bs ≤ most_bytes) × IsNotBuilt bs) × (text ≡ unbuilt_line line)
+    (words ≡ []) × IsAtEnd left × IfSome bytes (λ bs. (length bs ≤ most_bytes) × IsNotBuilt bs) × (text ≡ unbuilt_line line)
 -- nothing else is due
 IsDue words bytes left status k text = ⊥
 
@@ -117,3 +117,10 @@ IsRan _ = ⊥
 abbrev pub IsRanOrNoMemory : RunStatus → Type 0
 IsRanOrNoMemory NoMemory = Unit {0}
 IsRanOrNoMemory status = IsRan status
+
+-- the words were refused, but where the line that says so couldn't be written or made
+abbrev pub IsRefusal : RunStatus → Type 0
+IsRefusal Usage = Unit {0}
+IsRefusal WriteFault = Unit {0}
+IsRefusal NoMemory = Unit {0}
+IsRefusal _ = ⊥

@@ -11,7 +11,7 @@ ghost use Rattle.scenario_text.specs.Spelling.{IsBuilt};
 ghost use Rattle.proc_run.specs.declared.outcome.RunStatus.{RunStatus as RunStatusLem};
 ghost use Rattle.proc_run.specs.declared.outcome.Kept.TheVariants.{Nothing};
 ghost use Rattle.proc_run.specs.declared.machine.NoText.TheVariants.{NoMemory as NoMemoryLem};
-ghost use Rattle.proc_run.specs.Outcomes.{IsDue, OnWritten, OnWriteFault, OnReadFault, OnNothingDue, UnlessReadFault, UnlessWriteFault, IsRan, IsRanOrNoMemory, most_bytes, usage_line, too_long_line, unbuilt_line};
+ghost use Rattle.proc_run.specs.Outcomes.{IsDue, OnWritten, OnWriteFault, OnReadFault, OnNothingDue, UnlessReadFault, UnlessWriteFault, IsRan, IsRanOrNoMemory, IsRefusal, most_bytes, usage_line, too_long_line, unbuilt_line};
 ghost use Rattle.proc_run.specs.Dues.{OnFailed, UnlessFailed, IsDueFor, IsDueOf, status_of as status_of_lem};
 
 use crate::outcome::{Kept, Outcome, RunStatus};
@@ -129,6 +129,7 @@ fn due_for(alloc: Global, bytes: &[u8]) -> Result<DueText, NoText>
 fn due<S: Source>(alloc: Global, words: &Words, source: &mut S) -> Result<DueText, NoText>
     ensures due { IfOk result (λ d. IsDue words.now (S.bytes_left source.old) (S.bytes_left source.new) d.status d.kept d.text.items) }
     ensures ran { words.now ≡ [] → (bytes : List ℕ) (ds : List DeclLem) → S.bytes_left source.old ≡ Some bytes → length bytes ≤ most_bytes → IsBuilt bytes ds → IfOk result (λ d. IsRan d.status) }
+    ensures refused { words.now ≢ [] → IfOk result (λ d. d.status ≡ RunStatus.Usage) × OnFailed result ⊥ × Keeps (S.bytes_left source.old) (S.bytes_left source.new) }
     ensures fault { OnFailed result (HasRisen (S.faults source.old) (S.faults source.new)) }
     ensures faultless { UnlessFailed result (S.faults source.new ≡ S.faults source.old) }
 {
@@ -170,6 +171,9 @@ pub fn run_machine<S: Source, W: Sink>(
         × Keeps (W.bytes_held sink.old) (W.bytes_held sink.new)) }
     ensures source_faults { UnlessReadFault result.status (S.faults source.new ≡ S.faults source.old) }
     ensures sink_faults { UnlessWriteFault result.status (W.faults sink.new ≡ W.faults sink.old) }
+
+    // Words are refused before anything is read.
+    ensures refused { words.now ≢ [] → IsRefusal result.status × Keeps (S.bytes_left source.old) (S.bytes_left source.new) }
 
     // Without words, a built scenario runs to its end, unless an end fails or memory runs out.
     ensures complete { words.now ≡ [] → (bytes : List ℕ) (ds : List DeclLem) → S.bytes_left source.old ≡ Some bytes

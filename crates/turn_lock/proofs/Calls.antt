@@ -3,14 +3,16 @@ use Rattle.std.proofs.Common.{◌≡◌, ◌&&◌, ℕ, ◌<◌, ltb, leb, Bool,
 use Rattle.std.proofs.lemmas.List.Elements.{filter-append}
 use Rattle.std.proofs.lemmas.Bool.Decides.{nat_tests}
 use mathlib.Core.Option.{none, some, some-injective}
+use mathlib.Core.Logic.{dite}
+use native.Mathlib.Decide.{ℕ_discrete}
 use lib.ListN.{get_elem?}
 use Rattle.std.specs.Prelude.{Option, Some}
-use Rattle.atomic_table.specs.Table.{Me, step, Allows}
+use Rattle.atomic_table.specs.Table.{State, Me, step, Allows}
 use Rattle.turn_lock.specs.declared.rule.View.{View}
 use Rattle.turn_lock.specs.declared.rule.Stage.{Stage}
 use Rattle.turn_lock.specs.declared.rule.Stage.TheVariants.{Idle, Waits, Holds, Leaves, Joined}
 use Rattle.turn_lock.specs.Lists.{IsWithin, NoneWithin, IsContinuedBy, entries_within}
-use Rattle.turn_lock.specs.Rule.{IsInTurn}
+use Rattle.turn_lock.specs.Rule.{HasTicket, HasEntered, IsInTurn}
 use Rattle.turn_lock.specs.Seats.{has_turn}
 use Rattle.turn_lock.specs.Steps.{at_stage, having_seen, TakesTurn, records}
 use Rattle.turn_lock.proofs.Lists.{append_nothing}
@@ -69,3 +71,10 @@ module _ {X E : Type 0} (entries : X → List E) (maker : E → ℕ) where
   pub same_value : (cs zs ws : List (ℕ × Option X)) (x y : X) → cs ≡ (0, Some x) ∷ zs → cs ≡ (0, Some y) ∷ ws → x ≡ y
   same_value cs zs ws x y a b = let first : ℕ × Option X = (0, Some x) in let second : ℕ × Option X = (0, Some y) in let pairs : first ≡ second = cc (a, b) in
       let values : Some x ≡ Some y = ap (λ (z : ℕ × Option X). z.1) pairs in cc (values)
+
+  -- two seats that have the turn in one state are one
+  pub one_turn : (s : State (Option X) (View E)) → IsInTurn entries maker s → (i j : ℕ) (v w : View E) → get_elem? s.views i ≡ some v → get_elem? s.views j ≡ some w → has_turn v.stage ≡ true → has_turn w.stage ≡ true → i ≡ j
+  one_turn s r i j v w at_i at_j turn_v turn_w = let a = turn_ticket v.stage turn_v in let b = turn_ticket w.stage turn_w in
+      let is_a : a.0 ≡ r.serving = r.only_the_served_enters i v at_i a.0 (subst (HasEntered a.0) (sym a.1) refl) in
+      let is_b : b.0 ≡ r.serving = r.only_the_served_enters j w at_j b.0 (subst (HasEntered b.0) (sym b.1) refl) in
+      dite (ℕ_discrete i j) (λ is. is) (λ apart. absurd (r.no_ticket_twice i j v w apart at_i at_j a.0 (subst (HasTicket a.0) (sym a.1) refl) (subst (HasTicket a.0) (sym b.1) (is_b ∙ sym is_a))))

@@ -156,5 +156,8 @@ module _ {X E : Type 0} (entries : X → List E) (maker : E → ℕ) where
 
   pub looks_for_turn : (n id : ℕ) (me : M) (t : ℕ) → me.0.stage ≡ Waits t → Allows Rule n id me 1 (λ y. y) (looks entries maker (step n 1 0 0 none) me)
   looks_for_turn n id me t waits s r wide at _ = let y : ℕ = get_or s.words 1 0 in let served : y ≡ r.serving = ap (λ (ws : List ℕ). get_or ws 1 0) r.words_are in
+      let drawn = r.every_seat_drew_its_ticket id me.0 at t (subst (HasTicket t) (sym waits) refl) in
       dite (ℕ_discrete r.serving t) (λ is. finds s r n id me t waits is at)
-      (λ other. stays s 1 id me (looks entries maker (step n 1 0 0 none) me) r at (λ u waits_u. let same : u ≡ t = cc (waits_u, waits) in ((λ hit. absurd (other (sym served ∙ hit ∙ same))), λ _. refl)))
+      (λ other. let before : r.serving < t = omega (arith, drawn.0, other) in
+      stays s 1 id me (looks entries maker (step n 1 0 0 none) me) r at (λ u waits_u. let same : u ≡ t = cc (waits_u, waits) in
+      ((λ hit. absurd (other (sym served ∙ hit ∙ same))), λ _. (subst (λ (z : ℕ). z < u) (sym served) (subst (λ (z : ℕ). r.serving < z) (sym same) before), refl))))

@@ -1,9 +1,13 @@
 -- What contracts say of a lock, its passes and its holders.
-use Rattle.std.specs.Prelude.{◌≡◌, ℕ, ◌⊎◌, List}
+use Rattle.std.specs.Prelude.{◌≡◌, ℕ, ◌⊎◌, List, Option}
+use mathlib.Core.Option.{some}
+use lib.ListN.{get_elem?}
 use Rattle.atomic_table.specs.Seated.{TableId}
+use Rattle.atomic_table.specs.Table.{State}
 use Rattle.turn_lock.specs.declared.held.Held.{Held}
 use Rattle.turn_lock.specs.declared.history.History.{Ghosts}
 use Rattle.turn_lock.specs.declared.pass.Pass.{Pass}
+use Rattle.turn_lock.specs.declared.rule.View.{View}
 use Rattle.turn_lock.specs.declared.turn.Turn.{Turn}
 use Rattle.turn_lock.specs.Lists.{numbers, entries_within}
 
@@ -31,6 +35,14 @@ module _ {X E : Type 0} where
   -- the lock that it was taken out of
   abbrev pub held_lock : Held X E → TableId
   held_lock h = h.slot.seat.table_id
+
+  -- the seat that it was taken out by
+  abbrev pub seat_of : Held X E → ℕ
+  seat_of h = h.slot.seat.id
+
+  -- in this state of the lock its seat has the value out
+  abbrev pub StandsIn : State (Option X) (View E) → Held X E → Type 0
+  StandsIn s h = get_elem? s.views (seat_of h) ≡ some h.slot.seat.me.0
 
 module _ {X E : Type 0} {g : Ghosts X E} where
   -- the lock that the pass is of

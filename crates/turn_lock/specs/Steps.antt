@@ -1,5 +1,5 @@
 -- What each kind of step tells the seat that makes it, and how views are cut and joined.
-use Rattle.std.specs.Prelude.{◌≡◌, ◌≢◌, ℕ, min, max, List, [], ◌∷◌, ◌++◌, Option, Some}
+use Rattle.std.specs.Prelude.{◌≡◌, ◌≢◌, ℕ, ◌<◌, min, max, List, [], ◌∷◌, ◌++◌, Option, Some}
 use mathlib.Core.List.{IsPrefix}
 use Rattle.atomic_table.specs.Table.{Me, Step}
 use Rattle.turn_lock.specs.declared.rule.View.{View}
@@ -41,7 +41,7 @@ module _ {X E : Type 0} where
       × ((rest : List E) × (m.0.seen ++ rest ≡ entries x) × NoneWithin maker m.0.first m.0.end rest)
 
   abbrev pub looks : (X → List E) → (E → ℕ) → Step (Option X) → Sat X E → ℕ → Sat X E → Type 0
-  looks entries maker st m r m' = (t : ℕ) → m.0.stage ≡ Waits t → (r ≡ t → TakesTurn entries maker t m m') × (r ≢ t → m' ≡ m)
+  looks entries maker st m r m' = (t : ℕ) → m.0.stage ≡ Waits t → (r ≡ t → TakesTurn entries maker t m m') × (r ≢ t → (r < t) × (m' ≡ m))
 
   -- the seat gives the value back, and has seen its entries
   abbrev pub records : (X → List E) → Step (Option X) → Sat X E → ℕ → Sat X E → Type 0

@@ -7,7 +7,9 @@
 
 mod held;
 mod history;
+mod laws;
 mod pass;
+mod patience;
 mod rule;
 #[cfg(test)]
 mod tests;
@@ -15,5 +17,6 @@ mod turn;
 
 pub use held::Held;
 pub use history::History;
+pub use laws::at_most_one_holds;
 pub use pass::Pass;
 pub use turn::Turn;

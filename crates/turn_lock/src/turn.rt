@@ -9,12 +9,13 @@ ghost use Rattle.turn_lock.specs.Steps.{at_stage, TakesTurn};
 use crate::held::{Held, Slot};
 use crate::history::History;
 use crate::pass::Pass;
+use crate::patience::Patience;
 use crate::rule::{Draw, InTurn, Look, View};
 use atomic_table::{Refused, Seat, Table};
-use crossbeam_utils::Backoff;
 use std::alloc::{AllocFailed, Global};
 use std::snapshot::Snapshot;
 use std::sync::Wait;
+use std::thread;
 
 mod passes;
 
@@ -74,7 +75,6 @@ impl<V: History> Turn<V> {
         ensures seat { (seat.new.table_id ≡ seat.old.table_id) × (seat.new.id ≡ seat.old.id) }
         ensures ticket { seat.new.me ≡ (at_stage seat.old.me.0 (Waits result), seat.old.me.1) }
     {
-        let backoff = Backoff::new();
         // The first try finds the word, unless nobody has drawn yet.
         let mut next = 0;
         for _ in rt.forever() {
@@ -88,7 +88,7 @@ impl<V: History> Turn<V> {
                 }
                 next = found;
             } else {
-                backoff.snooze();
+                thread::yield_now();
             }
         }
         unreachable!()
@@ -106,20 +106,22 @@ impl<V: History> Turn<V> {
         ensures seat { (seat.new.table_id ≡ seat.old.table_id) × (seat.new.id ≡ seat.old.id) }
         ensures turn { TakesTurn V.entries V.maker ticket seat.old.me seat.new.me }
     {
-        let backoff = Backoff::new();
+        let mut patience = Patience::new();
         for _ in rt.forever() {
-            if self.table.shared.load::<Look>(seat, SERVING) == ticket {
+            let serving = self.table.shared.load::<Look>(seat, SERVING);
+            if serving == ticket {
                 return;
             }
-            backoff.snooze();
+            patience.pause(ticket - serving);
         }
         unreachable!()
     }
 
     /// Waits for the turn of this thread, and takes the value.
     ///
-    /// It spins a little and then gives the processor to other threads between two looks. Whether the turn comes
-    /// depends on those who have the value before. After 2^64 - 1 holds of one lock it waits for ever.
+    /// The nearer its turn is, the sooner a thread looks again. One with four or more turns before its own gives its
+    /// processor to other threads between two looks, and so does one before which no turn ends for long. Whether the
+    /// turn comes depends on those who have the value before. After 2^64 - 1 holds of one lock it waits for ever.
     pub fn hold<R: Wait>(&self, rt: &R, pass: Pass<V>) -> Held<'_, V>
         requires { IsPassOf self.now pass }
         ensures lock { held_lock result ≡ lock_of self.now }

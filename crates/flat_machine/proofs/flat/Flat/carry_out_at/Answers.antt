@@ -18,7 +18,7 @@ invariant_of-self c =
     let threads = c.self.inside.threads.items in
     let within = subst (λ (s : FlatState). c.args.at < length s.threads) (sym c.self.view_is) c.requires.there in
     let there = slice_get_read threads (length threads) c.args.at t refl within c.index_mut.ensures.value in
-    after_either (λ (u : FlatThread). Sound (with_thread s c.args.at u) c.self.inside.granted) c.carry_out.result _ _ _ c.carry_out.ensures.ok c.carry_out.ensures.err (own_sound s _ c.self.invariant c.args.at t there) (in_place s _ c.self.invariant c.args.at t there t refl refl refl (omega arith))
+    after_either (λ (u : FlatThread). Sound (with_thread s c.args.at u) c.self.inside.granted) c.carry_out.result _ _ _ c.carry_out.ensures.ok c.carry_out.ensures.err (own_sound s _ c.self.invariant c.args.at t there) (in_place s _ c.self.invariant c.args.at t there t refl refl refl refl (omega arith))
 
 pub returns-clause-effect : goal.returns-clause-effect
 returns-clause-effect c =

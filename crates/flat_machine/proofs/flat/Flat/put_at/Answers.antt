@@ -17,7 +17,7 @@ module _ (c : goal.After-self-1) where
 
   formed : IsWellFormed (with_thread s c.args.at (record c.index_mut-thread.result.now { context = c.args.context; status = c.args.status }))
   formed =
-      thread_formed s c.args.at c.index_mut-thread.result.now (record c.index_mut-thread.result.now { context = c.args.context; status = c.args.status }) c.self.invariant.formed here refl refl c.requires.aligned (c.self.invariant.formed.threads.each c.args.at c.index_mut-thread.result.now here).queued
+      thread_formed s c.args.at c.index_mut-thread.result.now (record c.index_mut-thread.result.now { context = c.args.context; status = c.args.status }) c.self.invariant.formed here refl refl refl c.requires.aligned (c.self.invariant.formed.threads.each c.args.at c.index_mut-thread.result.now here).queued
 
 pub invariant_of-self : goal.invariant_of-self
 invariant_of-self c = record { formed = formed c; sums = c.self.invariant.sums }
