@@ -14,7 +14,8 @@ use Rattle.writeback_order.specs.Order.{rank_of}
 use Rattle.flat_state.specs.declared.records.FlatThread.{FlatThread}
 use Rattle.flat_state.specs.State.{FlatState}
 use Rattle.flat_state.specs.Declaration.{is_receiver_in, thread_is_in}
-use Rattle.flat_state.specs.Dependence.{row_name, signal_rows_of, parents_of_row, parents_of_found, parents}
+use Rattle.phys_groups.specs.Rows.{row_name}
+use Rattle.flat_state.specs.Dependence.{signal_rows_of, parents_of_row, parents_of_found, parents}
 use Rattle.flat_state.specs.Names.{stands, class_by, class_of_row, class_of}
 use Rattle.flat_state.specs.WellFormed.{IsWellFormed}
 use Rattle.flat_state.proofs.Finding.{find-contains}

@@ -16,6 +16,7 @@ use Rattle.cache_ident.specs.declared.names.Vpn.{Vpn}
 use Rattle.cache_ident.specs.declared.names.Name.{Name}
 use Rattle.cache_ident.specs.declared.names.Name.TheVariants.{Kernel, Space, Thread, Mapping}
 use Rattle.cache_ident.specs.Names.{kind_of}
+use Rattle.cache_ident.proofs.Numbers.{same_space}
 use Rattle.phys_groups.specs.declared.rows.Flags.{Flags}
 use Rattle.phys_groups.specs.declared.rows.Row.{Row}
 use Rattle.phys_groups.specs.Translation.{through, no_flag, no_right, allows_fetch, is_row_of, row_of, is_fit, judged, translated}
@@ -24,17 +25,12 @@ use Rattle.flat_state.specs.declared.records.FlatThread.{FlatThread}
 use Rattle.flat_state.specs.State.{FlatState}
 use Rattle.flat_state.specs.Translation.{is_fit_row, row_through}
 use Rattle.flat_state.specs.Declaration.{is_receiver_in, thread_is_in}
-use Rattle.flat_state.specs.Dependence.{row_name, signal_rows_of, parents_of_row, parents_of_found, parents, up}
+use Rattle.phys_groups.specs.Rows.{row_name}
+use Rattle.flat_state.specs.Dependence.{signal_rows_of, parents_of_row, parents_of_found, parents, up}
 use Rattle.flat_state.specs.WellFormed.{IsWellFormed}
 use Rattle.flat_state.proofs.Places.{get_from_Contains, Contains-from_get, fails_if_not_found}
 use Rattle.flat_laws.specs.Counts.{AtMost}
 use Rattle.flat_laws.proofs.Members.{Contains-here, Contains-behind, Contains-cases, contains_nothing, Contains-option, Contains-some, Contains-filter, count_by-le, found_place, Contains-map, Contains-from_map, Contains-from_flat_map, Contains-filter_map, Contains-from_filter_map, length-filter_map, Contains-option_map}
-
-pub same_space : (a b : SpaceNo) → a.0 ≡ b.0 → a ≡ b
-same_space a b e = ap (λ (n : ℕ). let x : SpaceNo = record { 0 = n } in x) e
-
-pub same_vpn : (a b : Vpn) → a.0 ≡ b.0 → a ≡ b
-same_vpn a b e = ap (λ (n : ℕ). let x : Vpn = record { 0 = n } in x) e
 
 -- a row with x has neither m nor a receiver
 plain_row : (m w x receives : Bool) → ((not m || (w && (not x && not receives))) && (not receives || not x)) ≡ true → x ≡ true → (m ≡ false) × (receives ≡ false)

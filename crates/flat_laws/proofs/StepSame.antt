@@ -29,7 +29,8 @@ use Rattle.flat_state.specs.Pages.{with_marks}
 use Rattle.flat_state.specs.Signals.{is_runnable, next_signal, receivers_for, with_address, sent_to, sent, delivered}
 use Rattle.flat_state.specs.Step.{outcome, went_on, stepped_so, step_if, step_of, after_step}
 use Rattle.flat_state.specs.Events.{applied}
-use Rattle.flat_state.specs.Dependence.{row_name, signal_rows_of, parents_of_row, parents_of_found, parents, all_parents, up, owner_of_thread, owner_of_row, owner}
+use Rattle.phys_groups.specs.Rows.{row_name}
+use Rattle.flat_state.specs.Dependence.{signal_rows_of, parents_of_row, parents_of_found, parents, all_parents, up, owner_of_thread, owner_of_row, owner}
 use Rattle.flat_state.specs.Names.{stands, class_by, class_of_row, class_of, is_fit_found, is_fit_name}
 use Rattle.flat_state.proofs.Places.{get-set_same, get-set_other}
 use Rattle.flat_state.proofs.FormedParts.{KeepsRow, addressed}

@@ -24,7 +24,8 @@ use Rattle.rv32_exec.specs.Actions.{action_of}
 use Rattle.rv32_exec.specs.Steps.{After, missed, ended, after_jump, load_found, store_found, write_found, read_found, after_action, after_decoding, after_fetch, after_step}
 use Rattle.flat_state.specs.Pages.{page_of}
 use Rattle.flat_laws.specs.Rights.{AgreeWhereReadable}
-use Rattle.flat_laws.proofs.PageBytes.{length-page_at, get_or-page_at}
+use Rattle.phys_groups.proofs.PageBytes.{get_or-page_at}
+use Rattle.flat_laws.proofs.PageBytes.{length-page_at}
 use Rattle.flat_laws.proofs.Changes.{Change, Marked, Put, all_changed, AreAllowed}
 
 -- a flag of a row that is fit has the right that it asks for
@@ -163,9 +164,9 @@ module _ (rights : List (Bool × Bool)) (rows : List Row) (m v : List ℕ) (agre
       (λ j below.
       let within : j < 4096 = omega (arith, length-page_at m frame) in
       let group : frame.0 / 128 ≡ (4096 * frame.0 + j) / 524288 = omega arith in
-      get_or-page_at m frame j within
+      get_or-page_at m frame j 0 within
       ∙ agree.bytes (4096 * frame.0 + j) (subst (λ g. (right_on rights g).0 ≡ true) group on)
-      ∙ sym (get_or-page_at v frame j within))
+      ∙ sym (get_or-page_at v frame j 0 within))
 
   row_agrees : (width : Width) (at : ℕ) (row : Row) (b : Bool) → (b ≡ true → (right_on rights (row.frame.0 / 128)).0 ≡ true) → option_map (λ p. number_at width p.bytes at) (option_map (page_of rights m) (if b then Some row else None)) ≡ option_map (λ p. number_at width p.bytes at) (option_map (page_of rights v) (if b then Some row else None))
   row_agrees width at row true on = ap (λ bytes. Some (number_at width bytes at)) (page_agrees row.frame (on refl))

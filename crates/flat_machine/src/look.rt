@@ -10,7 +10,7 @@ ghost use Rattle.flat_state.specs.State.{is_ready};
 ghost use Rattle.flat_state.specs.Translation.{reached as reached_lem};
 ghost use Rattle.flat_state.specs.Pages.{pages_of};
 ghost use Rattle.flat_state.specs.Signals.{next_action as next_action_lem, next_signal as next_signal_lem, signal_of as signal_of_lem, signal_through as signal_through_lem};
-ghost use Rattle.flat_state.specs.Dependence.{row_name as row_name_lem};
+ghost use Rattle.phys_groups.specs.Rows.{row_name as row_name_lem};
 ghost use Rattle.flat_state.specs.NextSteps.{fetch_row as fetch_row_lem, faults as faults_lem, next_step as next_step_lem, next_step_of as next_step_of_lem, row_of_action as row_of_action_lem};
 ghost use Rattle.flat_mmu.specs.Seen.{IsInMemory};
 ghost use Rattle.flat_mmu.specs.Translation.{Reaches};
