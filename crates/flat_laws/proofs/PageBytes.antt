@@ -1,11 +1,10 @@
 -- The bytes of a page, one by one: where they stand in memory, and what a page written over a frame leaves.
-use Rattle.std.proofs.Common.{◌≡◌, ◌≢◌, ℕ, zero, suc, ◌+◌, ◌-◌, ◌*◌, ◌/◌, ◌%◌, ◌<◌, min, List, ◌++◌, length, get_or, take, drop, set, refl, ap, sym, ◌∙◌, inl, inr, arith, length-append, length-drop, length-take, length-set, get_or-take, get_or-drop}
+use Rattle.std.proofs.Common.{◌≡◌, ◌≢◌, ℕ, ◌+◌, ◌-◌, ◌*◌, ◌/◌, ◌%◌, min, List, ◌++◌, length, get_or, take, drop, ap, sym, ◌∙◌, inl, inr, arith, length-append, length-drop, length-take, get_or-take, get_or-drop}
 use Rattle.std.proofs.lemmas.List.{get_or_append_left, get_or-append_right, get_or_past}
 use Rattle.std.proofs.lemmas.Bool.{cases_lt}
 use Rattle.cache_ident.specs.declared.names.Frame.{Frame}
 use Rattle.phys_groups.specs.Memory.{page_at, with_page}
 use Rattle.phys_groups.proofs.PageBytes.{get_or-page_at}
-use Rattle.rv32_exec.specs.Pages.{put_bytes}
 
 -- a page is as long as memory lets it be, also of a frame that isn't in memory
 pub length-page_at : (bytes : List ℕ) (frame : Frame) → length (page_at bytes frame) ≡ min 4096 (length bytes - 4096 * frame.0)

@@ -1,5 +1,5 @@
 -- Which bits a step leaves on the rows.
-use Rattle.std.proofs.Common.{◌≡◌, ℕ, ◌/◌, ◌%◌, Bool, true, false, ◌&&◌, ◌||◌, List, map, Option, Some, None, is_some, slice_get, refl, ap, ap₂, sym, ◌∙◌, subst}
+use Rattle.std.proofs.Common.{◌≡◌, ℕ, ◌/◌, ◌%◌, Bool, true, false, ◌&&◌, ◌||◌, map, Option, Some, None, is_some, slice_get, refl, ap, ap₂, sym, ◌∙◌, subst}
 use Rattle.std.specs.Prelude.{if◌then◌else◌, ◌==◌}
 use Rattle.std.specs.List.{find}
 use Rattle.std.specs.Option.{option_map}
@@ -7,7 +7,6 @@ use Rattle.std.proofs.Math.Bool.{and-false, or-false}
 use Rattle.std.proofs.lemmas.Bool.{eqb-true, false≢true}
 use Rattle.std.proofs.lemmas.Option.{same_Some}
 use Rattle.phys_groups.specs.declared.rows.Row.{Row}
-use Rattle.phys_groups.specs.Translation.{row_of}
 use Rattle.rv32_ma.specs.declared.atomics.AmoOp.{AmoOp}
 use Rattle.rv32_exec.specs.declared.statuses.Access.{Access}
 use Rattle.rv32_exec.specs.declared.statuses.Access.TheVariants.{Fetch, Read, Write}
@@ -29,12 +28,8 @@ use Rattle.flat_state.proofs.Found.{found-row_of, found-space, found-page}
 use Rattle.flat_state.proofs.Translating.{translation-pages}
 use Rattle.flat_state.proofs.WritingBack.{page-found}
 use Rattle.flat_laws.specs.Marks.{is_through, marked_by}
-use Rattle.flat_laws.proofs.Members.{find-map, map-agree}
+use Rattle.flat_laws.proofs.Members.{find-map, is_some-option_map, map-agree}
 use Rattle.flat_state.proofs.PageMarks.{IsWalked, is_at, access_of, step_walks, atomic_writes}
-
-is_some-option_map : {X Y : Type 0} (f : X → Y) (o : Option X) → is_some (option_map f o) ≡ is_some o
-is_some-option_map f None = refl
-is_some-option_map f (Some x) = refl
 
 -- what is left of a step that fits
 pub stepped_is : (s : FlatState) (n : ℕ) (t : FlatThread) (u : FlatState) → slice_get s.threads n ≡ Some t → after_step s n ≡ Some u → stepped s n t (outcome s t) ≡ u

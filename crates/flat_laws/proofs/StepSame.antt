@@ -1,5 +1,5 @@
 -- A step leaves all but memory, the bits of rows, and the contexts, statuses and queues of threads.
-use Rattle.std.proofs.Common.{◌≡◌, ◌≢◌, ℕ, zero, suc, Bool, true, false, cond, List, [], ◌∷◌, ◌++◌, map, filter, set, Option, Some, None, is_some, slice_get, refl, ap, ap₂, sym, ◌∙◌, subst, inl, inr}
+use Rattle.std.proofs.Common.{◌≡◌, ℕ, zero, suc, Bool, true, false, cond, List, [], ◌∷◌, ◌++◌, map, filter, set, Option, Some, None, is_some, slice_get, refl, ap, ap₂, sym, ◌∙◌, subst, inl, inr}
 use Rattle.std.proofs.Math.Path.{fun_ext}
 use Rattle.std.specs.Prelude.{if◌then◌else◌, ◌==◌, ◌&&◌, option_to_list, unwrap_or, nat_lt, length}
 use Rattle.std.specs.List.{find, flat_map}
@@ -35,7 +35,7 @@ use Rattle.flat_state.specs.Names.{stands, class_by, class_of_row, class_of, is_
 use Rattle.flat_state.proofs.Places.{get-set_same, get-set_other}
 use Rattle.flat_state.proofs.FormedParts.{KeepsRow, addressed}
 use Rattle.flat_state.proofs.FormedEvents.{marks_keep}
-use Rattle.flat_laws.proofs.Members.{find-map}
+use Rattle.flat_laws.proofs.Members.{find-map, is_some-option_map}
 
 abbrev pub space_at : List FlatThread → ℕ → Option SpaceNo
 space_at threads n = option_map (λ (t : FlatThread). t.space) (slice_get threads n)
@@ -221,16 +221,11 @@ module _ (s u : FlatState) (same : IsSameBut s u) where
   unfolding stands
   same_stands (Kernel kernel) = ap (λ ks. is_some (slice_get ks kernel.0)) same.kernels
   same_stands (Space space) = ap (λ sp. is_some (slice_get sp space.0)) same.spaces
-  same_stands (Thread thread) = sym (shown (slice_get u.threads thread.0)) ∙ ap is_some (same.threads.at thread.0) ∙ shown (slice_get s.threads thread.0)
-    where
-      shown : (o : Option FlatThread) → is_some (option_map (λ t. t.space) o) ≡ is_some o
-      shown None = refl
-      shown (Some t) = refl
-  same_stands (Mapping space vpn) = ap is_some (found_row space vpn.0) ∙ shown (row_of s.rows space vpn.0)
-    where
-      shown : (o : Option Row) → is_some (option_map same.mark o) ≡ is_some o
-      shown None = refl
-      shown (Some row) = refl
+  same_stands (Thread thread) =
+      sym (is_some-option_map (λ (t : FlatThread). t.space) (slice_get u.threads thread.0))
+      ∙ ap is_some (same.threads.at thread.0)
+      ∙ is_some-option_map (λ (t : FlatThread). t.space) (slice_get s.threads thread.0)
+  same_stands (Mapping space vpn) = ap is_some (found_row space vpn.0) ∙ is_some-option_map same.mark (row_of s.rows space vpn.0)
 
   pub same_class : (name : Name) → class_of u name ≡ class_of s name
   unfolding class_of

@@ -1,5 +1,5 @@
 -- A step over the pages of two memories that agree wherever the rights let read: it makes the same of both.
-use Rattle.std.proofs.Common.{◌≡◌, ℕ, ◌+◌, ◌-◌, ◌*◌, ◌/◌, ◌%◌, ◌<◌, min, Bool, true, false, ◌&&◌, ◌||◌, cond, List, [], ◌∷◌, map, Option, Some, None, is_some, refl, ap, sym, ◌∙◌, subst, arith, ext_get_or}
+use Rattle.std.proofs.Common.{◌≡◌, ℕ, ◌+◌, ◌-◌, ◌*◌, ◌/◌, ◌%◌, ◌<◌, min, Bool, true, false, ◌&&◌, ◌||◌, List, [], ◌∷◌, map, Option, Some, None, is_some, refl, ap, sym, ◌∙◌, subst, arith, ext_get_or}
 use Rattle.std.specs.Prelude.{if◌then◌else◌, ◌==◌}
 use Rattle.std.specs.List.{find}
 use Rattle.std.specs.Option.{option_map}
@@ -26,6 +26,7 @@ use Rattle.flat_state.specs.Pages.{page_of}
 use Rattle.flat_laws.specs.Rights.{AgreeWhereReadable}
 use Rattle.phys_groups.proofs.PageBytes.{get_or-page_at}
 use Rattle.flat_laws.proofs.PageBytes.{length-page_at}
+use Rattle.flat_laws.proofs.Members.{find-map, is_some-option_map}
 use Rattle.flat_laws.proofs.Changes.{Change, Marked, Put, all_changed, AreAllowed}
 
 -- a flag of a row that is fit has the right that it asks for
@@ -64,15 +65,6 @@ row_for rights rows va access = row_allowed rights access (find (λ r. r.vpn.0 =
 abbrev pub pages : List (Bool × Bool) → List Row → List ℕ → List Page
 pages rights rows memory = map (page_of rights memory) rows
 
-find_page : (rights : List (Bool × Bool)) (memory : List ℕ) (number : ℕ) (rows : List Row) → find (λ p. p.number == number) (pages rights rows memory) ≡ option_map (page_of rights memory) (find (λ r. r.vpn.0 == number) rows)
-find_page rights memory number [] = refl
-find_page rights memory number (r ∷ rows) =
-    ap (cond (r.vpn.0 == number) (Some (page_of rights memory r))) (find_page rights memory number rows) ∙ by_test (r.vpn.0 == number) (find (λ r. r.vpn.0 == number) rows)
-  where
-    by_test : (b : Bool) (later : Option Row) → cond b (Some (page_of rights memory r)) (option_map (page_of rights memory) later) ≡ option_map (page_of rights memory) (cond b (Some r) later)
-    by_test true later = refl
-    by_test false later = refl
-
 page_allowed : (rights : List (Bool × Bool)) (memory : List ℕ) (access : Access) (found : Option Row) → where_allowed access (option_map (page_of rights memory) found) ≡ option_map (page_of rights memory) (row_allowed rights access found)
 page_allowed rights memory access None = refl
 page_allowed rights memory access (Some row) = by_access access
@@ -89,11 +81,7 @@ page_allowed rights memory access (Some row) = by_access access
 translation_is : (rights : List (Bool × Bool)) (rows : List Row) (memory : List ℕ) (va : ℕ) (access : Access) → translation (pages rights rows memory) va access ≡ option_map (page_of rights memory) (row_for rights rows va access)
 unfolding translation
 translation_is rights rows memory va access =
-    ap (where_allowed access) (find_page rights memory (va / 4096) rows) ∙ page_allowed rights memory access (find (λ r. r.vpn.0 == va / 4096) rows)
-
-is_some-option_map : {A B : Type 0} (f : A → B) (found : Option A) → is_some (option_map f found) ≡ is_some found
-is_some-option_map f None = refl
-is_some-option_map f (Some a) = refl
+    ap (where_allowed access) (find-map (λ p. p.number == va / 4096) (λ r. r.vpn.0 == va / 4096) (page_of rights memory) (λ r. refl) rows) ∙ page_allowed rights memory access (find (λ r. r.vpn.0 == va / 4096) rows)
 
 translates_is : (rights : List (Bool × Bool)) (rows : List Row) (memory : List ℕ) (va : ℕ) (access : Access) → translates (pages rights rows memory) va access ≡ is_some (row_for rights rows va access)
 unfolding translates
