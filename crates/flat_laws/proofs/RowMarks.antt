@@ -110,9 +110,9 @@ module _ (s : FlatState) (t : FlatThread) where
             let page : Page = page_of (rights_of s t.space) s.memory row in
             let marks = (walked hit).0.marks in
             let found : find (λ p. p.number == row.vpn.0) (outcome s t).pages ≡ Some (marks.by page) =
-                ap (find (λ p. p.number == row.vpn.0)) marks.is
-                ∙ find-map (λ p. p.number == row.vpn.0) (λ p. p.number == row.vpn.0) marks.by (λ p. ap (λ (n : ℕ). n == row.vpn.0) (marks.number p)) (pages_of s t.space)
-                ∙ ap (option_map marks.by) (page-found t.space (rights_of s t.space) s.memory s.rows formed.rows.single i row row.vpn.0 at (eqb-true row.space.0 t.space.0 inside) refl) in
+            ap (find (λ p. p.number == row.vpn.0)) marks.is
+            ∙ find-map (λ p. p.number == row.vpn.0) (λ p. p.number == row.vpn.0) marks.by (λ p. ap (λ (n : ℕ). n == row.vpn.0) (marks.number p)) (pages_of s t.space)
+            ∙ ap (option_map marks.by) (page-found t.space (rights_of s t.space) s.memory s.rows formed.rows.single i row row.vpn.0 at (eqb-true row.space.0 t.space.0 inside) refl) in
             ap (λ (o : Option Page). with_marks_of o row) found ∙ ap₂ (λ (r m : Bool). record row { referenced = r; modified = m }) (marks.touched page) (marks.written page)
         of_test false outside = ap₂ (λ (r m : Bool). record row { referenced = r; modified = m }) (sym (or-false row.referenced)) (sym (ap (λ b. row.modified || b) (and-false (stores action)) ∙ or-false row.modified))
 

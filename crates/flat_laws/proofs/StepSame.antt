@@ -45,10 +45,12 @@ pub record SameSpaces (before after : List FlatThread) : Type 0 where
   pub at : (n : ℕ) → space_at after n ≡ space_at before n
 
 pub set_same : (threads : List FlatThread) (n : ℕ) (t u : FlatThread) → slice_get threads n ≡ Some t → u.space ≡ t.space → SameSpaces threads (set threads n u)
-set_same threads n t u here same = record { at = λ k. elim (cases_eq k n) [
-  | inl is ↦ subst (λ (m : ℕ). space_at (set threads n u) m ≡ space_at threads m) (sym is) (ap (option_map (λ (w : FlatThread). w.space)) (get-set_same threads n u t here) ∙ ap Some same ∙ sym (ap (option_map (λ (w : FlatThread). w.space)) here))
-  | inr other ↦ ap (option_map (λ (w : FlatThread). w.space)) (get-set_other threads n k u other)
-] }
+set_same threads n t u here same = record {
+  at = λ k. elim (cases_eq k n) [
+    | inl is ↦ subst (λ (m : ℕ). space_at (set threads n u) m ≡ space_at threads m) (sym is) (ap (option_map (λ (w : FlatThread). w.space)) (get-set_same threads n u t here) ∙ ap Some same ∙ sym (ap (option_map (λ (w : FlatThread). w.space)) here))
+    | inr other ↦ ap (option_map (λ (w : FlatThread). w.space)) (get-set_other threads n k u other)
+  ];
+}
 
 sent_to_same : (threads : List FlatThread) (thread : ThreadNo) (va : ℕ) (o : Option FlatThread) → slice_get threads thread.0 ≡ o → SameSpaces threads (sent_to threads thread va o)
 sent_to_same threads thread va None here = record { at = λ k. refl }
