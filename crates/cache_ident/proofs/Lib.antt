@@ -1,1 +1,2 @@
 pub mod RollLemmas
+pub mod Numbers

@@ -7,7 +7,7 @@ use Rattle.phys_groups.specs.Translation.{right_on}
 use Rattle.rv32_exec.specs.declared.statuses.Access.{Access}
 use Rattle.rv32_exec.specs.declared.statuses.Access.TheVariants.{Fetch, Read, Write}
 use Rattle.rv32_exec.specs.Pages.{Page, put_bytes, put_in_frame, mark, mark_page}
-use Rattle.flat_laws.proofs.PageBytes.{length-put_bytes}
+use Rattle.flat_state.proofs.Storing.{length-put_bytes}
 
 -- the mark of an access to the page of that number, or a number put into each page of a frame
 pub data Change : Type 0 where

@@ -1,11 +1,10 @@
 -- What an event keeps.
-use Rattle.std.proofs.Common.{◌≡◌, ℕ, zero, suc, ◌<◌, Bool, true, false, not, cond, List, [], ◌∷◌, ◌++◌, map, filter, set, Option, Some, None, is_some, slice_get, refl, ap, ap₂, sym, ◌∙◌, subst, inl, inr}
+use Rattle.std.proofs.Common.{◌≡◌, ℕ, Bool, true, false, not, cond, List, [], ◌∷◌, ◌++◌, filter, set, Option, Some, None, is_some, slice_get, refl, ap, ap₂, sym, ◌∙◌, subst, inl, inr}
 use Rattle.std.specs.Prelude.{if◌then◌else◌, ◌==◌, ◌&&◌, unwrap_or}
 use Rattle.std.specs.List.{find}
 use Rattle.std.specs.Option.{option_map}
 use Rattle.std.proofs.lemmas.Bool.{and_parts, cases_eq, eqb-true}
 use Rattle.std.proofs.lemmas.Option.{same_Some}
-use Rattle.cache_ident.specs.declared.names.Caps.{Caps}
 use Rattle.cache_ident.specs.declared.names.KernelNo.{KernelNo}
 use Rattle.cache_ident.specs.declared.names.SpaceNo.{SpaceNo}
 use Rattle.phys_groups.specs.declared.rows.Row.{Row}
@@ -22,13 +21,13 @@ use Rattle.flat_state.specs.declared.records.FlatThread.{FlatThread}
 use Rattle.flat_state.specs.State.{FlatState, with_thread}
 use Rattle.flat_state.specs.Declaration.{broken_rule, declared, with_right, new_row}
 use Rattle.flat_state.specs.Call.{answered, refusal, made, mapping, rule_of_mapping, mapped, unmapped, spawning, spawned, is_first, granting, rule_of_granting, granted, completed_so, complete_if, completion_for, after_completion, is_completable}
-use Rattle.flat_state.specs.Events.{declared_unless, after_event, applied}
+use Rattle.flat_state.specs.Events.{declared_unless, applied}
 use Rattle.flat_state.proofs.Finding.{find-contains, find-passes}
 use Rattle.flat_state.proofs.Places.{get-append, get-set_same, get-set_other}
 use Rattle.flat_state.proofs.FormedParts.{KeepsRow, KeepSpaces, keeps_all, keeps_on, set_keeps}
 use Rattle.flat_laws.specs.Rows.{IsButForBits}
 use Rattle.flat_laws.proofs.Members.{Contains-filter}
-use Rattle.flat_laws.proofs.StepSame.{SameSpaces, space_at, IsSameBut, step_same, found_row}
+use Rattle.flat_laws.proofs.StepSame.{IsSameBut, step_same, found_row}
 
 -- a row that is in both lists for a page is the same but for its bits
 abbrev pub KeepRows : List Row → List Row → Type 0

@@ -1,27 +1,26 @@
 -- All that a name depends on: the list is exact, and short.
-use Rattle.std.proofs.Common.{◌≡◌, ℕ, zero, suc, ◌≤◌, List, [], ◌∷◌, ◌++◌, Option, Some, None, slice_get, Contains, refl, ap, sym, ◌∙◌, subst, inl, inr, arith}
-use Rattle.std.specs.Prelude.{◌==◌, ◌&&◌, option_to_list, length}
+use Rattle.std.proofs.Common.{◌≡◌, ℕ, zero, suc, List, [], ◌∷◌, Option, Some, None, slice_get, Contains, refl, ap, sym, ◌∙◌, subst, inl, inr, arith}
+use Rattle.std.specs.Prelude.{◌==◌}
 use Rattle.std.specs.List.{flat_map}
 use Rattle.std.proofs.lemmas.Bool.{and_parts, eqb-true}
 use Rattle.std.proofs.lemmas.List.Elements.{Contains-append_cases}
 use Rattle.std.proofs.lemmas.Option.{same_Some}
-use Rattle.cache_ident.specs.declared.idents.Kind.{Kind}
 use Rattle.cache_ident.specs.declared.names.SpaceNo.{SpaceNo}
 use Rattle.cache_ident.specs.declared.names.ThreadNo.{ThreadNo}
 use Rattle.cache_ident.specs.declared.names.Vpn.{Vpn}
 use Rattle.cache_ident.specs.declared.names.Name.{Name}
 use Rattle.cache_ident.specs.declared.names.Name.TheVariants.{Kernel, Space, Thread, Mapping}
-use Rattle.cache_ident.specs.Names.{kind_of}
+use Rattle.cache_ident.proofs.Numbers.{same_space, same_vpn}
 use Rattle.phys_groups.specs.declared.rows.Row.{Row}
 use Rattle.phys_groups.specs.Translation.{is_row_of, row_of}
 use Rattle.flat_state.specs.declared.records.FlatThread.{FlatThread}
 use Rattle.flat_state.specs.State.{FlatState}
-use Rattle.flat_state.specs.Dependence.{row_name, parents_of_found, parents, up, all_parents, DependsFar, directly, further}
+use Rattle.phys_groups.specs.Rows.{row_name}
+use Rattle.flat_state.specs.Dependence.{parents_of_found, parents, up, all_parents, DependsFar, directly, further}
 use Rattle.flat_state.specs.WellFormed.{IsWellFormed}
 use Rattle.flat_state.proofs.Places.{Contains-from_get}
-use Rattle.flat_laws.specs.Counts.{AtMost}
 use Rattle.flat_laws.proofs.Members.{Contains-cases, Contains-from_flat_map, found_place}
-use Rattle.flat_laws.proofs.ShortChains.{AreFew, AreIn, In, space_in, thread_in, accessed_in, closed, up_in, few, same_space, same_vpn}
+use Rattle.flat_laws.proofs.ShortChains.{AreFew, AreIn, In, space_in, thread_in, accessed_in, closed, up_in, few}
 use Rattle.flat_laws.proofs.WholeChains.{at_most_four, below, first_in_up, whole}
 
 -- what is reached from names that the child depends on, it depends on too

@@ -1,6 +1,6 @@
 -- What stands in a list that is made of others.
 use Rattle.std.proofs.Common.{◌≡◌, ℕ, zero, suc, ◌+◌, ◌≤◌, Bool, true, false, cond, List, [], ◌∷◌, map, length, Option, Some, None, slice_get, Contains, filter, count_by, refl, ap, ap₂, sym, ◌∙◌, subst, ◌⊎◌, inl, inr, arith}
-use Rattle.std.specs.Prelude.{option_to_list}
+use Rattle.std.specs.Prelude.{option_to_list, is_some}
 use Rattle.std.specs.List.{find, filter_map, flat_map, cons_option}
 use Rattle.std.specs.Option.{option_map}
 use Rattle.std.proofs.lemmas.List.Elements.{Contains-append_cases, Contains-append_left, Contains-append_right}
@@ -134,6 +134,10 @@ module _ {X Y : Type 0} where
   pub length-filter_map : (h : X → Option Y) (xs : List X) → length (filter_map h xs) ≤ length xs
   length-filter_map h [] = omega arith
   length-filter_map h (x ∷ xs) = let rest = length-filter_map h xs in let one = length-cons_option (h x) (filter_map h xs) in omega arith
+
+  pub is_some-option_map : (f : X → Y) (o : Option X) → is_some (option_map f o) ≡ is_some o
+  is_some-option_map f None = refl
+  is_some-option_map f (Some x) = refl
 
   -- what is found among the images of a list
   pub find-map : (q : Y → Bool) (p : X → Bool) (f : X → Y) → ((x : X) → q (f x) ≡ p x) → (xs : List X) → find q (map f xs) ≡ option_map f (find p xs)

@@ -1,22 +1,18 @@
 -- The bytes of a page, one by one: where they stand in memory, and what a page written over a frame leaves.
-use Rattle.std.proofs.Common.{◌≡◌, ◌≢◌, ℕ, zero, suc, ◌+◌, ◌-◌, ◌*◌, ◌/◌, ◌%◌, ◌<◌, min, List, ◌++◌, length, get_or, take, drop, set, refl, ap, sym, ◌∙◌, inl, inr, arith, length-append, length-drop, length-take, length-set, get_or-take, get_or-drop}
+use Rattle.std.proofs.Common.{◌≡◌, ◌≢◌, ℕ, ◌+◌, ◌-◌, ◌*◌, ◌/◌, ◌%◌, min, List, ◌++◌, length, get_or, take, drop, ap, sym, ◌∙◌, inl, inr, arith, length-append, length-drop, length-take, get_or-take, get_or-drop}
 use Rattle.std.proofs.lemmas.List.{get_or_append_left, get_or-append_right, get_or_past}
 use Rattle.std.proofs.lemmas.Bool.{cases_lt}
 use Rattle.cache_ident.specs.declared.names.Frame.{Frame}
 use Rattle.phys_groups.specs.Memory.{page_at, with_page}
-use Rattle.rv32_exec.specs.Pages.{put_bytes}
+use Rattle.phys_groups.proofs.PageBytes.{get_or-page_at}
 
--- a page is as long as memory lets it be
+-- a page is as long as memory lets it be, also of a frame that isn't in memory
 pub length-page_at : (bytes : List ℕ) (frame : Frame) → length (page_at bytes frame) ≡ min 4096 (length bytes - 4096 * frame.0)
 length-page_at bytes frame = length-take 4096 (drop (4096 * frame.0) bytes) ∙ ap (min 4096) (length-drop (4096 * frame.0) bytes)
 
--- a byte of a page in memory
-pub get_or-page_at : (bytes : List ℕ) (frame : Frame) (j : ℕ) → j < 4096 → get_or (page_at bytes frame) j 0 ≡ get_or bytes (4096 * frame.0 + j) 0
-get_or-page_at bytes frame j below = get_or-take 4096 (drop (4096 * frame.0) bytes) j 0 below ∙ get_or-drop (4096 * frame.0) bytes j 0
-
 -- a byte of memory in its page
 pub page_byte : (bytes : List ℕ) (frame : Frame) (place : ℕ) → place / 4096 ≡ frame.0 → get_or (page_at bytes frame) (place % 4096) 0 ≡ get_or bytes place 0
-page_byte bytes frame place e = get_or-page_at bytes frame (place % 4096) (omega arith) ∙ ap (λ k. get_or bytes k 0) (omega arith)
+page_byte bytes frame place e = get_or-page_at bytes frame (place % 4096) 0 (omega arith) ∙ ap (λ k. get_or bytes k 0) (omega arith)
 
 module _ (bytes : List ℕ) (frame : Frame) (page : List ℕ) (whole : length page ≡ length (page_at bytes frame)) where
   page_size : length page ≡ min 4096 (length bytes - 4096 * frame.0)
@@ -61,8 +57,3 @@ module _ (bytes : List ℕ) (frame : Frame) (page : List ℕ) (whole : length pa
         get_or_past (with_page bytes frame page) place 0 (omega (arith, length-with_page))
         ∙ sym (get_or_past bytes place 0 past)
   ]
-
--- a store leaves the size of a page
-pub length-put_bytes : (count : ℕ) (bytes : List ℕ) (at value : ℕ) → length (put_bytes count bytes at value) ≡ length bytes
-length-put_bytes zero bytes at value = refl
-length-put_bytes (suc count) bytes at value = length-put_bytes count (set bytes at (value % 256)) (at + 1) (value / 256) ∙ length-set bytes at (value % 256)

@@ -1,7 +1,7 @@
 -- The receivers of a frame are those of its fit signal rows.
 use Rattle.std.proofs.Common.{◌≡◌, Bool, true, false, cond, List, [], ◌∷◌, ◌++◌, map, filter, Option, Some, None, is_some, refl, ap, sym, ◌∙◌}
 use Rattle.std.specs.Prelude.{if◌then◌else◌, ◌==◌, ◌&&◌, option_to_list}
-use Rattle.std.specs.List.{filter_map, cons_option}
+use Rattle.std.specs.List.{cons_option}
 use Rattle.std.specs.Option.{option_map}
 use Rattle.cache_ident.specs.declared.names.Frame.{Frame}
 use Rattle.cache_ident.specs.declared.names.ThreadNo.{ThreadNo}
@@ -12,7 +12,7 @@ use Rattle.flat_state.specs.State.{FlatState}
 use Rattle.flat_state.specs.Translation.{is_fit_row}
 use Rattle.flat_state.specs.Signals.{receivers_of}
 use Rattle.flat_state.specs.Dependence.{signal_rows_of}
-use Rattle.flat_laws.specs.Rows.{receiver_with_page, receivers_among}
+use Rattle.flat_laws.specs.Rows.{receivers_among}
 
 -- with one row in front
 one_more : (row : Row) (receivers : List (ThreadNo × Vpn)) (rows : List Row) (here fit : Bool) (o : Option ThreadNo) → row.receiver ≡ o → receivers ≡ receivers_among rows

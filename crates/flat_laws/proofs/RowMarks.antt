@@ -1,5 +1,5 @@
 -- Which bits a step leaves on the rows.
-use Rattle.std.proofs.Common.{◌≡◌, ℕ, ◌/◌, ◌%◌, Bool, true, false, ◌&&◌, ◌||◌, List, map, Option, Some, None, is_some, slice_get, refl, ap, ap₂, sym, ◌∙◌, subst}
+use Rattle.std.proofs.Common.{◌≡◌, ℕ, ◌/◌, ◌%◌, Bool, true, false, ◌&&◌, ◌||◌, map, Option, Some, None, is_some, slice_get, refl, ap, ap₂, sym, ◌∙◌, subst}
 use Rattle.std.specs.Prelude.{if◌then◌else◌, ◌==◌}
 use Rattle.std.specs.List.{find}
 use Rattle.std.specs.Option.{option_map}
@@ -7,7 +7,6 @@ use Rattle.std.proofs.Math.Bool.{and-false, or-false}
 use Rattle.std.proofs.lemmas.Bool.{eqb-true, false≢true}
 use Rattle.std.proofs.lemmas.Option.{same_Some}
 use Rattle.phys_groups.specs.declared.rows.Row.{Row}
-use Rattle.phys_groups.specs.Translation.{row_of}
 use Rattle.rv32_ma.specs.declared.atomics.AmoOp.{AmoOp}
 use Rattle.rv32_exec.specs.declared.statuses.Access.{Access}
 use Rattle.rv32_exec.specs.declared.statuses.Access.TheVariants.{Fetch, Read, Write}
@@ -29,12 +28,8 @@ use Rattle.flat_state.proofs.Found.{found-row_of, found-space, found-page}
 use Rattle.flat_state.proofs.Translating.{translation-pages}
 use Rattle.flat_state.proofs.WritingBack.{page-found}
 use Rattle.flat_laws.specs.Marks.{is_through, marked_by}
-use Rattle.flat_laws.proofs.Members.{find-map, map-agree}
+use Rattle.flat_laws.proofs.Members.{find-map, is_some-option_map, map-agree}
 use Rattle.flat_state.proofs.PageMarks.{IsWalked, is_at, access_of, step_walks, atomic_writes}
-
-is_some-option_map : {X Y : Type 0} (f : X → Y) (o : Option X) → is_some (option_map f o) ≡ is_some o
-is_some-option_map f None = refl
-is_some-option_map f (Some x) = refl
 
 -- what is left of a step that fits
 pub stepped_is : (s : FlatState) (n : ℕ) (t : FlatThread) (u : FlatState) → slice_get s.threads n ≡ Some t → after_step s n ≡ Some u → stepped s n t (outcome s t) ≡ u
@@ -115,9 +110,9 @@ module _ (s : FlatState) (t : FlatThread) where
             let page : Page = page_of (rights_of s t.space) s.memory row in
             let marks = (walked hit).0.marks in
             let found : find (λ p. p.number == row.vpn.0) (outcome s t).pages ≡ Some (marks.by page) =
-                ap (find (λ p. p.number == row.vpn.0)) marks.is
-                ∙ find-map (λ p. p.number == row.vpn.0) (λ p. p.number == row.vpn.0) marks.by (λ p. ap (λ (n : ℕ). n == row.vpn.0) (marks.number p)) (pages_of s t.space)
-                ∙ ap (option_map marks.by) (page-found t.space (rights_of s t.space) s.memory s.rows formed.rows.single i row row.vpn.0 at (eqb-true row.space.0 t.space.0 inside) refl) in
+            ap (find (λ p. p.number == row.vpn.0)) marks.is
+            ∙ find-map (λ p. p.number == row.vpn.0) (λ p. p.number == row.vpn.0) marks.by (λ p. ap (λ (n : ℕ). n == row.vpn.0) (marks.number p)) (pages_of s t.space)
+            ∙ ap (option_map marks.by) (page-found t.space (rights_of s t.space) s.memory s.rows formed.rows.single i row row.vpn.0 at (eqb-true row.space.0 t.space.0 inside) refl) in
             ap (λ (o : Option Page). with_marks_of o row) found ∙ ap₂ (λ (r m : Bool). record row { referenced = r; modified = m }) (marks.touched page) (marks.written page)
         of_test false outside = ap₂ (λ (r m : Bool). record row { referenced = r; modified = m }) (sym (or-false row.referenced)) (sym (ap (λ b. row.modified || b) (and-false (stores action)) ∙ or-false row.modified))
 

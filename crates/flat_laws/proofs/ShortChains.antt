@@ -1,5 +1,5 @@
 -- A thread, a row that is fetched through and a row of data, all of one space, want little.
-use Rattle.std.proofs.Common.{◌≡◌, ℕ, zero, suc, ◌/◌, ◌≤◌, Bool, true, false, not, List, [], ◌∷◌, ◌++◌, map, length, Option, Some, None, slice_get, Contains, filter, refl, ap, sym, ◌∙◌, subst, ◌⊎◌, inl, inr, arith, length-append}
+use Rattle.std.proofs.Common.{◌≡◌, ℕ, zero, suc, ◌≤◌, Bool, true, false, not, List, [], ◌∷◌, ◌++◌, map, length, Option, Some, None, slice_get, Contains, filter, refl, ap, sym, ◌∙◌, subst, ◌⊎◌, inl, inr, arith, length-append}
 use Rattle.std.specs.Prelude.{if◌then◌else◌, ◌==◌, ◌&&◌, ◌||◌, is_some, option_to_list}
 use Rattle.std.specs.List.{filter_map, flat_map}
 use Rattle.std.specs.Option.{option_map}
@@ -7,7 +7,6 @@ use Rattle.std.proofs.lemmas.Bool.{cases_Bool, and_parts, and_from, eqb-true, eq
 use Rattle.std.proofs.lemmas.List.{length-map}
 use Rattle.std.proofs.lemmas.List.Elements.{Contains-append_cases, Contains-append_left, Contains-append_right}
 use Rattle.std.proofs.lemmas.List.Sums.{length-filter}
-use Rattle.std.proofs.lemmas.Option.{same_Some}
 use Rattle.cache_ident.specs.declared.idents.Kind.TheVariants as kinds
 use Rattle.cache_ident.specs.declared.names.KernelNo.{KernelNo}
 use Rattle.cache_ident.specs.declared.names.SpaceNo.{SpaceNo}
@@ -16,25 +15,22 @@ use Rattle.cache_ident.specs.declared.names.Vpn.{Vpn}
 use Rattle.cache_ident.specs.declared.names.Name.{Name}
 use Rattle.cache_ident.specs.declared.names.Name.TheVariants.{Kernel, Space, Thread, Mapping}
 use Rattle.cache_ident.specs.Names.{kind_of}
+use Rattle.cache_ident.proofs.Numbers.{same_space}
 use Rattle.phys_groups.specs.declared.rows.Flags.{Flags}
 use Rattle.phys_groups.specs.declared.rows.Row.{Row}
-use Rattle.phys_groups.specs.Translation.{through, no_flag, no_right, allows_fetch, is_row_of, row_of, is_fit, judged, translated}
+use Rattle.phys_groups.specs.Translation.{allows_fetch, is_row_of, row_of, translated}
 use Rattle.signal_pages.specs.Signals.{is_signal_row_of}
 use Rattle.flat_state.specs.declared.records.FlatThread.{FlatThread}
 use Rattle.flat_state.specs.State.{FlatState}
 use Rattle.flat_state.specs.Translation.{is_fit_row, row_through}
 use Rattle.flat_state.specs.Declaration.{is_receiver_in, thread_is_in}
-use Rattle.flat_state.specs.Dependence.{row_name, signal_rows_of, parents_of_row, parents_of_found, parents, up}
+use Rattle.phys_groups.specs.Rows.{row_name}
+use Rattle.flat_state.specs.Dependence.{signal_rows_of, parents_of_row, parents_of_found, parents, up}
 use Rattle.flat_state.specs.WellFormed.{IsWellFormed}
-use Rattle.flat_state.proofs.Places.{get_from_Contains, Contains-from_get, fails_if_not_found}
+use Rattle.flat_state.proofs.Found.{found-contains, found-space, found-allowed}
+use Rattle.flat_state.proofs.Places.{get_from_Contains, fails_if_not_found}
 use Rattle.flat_laws.specs.Counts.{AtMost}
 use Rattle.flat_laws.proofs.Members.{Contains-here, Contains-behind, Contains-cases, contains_nothing, Contains-option, Contains-some, Contains-filter, count_by-le, found_place, Contains-map, Contains-from_map, Contains-from_flat_map, Contains-filter_map, Contains-from_filter_map, length-filter_map, Contains-option_map}
-
-pub same_space : (a b : SpaceNo) → a.0 ≡ b.0 → a ≡ b
-same_space a b e = ap (λ (n : ℕ). let x : SpaceNo = record { 0 = n } in x) e
-
-pub same_vpn : (a b : Vpn) → a.0 ≡ b.0 → a ≡ b
-same_vpn a b e = ap (λ (n : ℕ). let x : Vpn = record { 0 = n } in x) e
 
 -- a row with x has neither m nor a receiver
 plain_row : (m w x receives : Bool) → ((not m || (w && (not x && not receives))) && (not receives || not x)) ≡ true → x ≡ true → (m ≡ false) × (receives ≡ false)
@@ -66,24 +62,11 @@ pub record IsThrough (rows : List Row) (allows : Flags → Bool) (space : SpaceN
   pub allowed : allows row.flags ≡ true
 
 pub goes_through : (rights : List (Bool × Bool)) (rows : List Row) (allows : Flags → Bool) (space : SpaceNo) (va : ℕ) (row : Row) → row_through (translated rights rows allows space va) ≡ Some row → IsThrough rows allows space row
-goes_through rights rows allows space va row e = by (row_of rows space (va / 4096)) refl e
-  where
-    passed : (x : Row) (flag fit : Bool) → row_through (if not flag then no_flag else (if not fit then no_right else through x)) ≡ Some row → (x ≡ row) × (flag ≡ true)
-    passed x false fit e = absurd (cc)
-    passed x true false e = absurd (cc)
-    passed x true true e = (same_Some x row e, refl)
-
-    by : (o : Option Row) → row_of rows space (va / 4096) ≡ o → row_through (judged rights allows o) ≡ Some row → IsThrough rows allows space row
-    by None found e = absurd (cc)
-    by (Some x) found e =
-        let passes = passed x (allows x.flags) (is_fit rights x) e in
-        let place = found_place (is_row_of space (va / 4096)) rows x found in
-        let parts = and_parts (x.space.0 == space.0) (x.vpn.0 == va / 4096) place.2 in
-        subst (IsThrough rows allows space) passes.0 (record {
-          there = Contains-from_get rows place.0 x place.1;
-          in_space = same_space x.space space (eqb-true x.space.0 space.0 parts.0);
-          allowed = passes.1;
-        })
+goes_through rights rows allows space va row e = record {
+  there = found-contains rights rows allows space va row e;
+  in_space = same_space row.space space (found-space rights rows allows space va row e);
+  allowed = found-allowed rights rows allows space va row e;
+}
 
 at_most_one : {X : Type 0} (o : Option X) → length (option_to_list o) ≤ 1
 at_most_one None = omega arith

@@ -15,7 +15,7 @@ use Rattle.flat_state.specs.State.{FlatState}
 use Rattle.flat_state.specs.Translation.{rights_of, wants}
 use Rattle.flat_state.specs.Pages.{pages_of}
 use Rattle.flat_state.specs.Signals.{next_action}
-use Rattle.flat_state.specs.Dependence.{row_name}
+use Rattle.phys_groups.specs.Rows.{row_name}
 use Rattle.flat_state.specs.NextSteps.{fetch_row, data_row, data_access, row_of_access, row_of_action, chain}
 use Rattle.flat_state.specs.WellFormed.{IsWellFormed}
 use Rattle.flat_laws.proofs.Members.{Contains-cases, Contains-option, Contains-from_map}

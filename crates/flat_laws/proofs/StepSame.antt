@@ -1,5 +1,5 @@
 -- A step leaves all but memory, the bits of rows, and the contexts, statuses and queues of threads.
-use Rattle.std.proofs.Common.{◌≡◌, ◌≢◌, ℕ, zero, suc, Bool, true, false, cond, List, [], ◌∷◌, ◌++◌, map, filter, set, Option, Some, None, is_some, slice_get, refl, ap, ap₂, sym, ◌∙◌, subst, inl, inr}
+use Rattle.std.proofs.Common.{◌≡◌, ℕ, zero, suc, Bool, true, false, cond, List, [], ◌∷◌, ◌++◌, map, filter, set, Option, Some, None, is_some, slice_get, refl, ap, ap₂, sym, ◌∙◌, subst, inl, inr}
 use Rattle.std.proofs.Math.Path.{fun_ext}
 use Rattle.std.specs.Prelude.{if◌then◌else◌, ◌==◌, ◌&&◌, option_to_list, unwrap_or, nat_lt, length}
 use Rattle.std.specs.List.{find, flat_map}
@@ -29,12 +29,13 @@ use Rattle.flat_state.specs.Pages.{with_marks}
 use Rattle.flat_state.specs.Signals.{is_runnable, next_signal, receivers_for, with_address, sent_to, sent, delivered}
 use Rattle.flat_state.specs.Step.{outcome, went_on, stepped_so, step_if, step_of, after_step}
 use Rattle.flat_state.specs.Events.{applied}
-use Rattle.flat_state.specs.Dependence.{row_name, signal_rows_of, parents_of_row, parents_of_found, parents, all_parents, up, owner_of_thread, owner_of_row, owner}
+use Rattle.phys_groups.specs.Rows.{row_name}
+use Rattle.flat_state.specs.Dependence.{signal_rows_of, parents_of_row, parents_of_found, parents, all_parents, up, owner_of_thread, owner_of_row, owner}
 use Rattle.flat_state.specs.Names.{stands, class_by, class_of_row, class_of, is_fit_found, is_fit_name}
 use Rattle.flat_state.proofs.Places.{get-set_same, get-set_other}
 use Rattle.flat_state.proofs.FormedParts.{KeepsRow, addressed}
 use Rattle.flat_state.proofs.FormedEvents.{marks_keep}
-use Rattle.flat_laws.proofs.Members.{find-map}
+use Rattle.flat_laws.proofs.Members.{find-map, is_some-option_map}
 
 abbrev pub space_at : List FlatThread → ℕ → Option SpaceNo
 space_at threads n = option_map (λ (t : FlatThread). t.space) (slice_get threads n)
@@ -44,10 +45,12 @@ pub record SameSpaces (before after : List FlatThread) : Type 0 where
   pub at : (n : ℕ) → space_at after n ≡ space_at before n
 
 pub set_same : (threads : List FlatThread) (n : ℕ) (t u : FlatThread) → slice_get threads n ≡ Some t → u.space ≡ t.space → SameSpaces threads (set threads n u)
-set_same threads n t u here same = record { at = λ k. elim (cases_eq k n) [
-  | inl is ↦ subst (λ (m : ℕ). space_at (set threads n u) m ≡ space_at threads m) (sym is) (ap (option_map (λ (w : FlatThread). w.space)) (get-set_same threads n u t here) ∙ ap Some same ∙ sym (ap (option_map (λ (w : FlatThread). w.space)) here))
-  | inr other ↦ ap (option_map (λ (w : FlatThread). w.space)) (get-set_other threads n k u other)
-] }
+set_same threads n t u here same = record {
+  at = λ k. elim (cases_eq k n) [
+    | inl is ↦ subst (λ (m : ℕ). space_at (set threads n u) m ≡ space_at threads m) (sym is) (ap (option_map (λ (w : FlatThread). w.space)) (get-set_same threads n u t here) ∙ ap Some same ∙ sym (ap (option_map (λ (w : FlatThread). w.space)) here))
+    | inr other ↦ ap (option_map (λ (w : FlatThread). w.space)) (get-set_other threads n k u other)
+  ];
+}
 
 sent_to_same : (threads : List FlatThread) (thread : ThreadNo) (va : ℕ) (o : Option FlatThread) → slice_get threads thread.0 ≡ o → SameSpaces threads (sent_to threads thread va o)
 sent_to_same threads thread va None here = record { at = λ k. refl }
@@ -220,16 +223,11 @@ module _ (s u : FlatState) (same : IsSameBut s u) where
   unfolding stands
   same_stands (Kernel kernel) = ap (λ ks. is_some (slice_get ks kernel.0)) same.kernels
   same_stands (Space space) = ap (λ sp. is_some (slice_get sp space.0)) same.spaces
-  same_stands (Thread thread) = sym (shown (slice_get u.threads thread.0)) ∙ ap is_some (same.threads.at thread.0) ∙ shown (slice_get s.threads thread.0)
-    where
-      shown : (o : Option FlatThread) → is_some (option_map (λ t. t.space) o) ≡ is_some o
-      shown None = refl
-      shown (Some t) = refl
-  same_stands (Mapping space vpn) = ap is_some (found_row space vpn.0) ∙ shown (row_of s.rows space vpn.0)
-    where
-      shown : (o : Option Row) → is_some (option_map same.mark o) ≡ is_some o
-      shown None = refl
-      shown (Some row) = refl
+  same_stands (Thread thread) =
+      sym (is_some-option_map (λ (t : FlatThread). t.space) (slice_get u.threads thread.0))
+      ∙ ap is_some (same.threads.at thread.0)
+      ∙ is_some-option_map (λ (t : FlatThread). t.space) (slice_get s.threads thread.0)
+  same_stands (Mapping space vpn) = ap is_some (found_row space vpn.0) ∙ is_some-option_map same.mark (row_of s.rows space vpn.0)
 
   pub same_class : (name : Name) → class_of u name ≡ class_of s name
   unfolding class_of

@@ -1,5 +1,5 @@
 -- A step over the pages of two memories that agree wherever the rights let read: it makes the same of both.
-use Rattle.std.proofs.Common.{◌≡◌, ℕ, ◌+◌, ◌-◌, ◌*◌, ◌/◌, ◌%◌, ◌<◌, min, Bool, true, false, ◌&&◌, ◌||◌, cond, List, [], ◌∷◌, map, Option, Some, None, is_some, refl, ap, sym, ◌∙◌, subst, arith, ext_get_or}
+use Rattle.std.proofs.Common.{◌≡◌, ℕ, ◌+◌, ◌-◌, ◌*◌, ◌/◌, ◌%◌, ◌<◌, min, Bool, true, false, ◌&&◌, ◌||◌, List, [], ◌∷◌, map, Option, Some, None, is_some, refl, ap, sym, ◌∙◌, subst, arith, ext_get_or}
 use Rattle.std.specs.Prelude.{if◌then◌else◌, ◌==◌}
 use Rattle.std.specs.List.{find}
 use Rattle.std.specs.Option.{option_map}
@@ -24,7 +24,9 @@ use Rattle.rv32_exec.specs.Actions.{action_of}
 use Rattle.rv32_exec.specs.Steps.{After, missed, ended, after_jump, load_found, store_found, write_found, read_found, after_action, after_decoding, after_fetch, after_step}
 use Rattle.flat_state.specs.Pages.{page_of}
 use Rattle.flat_laws.specs.Rights.{AgreeWhereReadable}
-use Rattle.flat_laws.proofs.PageBytes.{length-page_at, get_or-page_at}
+use Rattle.phys_groups.proofs.PageBytes.{get_or-page_at}
+use Rattle.flat_laws.proofs.PageBytes.{length-page_at}
+use Rattle.flat_laws.proofs.Members.{find-map, is_some-option_map}
 use Rattle.flat_laws.proofs.Changes.{Change, Marked, Put, all_changed, AreAllowed}
 
 -- a flag of a row that is fit has the right that it asks for
@@ -63,15 +65,6 @@ row_for rights rows va access = row_allowed rights access (find (λ r. r.vpn.0 =
 abbrev pub pages : List (Bool × Bool) → List Row → List ℕ → List Page
 pages rights rows memory = map (page_of rights memory) rows
 
-find_page : (rights : List (Bool × Bool)) (memory : List ℕ) (number : ℕ) (rows : List Row) → find (λ p. p.number == number) (pages rights rows memory) ≡ option_map (page_of rights memory) (find (λ r. r.vpn.0 == number) rows)
-find_page rights memory number [] = refl
-find_page rights memory number (r ∷ rows) =
-    ap (cond (r.vpn.0 == number) (Some (page_of rights memory r))) (find_page rights memory number rows) ∙ by_test (r.vpn.0 == number) (find (λ r. r.vpn.0 == number) rows)
-  where
-    by_test : (b : Bool) (later : Option Row) → cond b (Some (page_of rights memory r)) (option_map (page_of rights memory) later) ≡ option_map (page_of rights memory) (cond b (Some r) later)
-    by_test true later = refl
-    by_test false later = refl
-
 page_allowed : (rights : List (Bool × Bool)) (memory : List ℕ) (access : Access) (found : Option Row) → where_allowed access (option_map (page_of rights memory) found) ≡ option_map (page_of rights memory) (row_allowed rights access found)
 page_allowed rights memory access None = refl
 page_allowed rights memory access (Some row) = by_access access
@@ -88,11 +81,7 @@ page_allowed rights memory access (Some row) = by_access access
 translation_is : (rights : List (Bool × Bool)) (rows : List Row) (memory : List ℕ) (va : ℕ) (access : Access) → translation (pages rights rows memory) va access ≡ option_map (page_of rights memory) (row_for rights rows va access)
 unfolding translation
 translation_is rights rows memory va access =
-    ap (where_allowed access) (find_page rights memory (va / 4096) rows) ∙ page_allowed rights memory access (find (λ r. r.vpn.0 == va / 4096) rows)
-
-is_some-option_map : {A B : Type 0} (f : A → B) (found : Option A) → is_some (option_map f found) ≡ is_some found
-is_some-option_map f None = refl
-is_some-option_map f (Some a) = refl
+    ap (where_allowed access) (find-map (λ p. p.number == va / 4096) (λ r. r.vpn.0 == va / 4096) (page_of rights memory) (λ r. refl) rows) ∙ page_allowed rights memory access (find (λ r. r.vpn.0 == va / 4096) rows)
 
 translates_is : (rights : List (Bool × Bool)) (rows : List Row) (memory : List ℕ) (va : ℕ) (access : Access) → translates (pages rights rows memory) va access ≡ is_some (row_for rights rows va access)
 unfolding translates
@@ -163,9 +152,9 @@ module _ (rights : List (Bool × Bool)) (rows : List Row) (m v : List ℕ) (agre
       (λ j below.
       let within : j < 4096 = omega (arith, length-page_at m frame) in
       let group : frame.0 / 128 ≡ (4096 * frame.0 + j) / 524288 = omega arith in
-      get_or-page_at m frame j within
+      get_or-page_at m frame j 0 within
       ∙ agree.bytes (4096 * frame.0 + j) (subst (λ g. (right_on rights g).0 ≡ true) group on)
-      ∙ sym (get_or-page_at v frame j within))
+      ∙ sym (get_or-page_at v frame j 0 within))
 
   row_agrees : (width : Width) (at : ℕ) (row : Row) (b : Bool) → (b ≡ true → (right_on rights (row.frame.0 / 128)).0 ≡ true) → option_map (λ p. number_at width p.bytes at) (option_map (page_of rights m) (if b then Some row else None)) ≡ option_map (λ p. number_at width p.bytes at) (option_map (page_of rights v) (if b then Some row else None))
   row_agrees width at row true on = ap (λ bytes. Some (number_at width bytes at)) (page_agrees row.frame (on refl))

@@ -2,7 +2,7 @@
 
 ghost use Rattle.std.specs.Prelude.{◌≡◌, ◌+◌, ◌^◌, ◌<◌, None, Some, MatchResult, nat_le};
 ghost use Rattle.flat_state.specs.State.{groups_of};
-ghost use Rattle.flat_state.specs.Declaration.{agree as agree_lem, are_capacities as are_capacities_lem, broken_rule, caps_of, has_four as has_four_lem, has_frame as has_frame_lem, has_no_flag as has_no_flag_lem, has_receiver as has_receiver_lem, is_capacity as is_capacity_lem, is_receiver_in as is_receiver_in_lem, leaves_room as leaves_room_lem, may_lock_kernels as may_lock_kernels_lem, rule_of_early as rule_of_early_lem, rule_of_kernel as rule_of_kernel_lem, rule_of_machine as rule_of_machine_lem, rule_of_map as rule_of_map_lem, rule_of_right as rule_of_right_lem, rule_of_space as rule_of_space_lem, rule_of_thread as rule_of_thread_lem, rule_of_word as rule_of_word_lem};
+ghost use Rattle.flat_state.specs.Declaration.{agree as agree_def, are_capacities as are_capacities_def, broken_rule, caps_of, has_four as has_four_def, has_frame as has_frame_def, has_no_flag as has_no_flag_def, has_receiver as has_receiver_def, is_capacity as is_capacity_def, is_receiver_in as is_receiver_in_def, leaves_room as leaves_room_def, may_lock_kernels as may_lock_kernels_def, rule_of_early as rule_of_early_def, rule_of_kernel as rule_of_kernel_def, rule_of_machine as rule_of_machine_def, rule_of_map as rule_of_map_def, rule_of_right as rule_of_right_def, rule_of_space as rule_of_space_def, rule_of_thread as rule_of_thread_def, rule_of_word as rule_of_word_def};
 ghost use Rattle.flat_machine.specs.Readings.{Gives};
 
 use crate::flat::Flat;
@@ -11,14 +11,14 @@ use flat_state::{Decl, Machine};
 use phys_groups::Flags;
 
 fn is_capacity(most: u32, cap: u32) -> bool
-    ensures { result ≡ is_capacity_lem most cap }
+    ensures { result ≡ is_capacity_def most cap }
 {
     0 < cap && cap <= most
 }
 
 // Whether each capacity is from 1 to its greatest.
 fn are_capacities(caps: Caps) -> bool
-    ensures { result ≡ are_capacities_lem caps }
+    ensures { result ≡ are_capacities_def caps }
 {
     is_capacity(16, caps.kernels)
         && is_capacity(64, caps.spaces)
@@ -35,7 +35,7 @@ fn has_room(cap: u32, granted: u32, limit: u32, step: u64) -> bool
 }
 
 fn leaves_room(caps: Caps, granted: Caps, limits: Caps) -> bool
-    ensures { result ≡ leaves_room_lem caps granted limits }
+    ensures { result ≡ leaves_room_def caps granted limits }
 {
     has_room(caps.kernels, granted.kernels, limits.kernels, 5)
         && has_room(caps.spaces, granted.spaces, limits.spaces, 5)
@@ -45,7 +45,7 @@ fn leaves_room(caps: Caps, granted: Caps, limits: Caps) -> bool
 
 // Kernel 0 may lock a kernel, since it is locked itself. No other kernel may.
 fn may_lock_kernels(no: KernelNo, limits: Caps) -> bool
-    ensures { result ≡ may_lock_kernels_lem no.0 limits }
+    ensures { result ≡ may_lock_kernels_def no.0 limits }
 {
     if no.0 == 0 {
         0 < limits.kernels
@@ -55,20 +55,20 @@ fn may_lock_kernels(no: KernelNo, limits: Caps) -> bool
 }
 
 fn has_no_flag(flags: Flags) -> bool
-    ensures { result ≡ has_no_flag_lem flags }
+    ensures { result ≡ has_no_flag_def flags }
 {
     !(flags.r || flags.w || flags.x || flags.m)
 }
 
 // Whether the message flag stands with w and with neither x nor a receiver, and a receiver without x.
 fn agree(flags: Flags, signals: bool) -> bool
-    ensures { result ≡ agree_lem flags signals }
+    ensures { result ≡ agree_def flags signals }
 {
     (!flags.m || (flags.w && !flags.x && !signals)) && (!signals || !flags.x)
 }
 
 fn rule_of_machine(machine: Machine) -> Result<(), u32>
-    ensures { Gives result (rule_of_machine_lem machine) }
+    ensures { Gives result (rule_of_machine_def machine) }
 {
     if machine.groups == 0 || 16 < machine.groups {
         return Err(6);
@@ -81,7 +81,7 @@ fn rule_of_machine(machine: Machine) -> Result<(), u32>
 
 // The rule that any other declaration breaks before the machine's own.
 fn rule_of_early(decl: Decl) -> u32
-    ensures { result ≡ rule_of_early_lem decl }
+    ensures { result ≡ rule_of_early_def decl }
 {
     match decl {
         Decl::Map { flags, .. } if has_no_flag(flags) => 4,
@@ -161,14 +161,14 @@ impl Flat {
     }
 
     fn has_frame(&self, frame: Frame) -> bool
-        ensures { result ≡ has_frame_lem self.now frame }
+        ensures { result ≡ has_frame_def self.now frame }
     {
         u64::from(frame.0) < 128 * u64::from(self.groups())
     }
 
     fn rule_of_kernel(&self, caps: Caps, no: KernelNo, limits: Caps) -> Result<(), u32>
         requires { caps ≡ caps_of self.now.machine }
-        ensures { Gives result (rule_of_kernel_lem self.now no.0 limits) }
+        ensures { Gives result (rule_of_kernel_def self.now no.0 limits) }
     {
         if no.0 as usize != self.kernels.len() {
             return Err(8);
@@ -186,7 +186,7 @@ impl Flat {
     }
 
     fn rule_of_right(&self, kernel: KernelNo, group: u32) -> Result<(), u32>
-        ensures { Gives result (rule_of_right_lem self.now kernel group) }
+        ensures { Gives result (rule_of_right_def self.now kernel group) }
     {
         if self.kernels.len() <= kernel.0 as usize {
             return Err(12);
@@ -198,7 +198,7 @@ impl Flat {
     }
 
     fn rule_of_space(&self, no: SpaceNo, kernel: KernelNo) -> Result<(), u32>
-        ensures { Gives result (rule_of_space_lem self.now no.0 kernel) }
+        ensures { Gives result (rule_of_space_def self.now no.0 kernel) }
     {
         if no.0 as usize != self.spaces.len() {
             return Err(8);
@@ -219,7 +219,7 @@ impl Flat {
         pc: u32,
         priority: u32,
     ) -> Result<(), u32>
-        ensures { Gives result (rule_of_thread_lem self.now no.0 space pc priority) }
+        ensures { Gives result (rule_of_thread_def self.now no.0 space pc priority) }
     {
         if no.0 as usize != self.threads.len() {
             return Err(8);
@@ -237,7 +237,7 @@ impl Flat {
     }
 
     fn has_receiver(&self, receiver: Option<ThreadNo>) -> bool
-        ensures { result ≡ has_receiver_lem self.now.threads receiver }
+        ensures { result ≡ has_receiver_def self.now.threads receiver }
     {
         match receiver {
             Some(thread) => (thread.0 as usize) < self.threads.len(),
@@ -247,7 +247,7 @@ impl Flat {
 
     // Whether the receiver, if there is one, is a thread of the space.
     fn is_receiver_in(&self, space: SpaceNo, receiver: Option<ThreadNo>) -> bool
-        ensures { result ≡ is_receiver_in_lem space self.now.threads receiver }
+        ensures { result ≡ is_receiver_in_def space self.now.threads receiver }
     {
         match receiver {
             Some(thread) => match self.threads.get(thread.0 as usize) {
@@ -260,7 +260,7 @@ impl Flat {
 
     // Whether the frame has as many signal rows as it may have.
     fn has_four(&self, frame: Frame) -> bool
-        ensures { result ≡ has_four_lem self.now.rows frame }
+        ensures { result ≡ has_four_def self.now.rows frame }
     {
         self.rows.signal_rows(frame).is_full()
     }
@@ -273,7 +273,7 @@ impl Flat {
         flags: Flags,
         receiver: Option<ThreadNo>,
     ) -> Result<(), u32>
-        ensures { Gives result (rule_of_map_lem self.now space vpn frame flags receiver) }
+        ensures { Gives result (rule_of_map_def self.now space vpn frame flags receiver) }
     {
         if has_no_flag(flags) {
             return Err(4);
@@ -303,7 +303,7 @@ impl Flat {
     }
 
     fn rule_of_word(&self, frame: Frame, offset: u32) -> Result<(), u32>
-        ensures { Gives result (rule_of_word_lem self.now frame offset) }
+        ensures { Gives result (rule_of_word_def self.now frame offset) }
     {
         if !self.has_frame(frame) {
             return Err(13);

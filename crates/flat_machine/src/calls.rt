@@ -2,7 +2,7 @@
 
 ghost use Rattle.std.specs.Prelude.{◌≡◌, ◌<◌, true, IfOk, IfErr, OnOk, OnErr, length, unwrap_or};
 ghost use Rattle.flat_state.specs.State.{with_thread};
-ghost use Rattle.flat_state.specs.Call.{after_completion, answered, granted, granting, is_completable as is_completable_lem, made as made_lem, mapped, mapping, spawned, spawning, unmapped};
+ghost use Rattle.flat_state.specs.Call.{after_completion, answered, granted, granting, is_completable as is_completable_def, made as made_def, mapped, mapping, spawned, spawning, unmapped};
 ghost use Rattle.flat_thread.specs.Calls.{call_of, own_part};
 ghost use Rattle.flat_machine.specs.Calls.{IsRule, OfThread};
 ghost use Rattle.flat_machine.specs.Readings.{Gives, rule_if_formed};
@@ -52,7 +52,7 @@ impl Flat {
     // Carries the call of a thread out as far as that goes without the rest of the machine.
     fn carry_out_at(&mut self, at: usize) -> Result<Effect, NoMemory>
         requires there { at < length self.old.threads }
-        requires completable { OfThread self.old at (λ t. is_completable_lem t ≡ true) }
+        requires completable { OfThread self.old at (λ t. is_completable_def t ≡ true) }
         ensures effect { IfOk result (λ effect. OfThread self.old at (λ t. effect ≡ (call_of t).effect)) }
         ensures ok { OnOk result (OfThread self.old at (λ t. self.new ≡ with_thread self.old at (own_part t))) }
         ensures err { OnErr result (self.new ≡ self.old) }
@@ -82,7 +82,7 @@ impl Flat {
     // Makes a declaration for a call. Where it breaks a rule nothing but the answer comes of it.
     fn make(&mut self, at: usize, decl: Decl, formed: bool, made: u32) -> Result<(), NoMemory>
         requires { at < length self.old.threads }
-        ensures ok { OnOk result (OfThread self.old at (λ t. self.new ≡ made_lem self.old at t decl made (rule_if_formed self.old decl formed))) }
+        ensures ok { OnOk result (OfThread self.old at (λ t. self.new ≡ made_def self.old at t decl made (rule_if_formed self.old decl formed))) }
         ensures err { OnErr result (self.new ≡ self.old) }
     {
         match self.admit_if(formed, &decl) {

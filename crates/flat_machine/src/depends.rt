@@ -1,8 +1,8 @@
 //! What a descriptor depends on.
 
 ghost use Rattle.std.specs.Prelude.{◌≡◌, ◌<◌, ◌≤◌, filter, length, option_to_list, All};
-ghost use Rattle.flat_state.specs.Dependence.{parents as parents_lem, parents_of_row as parents_of_row_lem, signal_rows_of as signal_rows_of_lem};
-ghost use Rattle.flat_state.specs.Translation.{is_fit_row as is_fit_row_lem};
+ghost use Rattle.flat_state.specs.Dependence.{parents as parents_def, parents_of_row as parents_of_row_def, signal_rows_of as signal_rows_of_def};
+ghost use Rattle.flat_state.specs.Translation.{is_fit_row as is_fit_row_def};
 
 use crate::flat::Flat;
 use crate::look::row_name;
@@ -28,7 +28,7 @@ impl Flat {
     /// costs the logarithm of the rows.
     #[tactic(auto, unfolding(flat_state::specs::Dependence::parents))]
     pub fn parents(&self, child: Name) -> ArrayVec<Name, 6>
-        ensures { result.items ≡ parents_lem self.now child }
+        ensures { result.items ≡ parents_def self.now child }
     {
         match child {
             Name::Kernel(_) => ArrayVec::new(),
@@ -45,7 +45,7 @@ impl Flat {
 
     // What a row depends on.
     fn parents_of_row(&self, row: &Row) -> ArrayVec<Name, 6>
-        ensures { result.items ≡ parents_of_row_lem self.now row.now }
+        ensures { result.items ≡ parents_of_row_def self.now row.now }
     {
         let mut parents = ArrayVec::new();
         parents.push(Name::Space(row.space));
@@ -61,7 +61,7 @@ impl Flat {
 
     // The fit signal rows of a message row's frame; none for any other row.
     fn signal_rows_of(&self, row: &Row) -> ArrayVec<Row, 4>
-        ensures { result.items ≡ signal_rows_of_lem self.now row.now }
+        ensures { result.items ≡ signal_rows_of_def self.now row.now }
     {
         if row.flags.m {
             self.fit_among(&self.rows.signal_rows(row.frame))
@@ -74,7 +74,7 @@ impl Flat {
     fn fit_among(&self, rows: &[Row]) -> ArrayVec<Row, 4>
         requires few { length rows.now ≤ 4 }
         requires known { All (λ row. (row.space.0 < length self.now.spaces) × (row.frame.0 < 2048)) rows.now }
-        ensures { result.items ≡ filter (is_fit_row_lem self.now) rows.now }
+        ensures { result.items ≡ filter (is_fit_row_def self.now) rows.now }
     {
         let mut fit = ArrayVec::new();
         for row in rows {

@@ -4,7 +4,7 @@ ghost use Rattle.std.specs.Prelude.{◌≡◌, ◌<◌, ◌^◌, length, slice_g
 ghost use Rattle.std.specs.Option.{option_copied, option_map};
 ghost use Rattle.phys_groups.specs.Translation.{row_of};
 ghost use Rattle.flat_state.specs.State.{nothing_declared};
-ghost use Rattle.flat_state.specs.Translation.{is_fit_row as is_fit_row_lem, rights_of as rights_of_lem};
+ghost use Rattle.flat_state.specs.Translation.{is_fit_row as is_fit_row_def, rights_of as rights_of_def};
 ghost use Rattle.flat_state.specs.Settling.{settled_of};
 ghost use Rattle.flat_machine.specs.Readings.{is_fit_page};
 
@@ -157,7 +157,7 @@ impl Flat {
     // The rights of the kernel that owns a space.
     pub(crate) fn rights_of(&self, space: SpaceNo) -> Rights
         requires { space.0 < length self.now.spaces }
-        ensures { result ≡ rights_of_lem self.now space }
+        ensures { result ≡ rights_of_def self.now space }
     {
         let kernel = self.spaces[space.0 as usize];
         self.kernels[kernel.0 as usize].rights
@@ -167,7 +167,7 @@ impl Flat {
     pub(crate) fn is_fit_row(&self, row: &Row) -> bool
         requires space { row.now.space.0 < length self.now.spaces }
         requires frame { row.now.frame.0 < 2048 }
-        ensures { result ≡ is_fit_row_lem self.now row.now }
+        ensures { result ≡ is_fit_row_def self.now row.now }
     {
         self.rights_of(row.space).covers(row.frame, row.flags)
     }

@@ -2,16 +2,16 @@
 
 ghost use Rattle.std.specs.Prelude.{◌≡◌, ◌%◌, IfSome, true, not};
 ghost use Rattle.std.specs.Option.{option_map};
-ghost use Rattle.phys_groups.specs.Memory.{word_at as word_at_lem};
+ghost use Rattle.phys_groups.specs.Memory.{word_at as word_at_def};
 ghost use Rattle.phys_groups.specs.Translation.{place_in};
 ghost use Rattle.rv32_exec.specs.declared.statuses.Access.TheVariants.{Write};
 ghost use Rattle.rv32_exec.specs.Pages.{fetched, translates};
 ghost use Rattle.flat_state.specs.State.{is_ready};
-ghost use Rattle.flat_state.specs.Translation.{reached as reached_lem};
+ghost use Rattle.flat_state.specs.Translation.{reached as reached_def};
 ghost use Rattle.flat_state.specs.Pages.{pages_of};
-ghost use Rattle.flat_state.specs.Signals.{next_action as next_action_lem, next_signal as next_signal_lem, signal_of as signal_of_lem, signal_through as signal_through_lem};
-ghost use Rattle.flat_state.specs.Dependence.{row_name as row_name_lem};
-ghost use Rattle.flat_state.specs.NextSteps.{fetch_row as fetch_row_lem, faults as faults_lem, next_step as next_step_lem, next_step_of as next_step_of_lem, row_of_action as row_of_action_lem};
+ghost use Rattle.flat_state.specs.Signals.{next_action as next_action_def, next_signal as next_signal_def, signal_of as signal_of_def, signal_through as signal_through_def};
+ghost use Rattle.phys_groups.specs.Rows.{row_name as row_name_def};
+ghost use Rattle.flat_state.specs.NextSteps.{fetch_row as fetch_row_def, faults as faults_def, next_step as next_step_def, next_step_of as next_step_of_def, row_of_action as row_of_action_def};
 ghost use Rattle.flat_mmu.specs.Seen.{IsInMemory};
 ghost use Rattle.flat_mmu.specs.Translation.{Reaches};
 ghost use Rattle.flat_machine.specs.Looking.{does_any_miss, does_miss};
@@ -28,14 +28,14 @@ use signal_pages::signals;
 
 /// The name of a row.
 pub(crate) fn row_name(row: Row) -> Name
-    ensures { result ≡ row_name_lem row }
+    ensures { result ≡ row_name_def row }
 {
     Name::Mapping(row.space, row.vpn)
 }
 
 // The name of a row, if there is one.
 fn name_of(row: Option<Row>) -> Option<Name>
-    ensures { result ≡ option_map row_name_lem row }
+    ensures { result ≡ option_map row_name_def row }
 {
     row.map(row_name)
 }
@@ -45,7 +45,7 @@ impl Flat {
     /// the rows.
     #[tactic(auto, unfolding(flat_state::specs::NextSteps::next_step))]
     pub fn next_step(&self, no: ThreadNo) -> Option<NextStep>
-        ensures { result ≡ next_step_lem self.now no.0 }
+        ensures { result ≡ next_step_def self.now no.0 }
     {
         let at = no.0 as usize;
         if self.threads.len() <= at {
@@ -56,7 +56,7 @@ impl Flat {
 
     fn next_step_of(&self, thread: &FlatThread) -> NextStep
         requires { IsThreadOf self.now thread.now }
-        ensures { result ≡ next_step_of_lem self.now thread.now }
+        ensures { result ≡ next_step_of_def self.now thread.now }
     {
         match thread.status {
             Status::Ready => self.next_step_of_ready(thread),
@@ -73,7 +73,7 @@ impl Flat {
     fn next_step_of_ready(&self, thread: &FlatThread) -> NextStep
         requires thread { IsThreadOf self.now thread.now }
         requires ready { is_ready thread.now.status ≡ true }
-        ensures { result ≡ next_step_of_lem self.now thread.now }
+        ensures { result ≡ next_step_of_def self.now thread.now }
     {
         let fetch_row = self.fetch_row(thread);
         let word = self.word_through(thread, fetch_row);
@@ -94,7 +94,7 @@ impl Flat {
         va: u32,
     ) -> Result<Row, FaultKind>
         requires { IsThreadOf self.now thread.now }
-        ensures { Reaches result (reached_lem self.now access thread.now.space va) }
+        ensures { Reaches result (reached_def self.now access thread.now.space va) }
     {
         reach(
             &self.rights_of(thread.space),
@@ -107,7 +107,7 @@ impl Flat {
 
     fn fetch_row(&self, thread: &FlatThread) -> Option<Row>
         requires { IsThreadOf self.now thread.now }
-        ensures row { result ≡ fetch_row_lem self.now thread.now }
+        ensures row { result ≡ fetch_row_def self.now thread.now }
         ensures in_memory { IfSome result (λ row. IsInMemory self.now.memory row.frame) }
     {
         // The row is one of the machine's, so its frame is in memory.
@@ -118,7 +118,7 @@ impl Flat {
     // The row that the first access to data of the action goes through, if there is an action.
     fn row_of_action(&self, thread: &FlatThread, action: Option<Action>) -> Option<Row>
         requires { IsThreadOf self.now thread.now }
-        ensures { result ≡ row_of_action_lem self.now thread.now action }
+        ensures { result ≡ row_of_action_def self.now thread.now action }
     {
         let access = data_access(action?)?;
         self.reached(thread, access.access, access.va).ok()
@@ -127,7 +127,7 @@ impl Flat {
     // The word at the thread's pc, where its fetch goes through that row.
     fn word_through(&self, thread: &FlatThread, row: Option<Row>) -> Option<u32>
         requires thread { IsThreadOf self.now thread.now }
-        requires row { row ≡ fetch_row_lem self.now thread.now }
+        requires row { row ≡ fetch_row_def self.now thread.now }
         requires in_memory { IfSome row (λ row. IsInMemory self.now.memory row.frame) }
         ensures { result ≡ fetched (pages_of self.now thread.now.space) thread.now.context.pc }
     {
@@ -141,7 +141,7 @@ impl Flat {
     fn word_at(&self, row: &Row, va: u32) -> u32
         requires in_memory { IsInMemory self.now.memory row.now.frame }
         requires aligned { va % 4 ≡ 0 }
-        ensures { result ≡ word_at_lem self.now.memory (place_in row.now.frame va) }
+        ensures { result ≡ word_at_def self.now.memory (place_in row.now.frame va) }
     {
         self.memory.word(row.frame.0 * 4_096 + va % 4_096)
     }
@@ -150,7 +150,7 @@ impl Flat {
     // instruction.
     fn next_action(&self, thread: &FlatThread) -> Option<Action>
         requires { IsThreadOf self.now thread.now }
-        ensures { result ≡ next_action_lem thread.now.context (pages_of self.now thread.now.space) }
+        ensures { result ≡ next_action_def thread.now.context (pages_of self.now thread.now.space) }
     {
         let fetch_row = self.fetch_row(thread);
         self.action_of(thread, self.word_through(thread, fetch_row))
@@ -161,7 +161,7 @@ impl Flat {
     fn action_of(&self, thread: &FlatThread, word: Option<u32>) -> Option<Action>
         requires thread { IsThreadOf self.now thread.now }
         requires word { word ≡ fetched (pages_of self.now thread.now.space) thread.now.context.pc }
-        ensures { result ≡ next_action_lem thread.now.context (pages_of self.now thread.now.space) }
+        ensures { result ≡ next_action_def thread.now.context (pages_of self.now thread.now.space) }
     {
         match word {
             Some(word) => action_for_word(&thread.context, word),
@@ -173,8 +173,8 @@ impl Flat {
     fn faults(&self, thread: &FlatThread, word: Option<u32>, action: Option<Action>) -> bool
         requires thread { IsThreadOf self.now thread.now }
         requires word { word ≡ fetched (pages_of self.now thread.now.space) thread.now.context.pc }
-        requires action { action ≡ next_action_lem thread.now.context (pages_of self.now thread.now.space) }
-        ensures { result ≡ faults_lem self.now thread.now }
+        requires action { action ≡ next_action_def thread.now.context (pages_of self.now thread.now.space) }
+        ensures { result ≡ faults_def self.now thread.now }
     {
         match word {
             Some(_) => self.misses_any(thread, action),
@@ -231,7 +231,7 @@ impl Flat {
     #[tactic(auto, unfolding(flat_state::specs::Signals::next_signal))]
     pub(crate) fn next_signal(&self, thread: &FlatThread) -> Option<Signal>
         requires { IsThreadOf self.now thread.now }
-        ensures { result ≡ next_signal_lem self.now thread.now }
+        ensures { result ≡ next_signal_def self.now thread.now }
     {
         self.signal_of(thread, self.next_action(thread))
     }
@@ -239,7 +239,7 @@ impl Flat {
     // The signal that an action of the thread sends, if there is an action.
     fn signal_of(&self, thread: &FlatThread, action: Option<Action>) -> Option<Signal>
         requires { IsThreadOf self.now thread.now }
-        ensures { result ≡ signal_of_lem self.now thread.now action }
+        ensures { result ≡ signal_of_def self.now thread.now action }
     {
         match action {
             Some(action) => match stored_word(action) {
@@ -253,7 +253,7 @@ impl Flat {
     // The signal of a word that is stored at an address.
     fn signal_through(&self, thread: &FlatThread, va: u32) -> Option<Signal>
         requires { IsThreadOf self.now thread.now }
-        ensures { result ≡ signal_through_lem va (reached_lem self.now Write thread.now.space va) }
+        ensures { result ≡ signal_through_def va (reached_def self.now Write thread.now.space va) }
     {
         let offset = va % 4_096;
         match self.reached(thread, Access::Write, va) {

@@ -4,7 +4,7 @@ ghost use Rattle.std.specs.Prelude.{◌≡◌, ◌%◌, ◌<◌, true, IfSome, u
 ghost use Rattle.signal_pages.specs.Signals.{is_signalling};
 ghost use Rattle.rv32_exec.specs.Steps.{OnMiss};
 ghost use Rattle.flat_state.specs.State.{with_thread};
-ghost use Rattle.flat_state.specs.Translation.{fault_kind as fault_kind_lem, reached as reached_lem};
+ghost use Rattle.flat_state.specs.Translation.{fault_kind as fault_kind_def, reached as reached_def};
 ghost use Rattle.flat_state.specs.Signals.{HasRoom, is_runnable};
 ghost use Rattle.flat_state.specs.Step.{after_step, outcome, step_if};
 ghost use Rattle.flat_state.specs.NextSteps.{is_miss};
@@ -105,7 +105,7 @@ impl Flat {
     // Why an access of the thread doesn't translate.
     fn fault_kind(&self, at: usize, access: Access, va: u32) -> FaultKind
         requires { at < length self.now.threads }
-        ensures { OfThread self.now at (λ t. result ≡ fault_kind_lem (reached_lem self.now access t.space va)) }
+        ensures { OfThread self.now at (λ t. result ≡ fault_kind_def (reached_def self.now access t.space va)) }
     {
         match self.reached(self.thread_at(at), access, va) {
             Err(kind) => kind,

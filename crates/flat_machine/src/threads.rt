@@ -1,9 +1,9 @@
 //! What is asked of threads one by one.
 
 ghost use Rattle.std.specs.Prelude.{◌≡◌, ◌<◌, Some, length, slice_get};
-ghost use Rattle.flat_state.specs.Signals.{queued as queued_lem, has_ended as has_ended_lem};
+ghost use Rattle.flat_state.specs.Signals.{queued as queued_def, has_ended as has_ended_def};
 ghost use Rattle.flat_machine.specs.Readings.{IsThreadOf};
-ghost use Rattle.flat_machine.specs.Settling.{settled_by as settled_by_lem};
+ghost use Rattle.flat_machine.specs.Settling.{settled_by as settled_by_def};
 
 use crate::flat::Flat;
 use cache_ident::ThreadNo;
@@ -12,7 +12,7 @@ use rv32_exec::Status;
 
 /// How many addresses a thread's queue holds.
 pub(crate) fn queued(threads: &[FlatThread], thread: ThreadNo) -> u32
-    ensures { result ≡ queued_lem threads.now thread }
+    ensures { result ≡ queued_def threads.now thread }
 {
     match threads.get(thread.0 as usize) {
         Some(thread) => thread.queue.len() as u32,
@@ -22,7 +22,7 @@ pub(crate) fn queued(threads: &[FlatThread], thread: ThreadNo) -> u32
 
 /// Whether a thread has ended.
 pub(crate) fn has_ended(threads: &[FlatThread], thread: ThreadNo) -> bool
-    ensures { result ≡ has_ended_lem threads.now thread }
+    ensures { result ≡ has_ended_def threads.now thread }
 {
     match threads.get(thread.0 as usize) {
         Some(thread) => thread.is_ended(),
@@ -35,7 +35,7 @@ impl Flat {
     /// where the thread is ready.
     pub(crate) fn settled_by(&self, thread: &FlatThread, spent: bool) -> Settled
         requires { IsThreadOf self.now thread.now }
-        ensures { result ≡ settled_by_lem self.now thread.now spent }
+        ensures { result ≡ settled_by_def self.now thread.now spent }
     {
         match thread.status {
             Status::Ended(_) => Settled::Done,

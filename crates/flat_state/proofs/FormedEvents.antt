@@ -11,7 +11,7 @@ use Rattle.cache_ident.specs.declared.names.Vpn.{Vpn}
 use Rattle.phys_groups.specs.declared.rows.Row.{Row}
 use Rattle.phys_groups.specs.Memory.{with_page}
 use Rattle.phys_groups.specs.Translation.{row_of, without}
-use Rattle.phys_groups.proofs.Pages.{length-page_at}
+use Rattle.phys_groups.proofs.Pages.{length-page_at, length-with_page}
 use Rattle.signal_pages.specs.Signals.{times_in, receiver_of, receivers_in, would_pass, room_in}
 use Rattle.rv32_exec.specs.declared.contexts.Context.{Context}
 use Rattle.rv32_exec.specs.declared.statuses.Access.{Access}
@@ -53,15 +53,6 @@ pages_are s space formed = record {
       let within : 4096 * old.0.frame.0 + 4096 ≤ length s.memory = omega (arith, frame, size) in
       subst (IsPageOf (length s.memory)) old.2 (record { frame = within; whole = length-page_at s.memory old.0.frame within });
 }
-
--- a page written over a frame in memory keeps its length
-length-with_page : (bytes : List ℕ) (frame : Frame) (page : List ℕ) → 4096 * frame.0 + 4096 ≤ length bytes → length page ≡ 4096 → length (with_page bytes frame page) ≡ length bytes
-length-with_page bytes frame page within whole =
-    let before : length (take (4096 * frame.0) bytes) ≡ 4096 * frame.0 = length-take-le (4096 * frame.0) bytes (omega arith) in
-    let behind = length-drop (4096 * frame.0 + 4096) bytes in
-    let front = length-append (take (4096 * frame.0) bytes) page in
-    let all = length-append (take (4096 * frame.0) bytes ++ page) (drop (4096 * frame.0 + 4096) bytes) in
-    all ∙ omega (arith, before, behind, front, whole)
 
 length-with_pages : (memory : List ℕ) (ps : List Page) (size : ℕ) → length memory ≡ size → ArePagesOf size ps → length (with_pages memory ps) ≡ size
 length-with_pages memory [] size same are = same

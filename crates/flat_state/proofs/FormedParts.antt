@@ -11,9 +11,11 @@ use Rattle.cache_ident.specs.declared.names.KernelNo.{KernelNo}
 use Rattle.cache_ident.specs.declared.names.SpaceNo.{SpaceNo}
 use Rattle.cache_ident.specs.declared.names.ThreadNo.{ThreadNo}
 use Rattle.cache_ident.specs.declared.names.Vpn.{Vpn}
+use Rattle.cache_ident.proofs.Numbers.{same_frame, same_thread as same_thread_no}
 use Rattle.phys_groups.specs.Memory.{written, word_bytes}
 use Rattle.phys_groups.specs.declared.rows.Flags.{Flags}
 use Rattle.phys_groups.specs.declared.rows.Row.{Row}
+use Rattle.phys_groups.specs.Rows.{HasOneRowAPage}
 use Rattle.phys_groups.specs.Translation.{is_row_of, row_of, without}
 use Rattle.signal_pages.specs.Signals.{is_signal_row_of, times_in, address_of}
 use Rattle.flat_state.specs.declared.events.Decl.{Decl}
@@ -185,15 +187,11 @@ module _ (f : Row → Row) (keeps : KeepsRow f) where
     rows = rows_map s.machine s.spaces s.threads s.rows formed.rows;
   }
 
--- no page has two rows, by places
-abbrev AreSingle : List Row → Type 0
-AreSingle rows = (i j : ℕ) (a b : Row) → slice_get rows i ≡ Some a → slice_get rows j ≡ Some b → is_row_of a.space a.vpn.0 b ≡ true → i ≡ j
-
-single_tail : (row : Row) (rows : List Row) → AreSingle (row ∷ rows) → AreSingle rows
+single_tail : (row : Row) (rows : List Row) → HasOneRowAPage (row ∷ rows) → HasOneRowAPage rows
 single_tail row rows single i j a b at_i at_j same = let e : suc i ≡ suc j = single (suc i) (suc j) a b at_i at_j same in omega arith
 
 -- a row in front of rows of other pages
-single_cons : (row : Row) (rows : List Row) → AreSingle rows → ((k : ℕ) (b : Row) → slice_get rows k ≡ Some b → is_row_of row.space row.vpn.0 b ≡ true → ⊥) → ((k : ℕ) (b : Row) → slice_get rows k ≡ Some b → is_row_of b.space b.vpn.0 row ≡ true → ⊥) → AreSingle (row ∷ rows)
+single_cons : (row : Row) (rows : List Row) → HasOneRowAPage rows → ((k : ℕ) (b : Row) → slice_get rows k ≡ Some b → is_row_of row.space row.vpn.0 b ≡ true → ⊥) → ((k : ℕ) (b : Row) → slice_get rows k ≡ Some b → is_row_of b.space b.vpn.0 row ≡ true → ⊥) → HasOneRowAPage (row ∷ rows)
 single_cons row rows single before behind zero zero a b at_i at_j same = refl
 single_cons row rows single before behind zero (suc j) a b at_i at_j same = absurd (before j b at_j (rw (some_row row a at_i) same))
   where
@@ -205,7 +203,7 @@ single_cons row rows single before behind (suc i) zero a b at_i at_j same = absu
     some_row x y e = cc
 single_cons row rows single before behind (suc i) (suc j) a b at_i at_j same = ap suc (single i j a b at_i at_j same)
 
-single_in_front : (p : Row → Bool) (row : Row) (rows : List Row) → AreSingle (row ∷ rows) → AreSingle (filter p rows) → (b : Bool) → AreSingle (cond b (row ∷ filter p rows) (filter p rows))
+single_in_front : (p : Row → Bool) (row : Row) (rows : List Row) → HasOneRowAPage (row ∷ rows) → HasOneRowAPage (filter p rows) → (b : Bool) → HasOneRowAPage (cond b (row ∷ filter p rows) (filter p rows))
 single_in_front p row rows all single true =
     single_cons row (filter p rows) single
     (λ k b there same. let old = get_from_filter p rows k b there in let e : zero ≡ suc old.0 = all zero (suc old.0) row b refl old.1 same in absurd (omega arith))
@@ -213,7 +211,7 @@ single_in_front p row rows all single true =
 single_in_front p row rows all single false = single
 
 -- fewer rows are single too
-single_filter : (p : Row → Bool) (rows : List Row) → AreSingle rows → AreSingle (filter p rows)
+single_filter : (p : Row → Bool) (rows : List Row) → HasOneRowAPage rows → HasOneRowAPage (filter p rows)
 single_filter p [] single = single
 single_filter p (row ∷ rows) single = single_in_front p row rows single (single_filter p rows (single_tail row rows single)) (p row)
 
@@ -242,9 +240,6 @@ without_formed s space vpn formed = record {
 pub record IsRoomFor (threads : List FlatThread) (to : List ThreadNo) : Type 0 where
   pub room : (thread : ThreadNo) → 0 < times_in to thread → has_ended threads thread ≡ false → queued threads thread + times_in to thread ≤ 64
 
-same_number : (a b : ThreadNo) → a.0 ≡ b.0 → a ≡ b
-same_number a b e = ap (λ (n : ℕ). let t : ThreadNo = record { 0 = n } in t) e
-
 times_in-cons : (a : ThreadNo) (to : List ThreadNo) (b : ThreadNo) → times_in (a ∷ to) b ≡ cond (a.0 == b.0) 1 0 + times_in to b
 times_in-cons a to b = count_by-cons (λ (other : ThreadNo). other.0 == b.0) a to
 
@@ -258,7 +253,7 @@ pub room_from : (threads : List FlatThread) (receivers : List (ThreadNo × Vpn))
 room_from threads [] has = record { room = λ thread some not_ended. absurd (omega arith) }
 room_from threads ((first, vpn) ∷ rest) has = record {
   room = λ thread some not_ended. elim (cases_eq first.0 thread.0) [
-    | inl same ↦ subst (λ (t : ThreadNo). has_ended threads t ≡ false → queued threads t + times_in (first ∷ map (λ r. r.0) rest) t ≤ 64) (same_number first thread same) has.2 not_ended
+    | inl same ↦ subst (λ (t : ThreadNo). has_ended threads t ≡ false → queued threads t + times_in (first ∷ map (λ r. r.0) rest) t ≤ 64) (same_thread_no first thread same) has.2 not_ended
     | inr other ↦
         let less = times_in-other first (map (λ r. r.0) rest) thread other in
         omega (arith, less, (room_from threads rest has.3).room thread (omega (arith, less)) not_ended)
@@ -588,9 +583,6 @@ other_page : (a b : Row) → is_row_of a.space a.vpn.0 b ≡ true → is_row_of 
 other_page a b same =
     let parts = and_parts (b.space.0 == a.space.0) (b.vpn.0 == a.vpn.0) same in
     and_from _ _ (eq-eqb a.space.0 b.space.0 (sym (eqb-true b.space.0 a.space.0 parts.0))) (eq-eqb a.vpn.0 b.vpn.0 (sym (eqb-true b.vpn.0 a.vpn.0 parts.1)))
-
-same_frame : (a b : Frame) → a.0 ≡ b.0 → a ≡ b
-same_frame a b e = ap (λ (n : ℕ). let f : Frame = record { 0 = n } in f) e
 
 -- what the rules of a row say
 record IsRowFor (s : FlatState) (row : Row) : Type 0 where

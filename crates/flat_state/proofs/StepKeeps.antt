@@ -16,6 +16,7 @@ use Rattle.rv32_exec.specs.Pages.{Page, size_of, translates, translation, fetche
 use Rattle.rv32_exec.specs.Actions.{action_of}
 use Rattle.rv32_exec.specs.Steps.{After, after_jump, load_found, store_found, write_found, read_found, after_action, after_decoding, after_fetch, after_step}
 use Rattle.flat_state.proofs.Places.{get_from_map}
+use Rattle.flat_state.proofs.Storing.{length-put_bytes}
 
 -- a page of a memory of that size, with all its bytes
 pub record IsPageOf (size : ℕ) (p : Page) : Type 0 where
@@ -24,10 +25,6 @@ pub record IsPageOf (size : ℕ) (p : Page) : Type 0 where
 
 pub record ArePagesOf (size : ℕ) (ps : List Page) : Type 0 where
   pub each : (k : ℕ) (p : Page) → slice_get ps k ≡ Some p → IsPageOf size p
-
-length-put_bytes : (count : ℕ) (bytes : List ℕ) (at value : ℕ) → length (put_bytes count bytes at value) ≡ length bytes
-length-put_bytes zero bytes at value = refl
-length-put_bytes (suc count) bytes at value = length-put_bytes count (set bytes at (value % 256)) (at + 1) (value / 256) ∙ length-set bytes at (value % 256)
 
 pages_map : (size : ℕ) (f : Page → Page) (ps : List Page) → ((p : Page) → IsPageOf size p → IsPageOf size (f p)) → ArePagesOf size ps → ArePagesOf size (map f ps)
 pages_map size f ps keeps are = record {

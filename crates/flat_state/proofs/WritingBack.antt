@@ -11,8 +11,9 @@ use Rattle.cache_ident.specs.declared.names.Frame.{Frame}
 use Rattle.cache_ident.specs.declared.names.SpaceNo.{SpaceNo}
 use Rattle.phys_groups.specs.declared.rows.Row.{Row}
 use Rattle.phys_groups.specs.Memory.{page_at, with_page}
+use Rattle.phys_groups.specs.Rows.{HasOneRowAPage}
 use Rattle.phys_groups.specs.Translation.{is_row_of, row_of}
-use Rattle.phys_groups.proofs.Pages.{length-page_at, page_at-with_page, page_at-with_page_other}
+use Rattle.phys_groups.proofs.Pages.{length-page_at, length-with_page, page_at-with_page, page_at-with_page_other}
 use Rattle.phys_groups.proofs.PageBytes.{get_or-page_at}
 use Rattle.flat_state.specs.Pages.{is_in, page_of, pages_in, with_marks, with_pages}
 use Rattle.flat_state.specs.Rest.{is_mapped, unmapped_page, unmarked}
@@ -24,9 +25,6 @@ same_frames k m n size-m size-n same =
     ext_get_or 0 m n (size-m ∙ sym size-n) (λ i within.
     let f : Frame = record { 0 = i / 4096 } in
     subst (λ (j : ℕ). get_or m j 0 ≡ get_or n j 0) {x = 4096 * (i / 4096) + i % 4096} (omega arith) (sym (get_or-page_at m f (i % 4096) 0 (omega arith)) ∙ ap (λ (page : List ℕ). get_or page (i % 4096) 0) (same f (omega (arith, within, size-m))) ∙ get_or-page_at n f (i % 4096) 0 (omega arith)))
-
-length-with_page : (m : List ℕ) (f : Frame) (page : List ℕ) → 4096 * f.0 + 4096 ≤ length m → length page ≡ 4096 → length (with_page m f page) ≡ length m
-length-with_page m f page within whole = rw (length-append, length-append, length-take-le (4096 * f.0) m (omega arith), whole, length-drop) (omega arith)
 
 module _ (rights : List (Bool × Bool)) (k : ℕ) (target : List ℕ) (size : length target ≡ 4096 * k) where
   -- memory that differs from the target in frames of the pages alone becomes the target
@@ -101,7 +99,7 @@ module _ (space : SpaceNo) where
   same_space r' r agree = sym (unmarked-space r') ∙ ap (λ (q : Row). q.space.0) agree ∙ unmarked-space r
 
   -- a row's page is found by its number, where no page has two rows
-  module _ (rights : List (Bool × Bool)) (memory : List ℕ) (rows : List Row) (single : (i j : ℕ) (a b : Row) → slice_get rows i ≡ Some a → slice_get rows j ≡ Some b → is_row_of a.space a.vpn.0 b ≡ true → i ≡ j) where
+  module _ (rights : List (Bool × Bool)) (memory : List ℕ) (rows : List Row) (single : HasOneRowAPage rows) where
     row_of-own : (i : ℕ) (row : Row) → slice_get rows i ≡ Some row → row_of rows row.space row.vpn.0 ≡ Some row
     row_of-own i row at =
         let found = found_at (is_row_of row.space row.vpn.0) rows i row at (and_from (eqb row.space.0 row.space.0) (eqb row.vpn.0 row.vpn.0) (eq-eqb row.space.0 row.space.0 refl) (eq-eqb row.vpn.0 row.vpn.0 refl)) in
@@ -128,6 +126,6 @@ module _ (space : SpaceNo) where
         ]
 
 -- Rows become those that the marks of their space's pages make.
-pub written_back-rows : (rights : List (Bool × Bool)) (space : SpaceNo) (memory : List ℕ) (rows rows' : List Row) → ((i j : ℕ) (a b : Row) → slice_get rows' i ≡ Some a → slice_get rows' j ≡ Some b → is_row_of a.space a.vpn.0 b ≡ true → i ≡ j) → map (unmarked space) rows' ≡ map (unmarked space) rows → map (with_marks space (pages_in rights memory rows' space)) rows ≡ rows'
+pub written_back-rows : (rights : List (Bool × Bool)) (space : SpaceNo) (memory : List ℕ) (rows rows' : List Row) → HasOneRowAPage rows' → map (unmarked space) rows' ≡ map (unmarked space) rows → map (with_marks space (pages_in rights memory rows' space)) rows ≡ rows'
 written_back-rows rights space memory rows rows' single agree =
     map-onto space (with_marks space (pages_in rights memory rows' space)) rows rows' agree (λ r r' there same. with_marks-onto space rights memory rows' single r r' there same)

@@ -6,15 +6,12 @@ use Rattle.cache_ident.specs.declared.names.KernelNo.{KernelNo}
 use Rattle.cache_ident.specs.declared.names.Name.{Name}
 use Rattle.cache_ident.specs.declared.names.Name.TheVariants.{Kernel, Space, Thread, Mapping}
 use Rattle.phys_groups.specs.declared.rows.Row.{Row}
+use Rattle.phys_groups.specs.Rows.{row_name}
 use Rattle.phys_groups.specs.Translation.{row_of}
 use Rattle.signal_pages.specs.Signals.{is_signal_row_of}
 use Rattle.flat_state.specs.declared.records.FlatThread.{FlatThread}
 use Rattle.flat_state.specs.State.{FlatState}
 use Rattle.flat_state.specs.Translation.{is_fit_row}
-
--- the name of a row
-abbrev pub row_name : Row → Name
-row_name row = Mapping row.space row.vpn
 
 -- the fit signal rows of a message row's frame; none for any other row
 abbrev pub signal_rows_of : FlatState → Row → List Row

@@ -4,6 +4,7 @@ use Rattle.std.specs.Option.{option_map}
 use Rattle.cache_ident.specs.declared.names.Name.{Name}
 use Rattle.cache_ident.specs.declared.names.Name.TheVariants.{Thread}
 use Rattle.phys_groups.specs.declared.rows.Row.{Row}
+use Rattle.phys_groups.specs.Rows.{row_name}
 use Rattle.rv32_exec.specs.declared.statuses.Access.{Access}
 use Rattle.rv32_exec.specs.declared.statuses.Access.TheVariants.{Fetch, Read, Write}
 use Rattle.rv32_exec.specs.declared.actions.Action.{Action}
@@ -19,7 +20,7 @@ use Rattle.flat_state.specs.Translation.{reached, row_through}
 use Rattle.flat_state.specs.Pages.{pages_of}
 use Rattle.flat_state.specs.Signals.{next_action, is_runnable}
 use Rattle.flat_state.specs.Step.{outcome}
-use Rattle.flat_state.specs.Dependence.{row_name, up}
+use Rattle.flat_state.specs.Dependence.{up}
 
 abbrev pub if_aligned : ℕ → Access → ℕ → Option DataAccess
 if_aligned size access va = if va % size == 0 then Some (record { access = access; va = va }) else None

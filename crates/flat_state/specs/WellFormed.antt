@@ -4,7 +4,7 @@ use Rattle.cache_ident.specs.declared.names.Caps.{Caps}
 use Rattle.cache_ident.specs.declared.names.Frame.{Frame}
 use Rattle.cache_ident.specs.declared.names.KernelNo.{KernelNo}
 use Rattle.phys_groups.specs.declared.rows.Row.{Row}
-use Rattle.phys_groups.specs.Translation.{is_row_of}
+use Rattle.phys_groups.specs.Rows.{HasOneRowAPage}
 use Rattle.signal_pages.specs.Signals.{is_signal_row_of}
 use Rattle.flat_state.specs.declared.events.Machine.{Machine}
 use Rattle.flat_state.specs.declared.records.FlatKernel.{FlatKernel}
@@ -63,7 +63,7 @@ pub record IsRow (machine : Option Machine) (spaces : List KernelNo) (threads : 
 pub record AreRows (machine : Option Machine) (spaces : List KernelNo) (threads : List FlatThread) (rows : List Row) : Type 0 where
   pub few : length rows ≤ 262144
   pub each : (row : Row) → Contains rows row → IsRow machine spaces threads row
-  pub single : (i j : ℕ) (a b : Row) → slice_get rows i ≡ Some a → slice_get rows j ≡ Some b → is_row_of a.space a.vpn.0 b ≡ true → i ≡ j
+  pub single : HasOneRowAPage rows
   pub signals : (frame : Frame) → count_by (is_signal_row_of frame) rows ≤ 4
 
 pub record IsWellFormed (s : FlatState) : Type 0 where

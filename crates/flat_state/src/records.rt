@@ -28,26 +28,26 @@ pub struct FlatThread {
 
 impl FlatThread {
     ghost use Rattle.std.specs.Prelude.{◌≡◌};
-    ghost use Rattle.flat_state.specs.State.{is_ended as is_ended_lem, is_ready as is_ready_lem};
-    ghost use Rattle.flat_state.specs.Call.{is_completable as is_completable_lem, waits as waits_lem};
+    ghost use Rattle.flat_state.specs.State.{is_ended as is_ended_def, is_ready as is_ready_def};
+    ghost use Rattle.flat_state.specs.Call.{is_completable as is_completable_def, waits as waits_def};
 
     /// Whether the thread takes steps.
     pub fn is_ready(&self) -> bool
-        ensures { result ≡ is_ready_lem self.now.status }
+        ensures { result ≡ is_ready_def self.now.status }
     {
         matches!(self.status, Status::Ready)
     }
 
     /// Whether the thread has ended.
     pub fn is_ended(&self) -> bool
-        ensures { result ≡ is_ended_lem self.now.status }
+        ensures { result ≡ is_ended_def self.now.status }
     {
         matches!(self.status, Status::Ended(_))
     }
 
     /// Whether the thread waits for a signal: it is in call 3, and its queue is empty.
     pub fn waits(&self) -> bool
-        ensures { result ≡ waits_lem self.now }
+        ensures { result ≡ waits_def self.now }
     {
         matches!(self.status, Status::Trapped)
             && self.context.regs[17] == 3
@@ -56,7 +56,7 @@ impl FlatThread {
 
     /// Whether the call that the thread is in can be completed.
     pub fn is_completable(&self) -> bool
-        ensures { result ≡ is_completable_lem self.now }
+        ensures { result ≡ is_completable_def self.now }
     {
         matches!(self.status, Status::Trapped) && !self.waits()
     }

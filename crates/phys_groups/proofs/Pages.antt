@@ -41,6 +41,10 @@ module _ (a n : ℕ) (xs : List ℕ) (within : a + n ≤ length xs) where
 pub length-page_at : (bytes : List ℕ) (frame : Frame) → HasFrame bytes frame → length (page_at bytes frame) ≡ 4096
 length-page_at bytes frame within = length-part (4096 * frame.0) 4096 bytes within
 
+-- memory keeps its size where a page is written over a frame
+pub length-with_page : (bytes : List ℕ) (frame : Frame) (page : List ℕ) → HasFrame bytes frame → length page ≡ 4096 → length (with_page bytes frame page) ≡ length bytes
+length-with_page bytes frame page within whole = rw (length-append, length-append, length-take-le (4096 * frame.0) bytes (omega arith), whole, length-drop) (omega arith)
+
 -- a page that was written over a frame is read from it
 pub page_at-with_page : (bytes : List ℕ) (frame : Frame) (page : List ℕ) → HasFrame bytes frame → length page ≡ 4096 → page_at (with_page bytes frame page) frame ≡ page
 page_at-with_page bytes frame page within whole = part_over (4096 * frame.0) 4096 bytes within page whole

@@ -1,2 +1,3 @@
 pub mod Memory
 pub mod Translation
+pub mod Rows

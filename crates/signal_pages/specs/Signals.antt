@@ -1,5 +1,5 @@
 -- Who receives a signal, what it receives, and who has no room for it.
-use Rattle.std.specs.Prelude.{ℕ, ◌+◌, ◌-◌, ◌*◌, ◌%◌, Bool, not, ◌&&◌, ◌==◌, nat_lt, is_some, if◌then◌else◌, List, [], ◌∷◌, ◌++◌, map, filter, count_by, Option, Some, None, option_to_list}
+use Rattle.std.specs.Prelude.{ℕ, ◌+◌, ◌-◌, ◌*◌, ◌%◌, Bool, not, ◌&&◌, ◌==◌, nat_lt, is_some, if◌then◌else◌, List, [], ◌∷◌, ◌++◌, count_by, Option, Some, None, option_to_list}
 use Rattle.std.specs.Option.{option_map}
 use Rattle.cache_ident.specs.declared.names.Frame.{Frame}
 use Rattle.cache_ident.specs.declared.names.ThreadNo.{ThreadNo}
@@ -27,10 +27,6 @@ abbrev pub receivers_in : Frame → List Row → List Bool → List (ThreadNo ×
 receivers_in frame [] fits = []
 receivers_in frame (row ∷ rows) [] = []
 receivers_in frame (row ∷ rows) (fit ∷ fits) = option_to_list (receiver_of frame row fit) ++ receivers_in frame rows fits
-
--- what a thread gets for a store at that offset: an address for each time that it stands among the receivers
-abbrev pub addresses_for : ThreadNo → ℕ → List (ThreadNo × Vpn) → List ℕ
-addresses_for thread offset receivers = map (λ receiver. address_of receiver.1 offset) (filter (λ receiver. receiver.0.0 == thread.0) receivers)
 
 -- how many times a thread stands in a list
 abbrev pub times_in : List ThreadNo → ThreadNo → ℕ

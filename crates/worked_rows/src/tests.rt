@@ -72,6 +72,20 @@ fn a_signal_reaches_its_receiver(rt: HostRuntime) -> Result<(), Fail> {
     Ok(())
 }
 
+// The rules are told by number, also before the machine is declared.
+#[test]
+fn an_early_declaration(rt: HostRuntime) -> Result<(), Fail> {
+    let mut flat = Flat::new(rt.alloc());
+    let bare = map(0, 0, 0, "", None);
+    assert_eq!(rt; flat.admit(&bare), Err(4));
+    assert_eq!(rt; flat.admit(&map(0, 0, 0, "x", None)), Err(5));
+    assert_eq!(rt; flat.admit(&kernel(0)), Err(5));
+    declare(&rt, &mut flat, &[machine(1)])?;
+    assert_eq!(rt; flat.admit(&bare), Err(4));
+    assert_eq!(rt; flat.admit(&machine(1)), Err(5));
+    Ok(())
+}
+
 #[test]
 fn what_depends_on_what(rt: HostRuntime) -> Result<(), Fail> {
     let mut flat = Flat::new(rt.alloc());

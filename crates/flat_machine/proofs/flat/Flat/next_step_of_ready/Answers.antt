@@ -3,7 +3,7 @@ use Rattle.std.specs.Option.{option_map}
 use Rattle.cache_ident.specs.declared.names.Name.{Name}
 use Rattle.flat_state.specs.declared.records.Signal.{Signal}
 use Rattle.flat_state.specs.Pages.{pages_of}
-use Rattle.flat_state.specs.Dependence.{row_name}
+use Rattle.phys_groups.specs.Rows.{row_name}
 use Rattle.flat_state.specs.NextSteps.{data_row, faults, fetch_row, next_step_if, row_of_action}
 use Rattle.flat_state.specs.Signals.{full_among, full_receiver, is_runnable, next_action, next_signal, receivers_for, signal_of}
 use Rattle.flat_machine.proofs.flat.Flat.next_step_of_ready.Goals as goal

@@ -1,7 +1,7 @@
 use Rattle.std.proofs.Common.{◌≡◌, ◌+◌, ◌≤◌, ◌∷◌, ◌++◌, length, map, take}
 use Rattle.std.specs.Option.{option_map, option_to_list}
 use Rattle.cache_ident.specs.declared.names.Name.TheVariants.{Space, Thread}
-use Rattle.flat_state.specs.Dependence.{row_name}
+use Rattle.phys_groups.specs.Rows.{row_name}
 use Rattle.flat_machine.proofs.flat.Flat.parents_of_row.Given as goal
 
 abbrev pub invariant-loop-other : goal.invariant-loop-other
