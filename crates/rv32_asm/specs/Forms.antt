@@ -1,5 +1,5 @@
--- Mnemonics with their operands: the instruction that they are.
-use Rattle.std.specs.Prelude.{ℕ, Bool, true, false, ◌==◌, if◌then◌else◌, ℤ, pos, negsuc, List, length, Option, Some, None, codes}
+-- The assembler's table, mnemonic by mnemonic, and one rule for each shape of operands: the instruction that they are.
+use Rattle.std.specs.Prelude.{ℕ, Bool, true, false, ◌==◌, if◌then◌else◌, ℤ, pos, negsuc, List, [], ◌∷◌, length, Option, Some, None, codes}
 use Rattle.std.specs.Str.{bytes_eq}
 use Rattle.rv32_isa.specs.declared.forms.Instr.{Instr}
 use Rattle.rv32_isa.specs.declared.forms.Instr.TheVariants as forms
@@ -7,118 +7,117 @@ use Rattle.rv32_asm.specs.declared.forms.Aim.{Aim}
 use Rattle.rv32_asm.specs.declared.forms.Aim.TheVariants as aims
 use Rattle.rv32_asm.specs.Fields.{◌>>=◌, cut, immediate_in, register, bracketed}
 
--- rd, imm
-unfoldable pub upper : List ℕ → ℕ → ℤ → Option Instr
-upper name rd imm =
-    if bytes_eq name (codes "lui") then Some (forms.Lui rd imm) else
-    if bytes_eq name (codes "auipc") then Some (forms.Auipc rd imm) else
-    None
+-- ---- the table: for each shape of operands the mnemonics that have it, with what each makes of the operands
 
--- rd, imm(rs1)
-unfoldable pub load : List ℕ → ℕ → ℕ → ℤ → Option Instr
-load name rd rs1 imm =
-    if bytes_eq name (codes "jalr") then Some (forms.Jalr rd rs1 imm) else
-    if bytes_eq name (codes "lb") then Some (forms.Lb rd rs1 imm) else
-    if bytes_eq name (codes "lh") then Some (forms.Lh rd rs1 imm) else
-    if bytes_eq name (codes "lw") then Some (forms.Lw rd rs1 imm) else
-    if bytes_eq name (codes "lbu") then Some (forms.Lbu rd rs1 imm) else
-    if bytes_eq name (codes "lhu") then Some (forms.Lhu rd rs1 imm) else
-    None
+abbrev pub Table : Type 0 → Type 0
+Table F = List (List ℕ × F)
 
--- rs2, imm(rs1)
-unfoldable pub store : List ℕ → ℕ → ℕ → ℤ → Option Instr
-store name rs2 rs1 imm =
-    if bytes_eq name (codes "sb") then Some (forms.Sb rs1 rs2 imm) else
-    if bytes_eq name (codes "sh") then Some (forms.Sh rs1 rs2 imm) else
-    if bytes_eq name (codes "sw") then Some (forms.Sw rs1 rs2 imm) else
-    None
+-- what is made with the form of this mnemonic, where the table has one
+abbrev pub by_name : {F A : Type 0} → Table F → List ℕ → (F → A) → Option A
+by_name [] name make = None
+by_name (form ∷ others) name make = if bytes_eq name form.0 then Some (make form.1) else by_name others name make
 
--- rd, rs1, imm
-unfoldable pub immediate_form : List ℕ → ℕ → ℕ → ℤ → Option Instr
-immediate_form name rd rs1 imm =
-    if bytes_eq name (codes "addi") then Some (forms.Addi rd rs1 imm) else
-    if bytes_eq name (codes "slti") then Some (forms.Slti rd rs1 imm) else
-    if bytes_eq name (codes "sltiu") then Some (forms.Sltiu rd rs1 imm) else
-    if bytes_eq name (codes "xori") then Some (forms.Xori rd rs1 imm) else
-    if bytes_eq name (codes "ori") then Some (forms.Ori rd rs1 imm) else
-    if bytes_eq name (codes "andi") then Some (forms.Andi rd rs1 imm) else
-    None
+-- rd, imm: the upper twenty bits, 0 to 1048575
+abbrev pub uppers : Table (ℕ → ℤ → Instr)
+uppers =
+    (codes "lui", forms.Lui) ∷ (codes "auipc", forms.Auipc) ∷ []
 
--- rd, rs1, imm
-unfoldable pub shift : List ℕ → ℕ → ℕ → ℤ → Option Instr
-shift name rd rs1 imm =
-    if bytes_eq name (codes "slli") then Some (forms.Slli rd rs1 imm) else
-    if bytes_eq name (codes "srli") then Some (forms.Srli rd rs1 imm) else
-    if bytes_eq name (codes "srai") then Some (forms.Srai rd rs1 imm) else
-    None
+-- rd, imm(rs1): -2048 to 2047
+abbrev pub loads : Table (ℕ → ℕ → ℤ → Instr)
+loads =
+    (codes "jalr", forms.Jalr) ∷ (codes "lb", forms.Lb) ∷ (codes "lh", forms.Lh) ∷ (codes "lw", forms.Lw) ∷
+    (codes "lbu", forms.Lbu) ∷ (codes "lhu", forms.Lhu) ∷ []
 
--- rd, rs1, imm
-unfoldable pub fence : List ℕ → ℕ → ℕ → ℤ → Option Instr
-fence name rd rs1 imm =
-    if bytes_eq name (codes "fence") then Some (forms.Fence rd rs1 imm) else
-    None
+-- rs2, imm(rs1): -2048 to 2047
+abbrev pub stores : Table (ℕ → ℕ → ℤ → Instr)
+stores =
+    (codes "sb", λ rs2 rs1 imm. forms.Sb rs1 rs2 imm) ∷ (codes "sh", λ rs2 rs1 imm. forms.Sh rs1 rs2 imm) ∷
+    (codes "sw", λ rs2 rs1 imm. forms.Sw rs1 rs2 imm) ∷ []
+
+-- rd, rs1, imm: -2048 to 2047
+abbrev pub immediates : Table (ℕ → ℕ → ℤ → Instr)
+immediates =
+    (codes "addi", forms.Addi) ∷ (codes "slti", forms.Slti) ∷ (codes "sltiu", forms.Sltiu) ∷
+    (codes "xori", forms.Xori) ∷ (codes "ori", forms.Ori) ∷ (codes "andi", forms.Andi) ∷ []
+
+-- rd, rs1, imm: 0 to 31
+abbrev pub shifts : Table (ℕ → ℕ → ℤ → Instr)
+shifts =
+    (codes "slli", forms.Slli) ∷ (codes "srli", forms.Srli) ∷ (codes "srai", forms.Srai) ∷ []
+
+-- rd, rs1, imm: 0 to 4095
+abbrev pub fences : Table (ℕ → ℕ → ℤ → Instr)
+fences =
+    (codes "fence", forms.Fence) ∷ []
 
 -- rd, rs1, rs2
-unfoldable pub register_form : List ℕ → ℕ → ℕ → ℕ → Option Instr
-register_form name rd rs1 rs2 =
-    if bytes_eq name (codes "add") then Some (forms.Add rd rs1 rs2) else
-    if bytes_eq name (codes "sub") then Some (forms.Sub rd rs1 rs2) else
-    if bytes_eq name (codes "sll") then Some (forms.Sll rd rs1 rs2) else
-    if bytes_eq name (codes "slt") then Some (forms.Slt rd rs1 rs2) else
-    if bytes_eq name (codes "sltu") then Some (forms.Sltu rd rs1 rs2) else
-    if bytes_eq name (codes "xor") then Some (forms.Xor rd rs1 rs2) else
-    if bytes_eq name (codes "srl") then Some (forms.Srl rd rs1 rs2) else
-    if bytes_eq name (codes "sra") then Some (forms.Sra rd rs1 rs2) else
-    if bytes_eq name (codes "or") then Some (forms.Or rd rs1 rs2) else
-    if bytes_eq name (codes "and") then Some (forms.And rd rs1 rs2) else
-    None
+abbrev pub sums : Table (ℕ → ℕ → ℕ → Instr)
+sums =
+    (codes "add", forms.Add) ∷ (codes "sub", forms.Sub) ∷ (codes "sll", forms.Sll) ∷ (codes "slt", forms.Slt) ∷
+    (codes "sltu", forms.Sltu) ∷ (codes "xor", forms.Xor) ∷ (codes "srl", forms.Srl) ∷ (codes "sra", forms.Sra) ∷
+    (codes "or", forms.Or) ∷ (codes "and", forms.And) ∷ []
 
 -- rd, rs1, rs2
-unfoldable pub product : List ℕ → ℕ → ℕ → ℕ → Option Instr
-product name rd rs1 rs2 =
-    if bytes_eq name (codes "mul") then Some (forms.Mul rd rs1 rs2) else
-    if bytes_eq name (codes "mulh") then Some (forms.Mulh rd rs1 rs2) else
-    if bytes_eq name (codes "mulhsu") then Some (forms.Mulhsu rd rs1 rs2) else
-    if bytes_eq name (codes "mulhu") then Some (forms.Mulhu rd rs1 rs2) else
-    if bytes_eq name (codes "div") then Some (forms.Div rd rs1 rs2) else
-    if bytes_eq name (codes "divu") then Some (forms.Divu rd rs1 rs2) else
-    if bytes_eq name (codes "rem") then Some (forms.Rem rd rs1 rs2) else
-    if bytes_eq name (codes "remu") then Some (forms.Remu rd rs1 rs2) else
-    None
+abbrev pub products : Table (ℕ → ℕ → ℕ → Instr)
+products =
+    (codes "mul", forms.Mul) ∷ (codes "mulh", forms.Mulh) ∷ (codes "mulhsu", forms.Mulhsu) ∷
+    (codes "mulhu", forms.Mulhu) ∷ (codes "div", forms.Div) ∷ (codes "divu", forms.Divu) ∷ (codes "rem", forms.Rem) ∷
+    (codes "remu", forms.Remu) ∷ []
 
--- rd, rs2, (rs1), by what stands before the point
-unfoldable pub atomic : List ℕ → ℕ → ℕ → ℕ → Bool → Bool → Option Instr
-atomic name rd rs1 rs2 aq rl =
-    if bytes_eq name (codes "amoadd") then Some (forms.Amoadd rd rs1 rs2 aq rl) else
-    if bytes_eq name (codes "amoswap") then Some (forms.Amoswap rd rs1 rs2 aq rl) else
-    if bytes_eq name (codes "amoxor") then Some (forms.Amoxor rd rs1 rs2 aq rl) else
-    if bytes_eq name (codes "amoor") then Some (forms.Amoor rd rs1 rs2 aq rl) else
-    if bytes_eq name (codes "amoand") then Some (forms.Amoand rd rs1 rs2 aq rl) else
-    if bytes_eq name (codes "amomin") then Some (forms.Amomin rd rs1 rs2 aq rl) else
-    if bytes_eq name (codes "amomax") then Some (forms.Amomax rd rs1 rs2 aq rl) else
-    if bytes_eq name (codes "amominu") then Some (forms.Amominu rd rs1 rs2 aq rl) else
-    if bytes_eq name (codes "amomaxu") then Some (forms.Amomaxu rd rs1 rs2 aq rl) else
-    None
+-- rd, rs2, (rs1), with .w and the ordering behind the name
+abbrev pub atomics : Table (ℕ → ℕ → ℕ → Bool → Bool → Instr)
+atomics =
+    (codes "amoadd", forms.Amoadd) ∷ (codes "amoswap", forms.Amoswap) ∷ (codes "amoxor", forms.Amoxor) ∷
+    (codes "amoor", forms.Amoor) ∷ (codes "amoand", forms.Amoand) ∷ (codes "amomin", forms.Amomin) ∷
+    (codes "amomax", forms.Amomax) ∷ (codes "amominu", forms.Amominu) ∷ (codes "amomaxu", forms.Amomaxu) ∷ []
+
+-- what follows the point of an atomic name: whether it acquires, and whether it releases
+abbrev pub orderings : Table (Bool × Bool)
+orderings =
+    (codes "w", (false, false)) ∷ (codes "w.aq", (true, false)) ∷ (codes "w.rl", (false, true)) ∷
+    (codes "w.aqrl", (true, true)) ∷ []
 
 -- rs1, rs2, target
-unfoldable pub branch : List ℕ → ℕ → ℕ → Option Aim
-branch name rs1 rs2 =
-    if bytes_eq name (codes "beq") then Some (aims.Beq rs1 rs2) else
-    if bytes_eq name (codes "bne") then Some (aims.Bne rs1 rs2) else
-    if bytes_eq name (codes "blt") then Some (aims.Blt rs1 rs2) else
-    if bytes_eq name (codes "bge") then Some (aims.Bge rs1 rs2) else
-    if bytes_eq name (codes "bltu") then Some (aims.Bltu rs1 rs2) else
-    if bytes_eq name (codes "bgeu") then Some (aims.Bgeu rs1 rs2) else
-    None
+abbrev pub branches : Table (ℕ → ℕ → Aim)
+branches =
+    (codes "beq", aims.Beq) ∷ (codes "bne", aims.Bne) ∷ (codes "blt", aims.Blt) ∷ (codes "bge", aims.Bge) ∷
+    (codes "bltu", aims.Bltu) ∷ (codes "bgeu", aims.Bgeu) ∷ []
 
--- what follows the point of an atomic mnemonic, and its two ordering bits
+-- ---- the form of a mnemonic, by the shape of its operands
+
+unfoldable pub upper : List ℕ → ℕ → ℤ → Option Instr
+upper name rd imm = by_name uppers name (λ form. form rd imm)
+
+unfoldable pub load : List ℕ → ℕ → ℕ → ℤ → Option Instr
+load name rd rs1 imm = by_name loads name (λ form. form rd rs1 imm)
+
+unfoldable pub store : List ℕ → ℕ → ℕ → ℤ → Option Instr
+store name rs2 rs1 imm = by_name stores name (λ form. form rs2 rs1 imm)
+
+unfoldable pub immediate_form : List ℕ → ℕ → ℕ → ℤ → Option Instr
+immediate_form name rd rs1 imm = by_name immediates name (λ form. form rd rs1 imm)
+
+unfoldable pub shift : List ℕ → ℕ → ℕ → ℤ → Option Instr
+shift name rd rs1 imm = by_name shifts name (λ form. form rd rs1 imm)
+
+unfoldable pub fence : List ℕ → ℕ → ℕ → ℤ → Option Instr
+fence name rd rs1 imm = by_name fences name (λ form. form rd rs1 imm)
+
+unfoldable pub register_form : List ℕ → ℕ → ℕ → ℕ → Option Instr
+register_form name rd rs1 rs2 = by_name sums name (λ form. form rd rs1 rs2)
+
+unfoldable pub product : List ℕ → ℕ → ℕ → ℕ → Option Instr
+product name rd rs1 rs2 = by_name products name (λ form. form rd rs1 rs2)
+
+-- by what stands before the point
+unfoldable pub atomic : List ℕ → ℕ → ℕ → ℕ → Bool → Bool → Option Instr
+atomic name rd rs1 rs2 aq rl = by_name atomics name (λ form. form rd rs1 rs2 aq rl)
+
+unfoldable pub branch : List ℕ → ℕ → ℕ → Option Aim
+branch name rs1 rs2 = by_name branches name (λ form. form rs1 rs2)
+
 unfoldable pub ordering : List ℕ → Option (Bool × Bool)
-ordering name =
-    if bytes_eq name (codes "w") then Some (false, false) else
-    if bytes_eq name (codes "w.aq") then Some (true, false) else
-    if bytes_eq name (codes "w.rl") then Some (false, true) else
-    if bytes_eq name (codes "w.aqrl") then Some (true, true) else
-    None
+ordering name = by_name orderings name (λ bits. bits)
 
 unfoldable pub atomic_named : List ℕ → ℕ → ℕ → ℕ → Option Instr
 atomic_named name rd rs1 rs2 = do
@@ -135,7 +134,8 @@ or_else None o = o
 abbrev pub signed_12 : List ℕ → Option ℤ
 signed_12 bytes = immediate_in (negsuc 2047) (pos 2047) bytes
 
--- ---- two operands
+-- ---- the rules for two operands, of which the first is a register
+-- The second ends in a register in brackets: a load, or else a store. It doesn't: the upper twenty bits.
 
 abbrev pub with_base : List ℕ → ℕ → Option (List ℕ × ℕ) → List ℕ → Option Instr
 with_base name r (Some base) bytes = signed_12 base.0 >>= λ imm. or_else (load name r base.1 imm) (store name r base.1 imm)
@@ -144,7 +144,9 @@ with_base name r None bytes = immediate_in (pos 0) (pos 1048575) bytes >>= upper
 unfoldable pub of_two : List ℕ → List ℕ → List ℕ → Option Instr
 of_two name a b = register a >>= λ r. with_base name r (bracketed b) b
 
--- ---- three operands, of which the first two are registers
+-- ---- the rules for three operands, of which the first two are registers
+-- The third is a register: a sum or its like, or a product or its like. It is a register in brackets: an atomic operation.
+-- It is neither: an immediate, in the range of its table.
 
 abbrev pub immediate_at : List ℕ → ℕ → ℕ → List ℕ → Option Instr
 immediate_at name rd rs1 bytes = signed_12 bytes >>= immediate_form name rd rs1

@@ -50,7 +50,7 @@ abbrev pub IsStatement : StatementValue → Type 0
 IsStatement (statement_values.Word w) = Unit {0}
 IsStatement (statement_values.To aim target) = IsAim aim × IsTarget target
 
--- ---- reading
+-- ---- reading: by the number of operands, the rules for ecall, ebreak and .word, for jal, for branches, and those of Forms
 
 unfoldable pub target_at : List ℕ → Option Target
 target_at bytes = if is_name bytes then Some (Name bytes) else (immediate bytes >>= λ z. if unsigned_abs z % 2 == 0 then Some (Distance z) else None)
@@ -61,6 +61,7 @@ plain o = option_map (λ i. Word (word_of i)) o
 abbrev pub bare : Instr → List ℕ → Option ℕ
 bare i rest = if length rest == 0 then Some (word_of i) else None
 
+-- no comma: a mnemonic alone, or .word and a number
 unfoldable pub of_one : List ℕ → List ℕ → Option ℕ
 of_one name rest =
     if bytes_eq name (codes "ecall") then bare forms.Ecall rest else
@@ -68,6 +69,7 @@ of_one name rest =
     if bytes_eq name (codes ".word") then number rest else
     None
 
+-- one comma
 unfoldable pub pair : List ℕ → List ℕ → List ℕ → Option Statement
 pair name a b = if bytes_eq name (codes "jal") then (register a >>= λ rd. target_at b >>= λ t. Some (To (aims.Jal rd) t)) else plain (of_two name a b)
 
@@ -75,6 +77,7 @@ abbrev pub branch_or : Option Aim → List ℕ → Option Instr → Option State
 branch_or (Some aim) c other = target_at c >>= λ t. Some (To aim t)
 branch_or None c other = plain other
 
+-- two commas
 unfoldable pub triple : List ℕ → List ℕ → List ℕ → List ℕ → Option Statement
 triple name a b c = register a >>= λ x. register b >>= λ y. branch_or (branch name x y) c (of_three name x y c)
 
