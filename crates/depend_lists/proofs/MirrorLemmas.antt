@@ -7,7 +7,7 @@ use Rattle.std.specs.Ordering.{is_eq}
 use Rattle.std.proofs.lemmas.List.Elements.{Contains-get_or}
 use Rattle.std.proofs.lemmas.List.Sums.{length-filter, sum_by-insert, sum_by-remove}
 use Rattle.cache_ident.specs.declared.idents.Ident.{Ident}
-use Rattle.depend_lists.specs.declared.nodes.Class.{Class}
+use Rattle.cache_ident.specs.declared.classes.Class.{Class}
 use Rattle.depend_lists.specs.declared.nodes.Node.{Node}
 use Rattle.depend_lists.specs.Indexes.{turned, turned_cmp, Mirrors}
 use Rattle.depend_lists.proofs.ListLemmas.{some_item, Contains-filter, Contains-from_filter}

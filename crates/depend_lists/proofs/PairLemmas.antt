@@ -12,11 +12,11 @@ use Rattle.cache_ident.specs.contracts.idents.IdentOrd.TheImpl as ident
 use Rattle.cache_ident.specs.contracts.idents.IdentOrd.TheImpl.Laws as ident_laws
 use Rattle.cache_ident.specs.Rolls.{is_same}
 use Rattle.cache_ident.proofs.RollLemmas.{same_ident}
-use Rattle.depend_lists.specs.declared.nodes.Class.{Class}
+use Rattle.cache_ident.specs.declared.classes.Class.{Class}
 use Rattle.depend_lists.specs.declared.nodes.Node.{Node}
-use Rattle.depend_lists.specs.contracts.nodes.Class.{the_type}
-use Rattle.depend_lists.specs.contracts.nodes.ClassOrd.TheImpl as class
-use Rattle.depend_lists.specs.contracts.nodes.ClassOrd.TheImpl.Laws as class_laws
+use Rattle.cache_ident.specs.contracts.classes.Class.{the_type}
+use Rattle.cache_ident.specs.contracts.classes.ClassOrd.TheImpl as class
+use Rattle.cache_ident.specs.contracts.classes.ClassOrd.TheImpl.Laws as class_laws
 use Rattle.depend_lists.specs.contracts.nodes.NodeOrd.TheImpl as node
 use Rattle.depend_lists.specs.contracts.nodes.NodeOrd.TheImpl.Laws as node_laws
 use Rattle.depend_lists.specs.Pairs.{children_of}

@@ -8,7 +8,7 @@ use Rattle.std.proofs.lemmas.List.Edits.{get_or-between, length-between}
 use Rattle.cache_ident.specs.declared.idents.Ident.{Ident}
 use Rattle.cache_ident.specs.Rolls.{is_same}
 use Rattle.cache_ident.proofs.RollLemmas.{same_ident}
-use Rattle.depend_lists.specs.declared.nodes.Class.{Class}
+use Rattle.cache_ident.specs.declared.classes.Class.{Class}
 use Rattle.depend_lists.specs.declared.nodes.Node.{Node}
 use Rattle.depend_lists.specs.Pairs.{without}
 use Rattle.depend_lists.specs.Indexes.{turned, Mirrors}

@@ -5,10 +5,10 @@ use Rattle.std.specs.declared.cmp.Ordering.{Ordering}
 use Rattle.cache_ident.specs.declared.idents.Ident.{Ident}
 use Rattle.cache_ident.specs.declared.names.Caps.{Caps}
 use Rattle.cache_ident.specs.contracts.idents.IdentOrd.TheImpl as ident
-use Rattle.depend_lists.specs.declared.nodes.Class.{Class}
+use Rattle.cache_ident.specs.declared.classes.Class.{Class}
 use Rattle.depend_lists.specs.declared.nodes.Node.{Node}
 use Rattle.depend_lists.specs.declared.nodes.TheConstants.{MOST_PARENTS}
-use Rattle.depend_lists.specs.contracts.nodes.ClassOrd.TheImpl as class
+use Rattle.cache_ident.specs.contracts.classes.ClassOrd.TheImpl as class
 use Rattle.depend_lists.specs.contracts.nodes.NodeOrd.TheImpl as node
 use Rattle.depend_lists.specs.Rising.{IsRising, by_parts}
 use Rattle.depend_lists.specs.Pairs.{count_of, IsProper}

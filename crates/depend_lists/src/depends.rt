@@ -3,9 +3,9 @@
 ghost use Rattle.std.specs.Prelude.{◌≡◌, ◌≢◌, ◌+◌, ◌*◌, ◌<◌, ◌≤◌, length, [], ◌∷◌, remove, Contains, IfOk, IfSome, IfNone};
 ghost use Rattle.depend_lists.specs.Pairs.{children_of, count_of, parent_count, place_of, without, HasOneClass, IsAdded, IsAloneAt, IsChild, IsChildPair, IsProper, IsTakenOut, IsWithin};
 
-use super::nodes::{self, Class, MOST_PARENTS, Node};
+use super::nodes::{self, MOST_PARENTS, Node};
 use super::rising;
-use cache_ident::{Caps, Ident, NoMemory};
+use cache_ident::{Caps, Class, Ident, NoMemory};
 use std::alloc::Global;
 use std::marker::Model;
 

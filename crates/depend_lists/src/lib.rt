@@ -7,5 +7,6 @@ mod rising;
 #[cfg(test)]
 mod tests;
 
+pub use cache_ident::Class;
 pub use depends::Depends;
-pub use nodes::{Class, MOST_PARENTS, Node, most_loaded};
+pub use nodes::{MOST_PARENTS, Node, most_loaded};

@@ -3,20 +3,7 @@
 ghost use Rattle.std.specs.Prelude.{◌≡◌};
 ghost use Rattle.depend_lists.specs.Pairs.{count_of};
 
-use cache_ident::{Caps, Ident};
-
-/// The classes of descriptors, in the order in which they leave.
-#[derive(Clone, Copy, PartialEq, Eq, PartialOrd, Ord, Hash, Debug)]
-pub enum Class {
-    /// A row with flag m, which depends on the signal rows of its frame.
-    MessageRow,
-    /// A row with a receiver, on which message rows depend.
-    SignalRow,
-    OtherRow,
-    Thread,
-    Space,
-    Kernel,
-}
+use cache_ident::{Caps, Class, Ident};
 
 /// A loaded descriptor with its class.
 #[derive(Clone, Copy, PartialEq, Eq, PartialOrd, Ord, Hash, Debug)]

@@ -4,8 +4,8 @@ use Rattle.cache_ident.specs.declared.names.Name.{Name}
 use Rattle.cache_ident.specs.declared.names.Name.TheVariants.{Kernel, Space, Thread, Mapping}
 use Rattle.phys_groups.specs.declared.rows.Row.{Row}
 use Rattle.phys_groups.specs.Translation.{row_of}
-use Rattle.depend_lists.specs.declared.nodes.Class.{Class}
-use Rattle.depend_lists.specs.declared.nodes.Class.TheVariants as classes
+use Rattle.cache_ident.specs.declared.classes.Class.{Class}
+use Rattle.cache_ident.specs.declared.classes.Class.TheVariants as classes
 use Rattle.flat_state.specs.State.{FlatState}
 use Rattle.flat_state.specs.Translation.{is_fit_row}
 

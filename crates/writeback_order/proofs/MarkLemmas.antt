@@ -6,7 +6,7 @@ use Rattle.std.proofs.lemmas.List.{drop_all, drop_more, ext_get_or, get_or-map, 
 use Rattle.std.proofs.lemmas.List.Elements.{Contains-append_left, Contains-push, Contains-push_cases}
 use Rattle.cache_ident.specs.declared.idents.Ident.{Ident}
 use Rattle.cache_ident.specs.declared.idents.Kind.TheVariants as kind
-use Rattle.depend_lists.specs.declared.nodes.Class.TheVariants as class
+use Rattle.cache_ident.specs.declared.classes.Class.TheVariants as class
 use Rattle.depend_lists.specs.declared.nodes.Node.{Node}
 use Rattle.depend_lists.specs.Pairs.{place_of}
 use Rattle.depend_lists.proofs.ListLemmas.{Contains-cons_cases}

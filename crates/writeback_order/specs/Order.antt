@@ -4,8 +4,8 @@ use Rattle.std.specs.declared.cmp.Ordering.{Ordering}
 use Rattle.std.specs.Ordering.{nat_cmp, ordering_then}
 use Rattle.cache_ident.specs.declared.idents.Ident.{Ident}
 use Rattle.cache_ident.specs.contracts.idents.IdentOrd.TheImpl as ident_order
-use Rattle.depend_lists.specs.declared.nodes.Class.{Class}
-use Rattle.depend_lists.specs.declared.nodes.Class.TheVariants as class
+use Rattle.cache_ident.specs.declared.classes.Class.{Class}
+use Rattle.cache_ident.specs.declared.classes.Class.TheVariants as class
 use Rattle.depend_lists.specs.declared.nodes.Node.{Node}
 use Rattle.depend_lists.specs.Rising.{IsRising}
 

@@ -2,7 +2,7 @@ use Rattle.std.proofs.Common.{sym, ◌∙◌}
 use Rattle.std.specs.Ordering.{is_lt}
 use Rattle.cache_ident.specs.declared.idents.Ident.{Ident}
 use Rattle.cache_ident.specs.contracts.idents.IdentOrd.TheImpl as ident
-use Rattle.depend_lists.specs.declared.nodes.Class.{Class}
+use Rattle.cache_ident.specs.declared.classes.Class.{Class}
 use Rattle.depend_lists.proofs.CountLemmas.{few_pairs}
 use Rattle.depend_lists.proofs.PlaceLemmas.{count_parted, place-apart, place-below}
 use Rattle.depend_lists.proofs.depends.Depends.place.Goals as goal
