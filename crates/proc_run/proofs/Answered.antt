@@ -12,7 +12,7 @@ use Rattle.proc_run.specs.declared.journal.Entry.{Entry}
 use Rattle.proc_run.specs.declared.outcome.Kept.TheVariants as kept
 use Rattle.proc_run.specs.declared.outcome.RunStatus.{RunStatus}
 use Rattle.proc_run.specs.declared.outcome.RunStatus.TheVariants.{Done, Stalled, Spent, ReadFault, WriteFault, NoMemory, Usage, TooLong, Unbuilt}
-use Rattle.proc_run.specs.Reports.{report}
+use Rattle.report_text.specs.Reports.{report}
 use Rattle.proc_run.specs.Running.{IsRun}
 use Rattle.proc_run.specs.Outcomes.{most_bytes, step_limit, IsNotBuilt, IsRan, IsRanOrNoMemory, IsRunOf}
 use Rattle.proc_run.specs.Dues.{status_of, IsDueFor}

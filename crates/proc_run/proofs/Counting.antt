@@ -5,7 +5,8 @@ use Rattle.std.proofs.lemmas.List.{get_or_default, get_or-set_other, get_or-set_
 use Rattle.phys_groups.specs.declared.rows.Row.{Row}
 use Rattle.flat_state.proofs.Places.{count_by-cons}
 use Rattle.proc_run.specs.declared.report.RowCounts.{RowCounts}
-use Rattle.proc_run.specs.Reports.{counted, is_modified_of, is_of, is_referenced_of, with_row}
+use Rattle.report_text.specs.Reports.{is_modified_of, is_of, is_referenced_of}
+use Rattle.proc_run.specs.Counts.{counted, with_row}
 
 -- both counts together
 abbrev pub sum_of : RowCounts → RowCounts → RowCounts

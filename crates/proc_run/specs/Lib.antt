@@ -1,6 +1,6 @@
 pub mod Journals
 pub mod Legality
-pub mod Reports
+pub mod Counts
 pub mod Running
 pub mod Outcomes
 pub mod Dues

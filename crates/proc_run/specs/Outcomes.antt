@@ -16,7 +16,7 @@ use Rattle.proc_run.specs.declared.outcome.Kept.{Kept}
 use Rattle.proc_run.specs.declared.outcome.Kept.TheVariants as kept
 use Rattle.proc_run.specs.Journals.{erase, steps_in, opening}
 use Rattle.proc_run.specs.Legality.{IsLegal}
-use Rattle.proc_run.specs.Reports.{report}
+use Rattle.report_text.specs.Reports.{report}
 
 -- how many bytes a scenario may have
 abbrev pub most_bytes : ℕ

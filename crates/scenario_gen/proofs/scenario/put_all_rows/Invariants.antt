@@ -1,0 +1,7 @@
+use Rattle.std.proofs.Common.{◌≡◌, ◌++◌}
+use Rattle.std.specs.String.{string_bytes}
+use Rattle.scenario_gen.specs.Generated.{for_each, rows}
+use Rattle.scenario_gen.proofs.scenario.put_all_rows.Given as goal
+
+abbrev pub invariant-loop-space : goal.invariant-loop-space
+invariant-loop-space l = string_bytes l.out ≡ string_bytes l.fn.out ++ for_each rows l.space
