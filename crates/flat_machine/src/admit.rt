@@ -7,7 +7,7 @@ ghost use Rattle.flat_machine.specs.Readings.{Gives};
 
 use crate::flat::Flat;
 use cache_ident::{Caps, Frame, KernelNo, SpaceNo, ThreadNo, Vpn};
-use flat_state::{Decl, Machine};
+use flat_state::{Decl, GREATEST_CAPS, MOST_DECLARED, Machine};
 use phys_groups::Flags;
 
 fn is_capacity(most: u32, cap: u32) -> bool
@@ -20,10 +20,10 @@ fn is_capacity(most: u32, cap: u32) -> bool
 fn are_capacities(caps: Caps) -> bool
     ensures { result ≡ are_capacities_def caps }
 {
-    is_capacity(16, caps.kernels)
-        && is_capacity(64, caps.spaces)
-        && is_capacity(256, caps.threads)
-        && is_capacity(65_536, caps.mappings)
+    is_capacity(GREATEST_CAPS.kernels, caps.kernels)
+        && is_capacity(GREATEST_CAPS.spaces, caps.spaces)
+        && is_capacity(GREATEST_CAPS.threads, caps.threads)
+        && is_capacity(GREATEST_CAPS.mappings, caps.mappings)
 }
 
 // Whether the capacity has room for what is granted, what is to be granted, and what one step wants.
@@ -173,7 +173,7 @@ impl Flat {
         if no.0 as usize != self.kernels.len() {
             return Err(8);
         }
-        if self.kernels.len() >= 1_024 {
+        if self.kernels.len() >= MOST_DECLARED.kernels as usize {
             return Err(9);
         }
         if !may_lock_kernels(no, limits) {
@@ -203,7 +203,7 @@ impl Flat {
         if no.0 as usize != self.spaces.len() {
             return Err(8);
         }
-        if self.spaces.len() >= 4_096 {
+        if self.spaces.len() >= MOST_DECLARED.spaces as usize {
             return Err(9);
         }
         if self.kernels.len() <= kernel.0 as usize {
@@ -224,7 +224,7 @@ impl Flat {
         if no.0 as usize != self.threads.len() {
             return Err(8);
         }
-        if self.threads.len() >= 16_384 {
+        if self.threads.len() >= MOST_DECLARED.threads as usize {
             return Err(9);
         }
         if self.spaces.len() <= space.0 as usize {
@@ -278,7 +278,7 @@ impl Flat {
         if has_no_flag(flags) {
             return Err(4);
         }
-        if self.rows.len() >= 262_144 {
+        if self.rows.len() >= MOST_DECLARED.mappings as usize {
             return Err(9);
         }
         if self.spaces.len() <= space.0 as usize || !self.has_receiver(receiver) {

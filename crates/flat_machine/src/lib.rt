@@ -15,6 +15,7 @@ mod threads;
 pub use cache_ident::NoMemory;
 pub use flat::Flat;
 pub use flat_state::{
-    DataAccess, Decl, Event, FlatKernel, FlatThread, Machine, NextStep, Settled, Signal,
+    DataAccess, Decl, Event, FlatKernel, FlatThread, GREATEST_CAPS, MOST_DECLARED, Machine,
+    NextStep, Settled, Signal,
 };
 pub use row_table::Rows;

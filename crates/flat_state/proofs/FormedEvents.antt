@@ -1,5 +1,5 @@
 -- Each event keeps a state well-formed, so each state that events can reach is.
-use Rattle.std.proofs.Common.{◌≡◌, ℕ, zero, suc, ◌+◌, ◌*◌, ◌%◌, ◌<◌, ◌≤◌, Bool, true, false, not, List, [], ◌∷◌, ◌++◌, map, length, take, drop, set, Option, Some, None, slice_get, filter, refl, ap, sym, ◌∙◌, subst, inl, inr, arith, length-append, length-drop, length-set, length-take-le}
+use Rattle.std.proofs.Common.{◌≡◌, ℕ, zero, suc, ◌+◌, ◌*◌, ◌%◌, ◌<◌, ◌≤◌, Bool, true, false, not, List, [], ◌∷◌, ◌++◌, map, length, set, Option, Some, None, slice_get, filter, refl, ap, sym, ◌∙◌, subst, inl, inr, arith, length-set}
 use Rattle.std.specs.Prelude.{if◌then◌else◌, ◌==◌, ◌&&◌, nat_lt, is_some, option_to_list, unwrap_or, find}
 use Rattle.std.specs.Option.{option_map}
 use Rattle.std.proofs.lemmas.Bool.{cases_eq, and_parts, not-true, ltb-false}

@@ -23,7 +23,7 @@ use Rattle.rv32_exec.specs.declared.actions.Action.{Action}
 use Rattle.rv32_exec.specs.declared.actions.Action.TheVariants as actions
 use Rattle.rv32_exec.specs.Pages.{Page, size_of, number_at, translation, translates, read_through, fetched, loaded, put_bytes, put_in_frame, stored_through, stored, mark, mark_page, touched_at}
 use Rattle.rv32_exec.specs.Actions.{action_of}
-use Rattle.rv32_exec.specs.Steps.{After, ended, after_jump, load_found, store_found, write_found, read_found, after_action, after_decoding, after_fetch, after_step}
+use Rattle.rv32_exec.specs.Steps.{After, ended, load_found, store_found, write_found, read_found, after_action, after_decoding, after_fetch, after_step}
 use Rattle.flat_state.specs.declared.records.DataAccess.{DataAccess}
 use Rattle.flat_state.specs.Signals.{next_action}
 use Rattle.flat_state.specs.NextSteps.{data_access, stores, is_miss}

@@ -1,9 +1,9 @@
 -- What a step leaves in the pages of a space tells what it leaves in memory and in the rows.
-use Rattle.std.proofs.Common.{◌≡◌, ℕ, zero, suc, ◌+◌, ◌*◌, ◌/◌, ◌%◌, ◌<◌, ◌≤◌, Bool, true, false, ◌&&◌, ◌||◌, eqb, cond, List, [], ◌∷◌, ◌⊎◌, length, map, drop, get_or, Some, None, refl, sym, ◌∙◌, ap, ap₂, subst, subst₂, inl, inr, arith, length-append, length-drop}
+use Rattle.std.proofs.Common.{◌≡◌, ℕ, zero, suc, ◌+◌, ◌*◌, ◌/◌, ◌%◌, ◌<◌, ◌≤◌, Bool, true, false, ◌&&◌, ◌||◌, eqb, cond, List, [], ◌∷◌, ◌⊎◌, length, map, drop, get_or, Some, None, refl, sym, ◌∙◌, ap, ap₂, subst, subst₂, inl, inr, arith}
 use Rattle.std.specs.List.{filter, find, list_any, slice_get, Contains}
 use Rattle.std.specs.Option.{option_map}
 use Rattle.std.proofs.lemmas.Bool.{and_from, cases_Bool, cases_eq, eq-eqb, eqb-true, false≢true, ne_eqb}
-use Rattle.std.proofs.lemmas.List.{ext_get_or, length-take-le}
+use Rattle.std.proofs.lemmas.List.{ext_get_or}
 use Rattle.std.proofs.lemmas.List.Elements.{All-contains_itself, All-filter, Contains-append_right}
 use Rattle.std.proofs.lemmas.Option.{slice_get-get_or}
 use Rattle.std.proofs.Math.Nat.{suc-ne-zero}

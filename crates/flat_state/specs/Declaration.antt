@@ -14,6 +14,7 @@ use Rattle.phys_groups.specs.Translation.{row_of}
 use Rattle.signal_pages.specs.Signals.{is_signal_row_of}
 use Rattle.rv32_exec.specs.declared.statuses.Status.TheVariants.{Ready}
 use Rattle.flat_state.specs.declared.events.Machine.{Machine}
+use Rattle.flat_state.specs.declared.events.TheConstants.{GREATEST_CAPS, MOST_DECLARED}
 use Rattle.flat_state.specs.declared.events.Decl.{Decl}
 use Rattle.flat_state.specs.declared.events.Decl.TheVariants as decls
 use Rattle.flat_state.specs.declared.records.FlatKernel.{FlatKernel}
@@ -34,7 +35,10 @@ is_capacity most cap = nat_lt 0 cap && nat_le cap most
 -- each capacity is from 1 to its greatest
 abbrev pub are_capacities : Caps → Bool
 are_capacities caps =
-    is_capacity 16 caps.kernels && (is_capacity 64 caps.spaces && (is_capacity 256 caps.threads && is_capacity 65536 caps.mappings))
+    is_capacity GREATEST_CAPS.kernels caps.kernels
+    && (is_capacity GREATEST_CAPS.spaces caps.spaces
+    && (is_capacity GREATEST_CAPS.threads caps.threads
+    && is_capacity GREATEST_CAPS.mappings caps.mappings))
 
 -- Kernel 0 may lock a kernel, since it is locked itself. No other kernel may.
 abbrev pub may_lock_kernels : ℕ → Caps → Bool
@@ -92,7 +96,7 @@ has_four rows frame = nat_le 4 (count_by (is_signal_row_of frame) rows)
 abbrev pub rule_of_kernel : FlatState → ℕ → Caps → Option ℕ
 rule_of_kernel s n limits =
     breaks (not (n == length s.kernels)) 8
-    (breaks (nat_le 1024 (length s.kernels)) 9
+    (breaks (nat_le MOST_DECLARED.kernels (length s.kernels)) 9
     (breaks (not (may_lock_kernels n limits)) 10
     (breaks (not (leaves_room (caps_of s.machine) (locks_granted s.kernels) limits)) 11 None)))
 
@@ -104,20 +108,20 @@ rule_of_right s kernel group =
 abbrev pub rule_of_space : FlatState → ℕ → KernelNo → Option ℕ
 rule_of_space s n kernel =
     breaks (not (n == length s.spaces)) 8
-    (breaks (nat_le 4096 (length s.spaces)) 9
+    (breaks (nat_le MOST_DECLARED.spaces (length s.spaces)) 9
     (breaks (nat_le (length s.kernels) kernel.0) 12 None))
 
 abbrev pub rule_of_thread : FlatState → ℕ → SpaceNo → ℕ → ℕ → Option ℕ
 rule_of_thread s n space pc priority =
     breaks (not (n == length s.threads)) 8
-    (breaks (nat_le 16384 (length s.threads)) 9
+    (breaks (nat_le MOST_DECLARED.threads (length s.threads)) 9
     (breaks (nat_le (length s.spaces) space.0) 12
     (breaks (not (pc % 4 == 0) || nat_lt 31 priority) 14 None)))
 
 abbrev pub rule_of_map : FlatState → SpaceNo → Vpn → Frame → Flags → Option ThreadNo → Option ℕ
 rule_of_map s space vpn frame flags receiver =
     breaks (has_no_flag flags) 4
-    (breaks (nat_le 262144 (length s.rows)) 9
+    (breaks (nat_le MOST_DECLARED.mappings (length s.rows)) 9
     (breaks (nat_le (length s.spaces) space.0 || not (has_receiver s.threads receiver)) 12
     (breaks (not (has_frame s frame) || nat_lt 1048575 vpn.0) 13
     (breaks (not (agree flags (is_some receiver))) 16

@@ -7,6 +7,7 @@ use Rattle.phys_groups.specs.declared.rows.Row.{Row}
 use Rattle.phys_groups.specs.Rows.{HasOneRowAPage}
 use Rattle.signal_pages.specs.Signals.{is_signal_row_of}
 use Rattle.flat_state.specs.declared.events.Machine.{Machine}
+use Rattle.flat_state.specs.declared.events.TheConstants.{GREATEST_CAPS, MOST_DECLARED}
 use Rattle.flat_state.specs.declared.records.FlatKernel.{FlatKernel}
 use Rattle.flat_state.specs.declared.records.FlatThread.{FlatThread}
 use Rattle.flat_state.specs.State.{FlatState, groups_of}
@@ -14,10 +15,10 @@ use Rattle.flat_state.specs.Declaration.{agree, has_no_flag, is_receiver_in, loc
 
 -- no capacity is above its greatest
 pub record AreWithin (caps : Caps) : Type 0 where
-  pub kernels : caps.kernels ≤ 16
-  pub spaces : caps.spaces ≤ 64
-  pub threads : caps.threads ≤ 256
-  pub mappings : caps.mappings ≤ 65536
+  pub kernels : caps.kernels ≤ GREATEST_CAPS.kernels
+  pub spaces : caps.spaces ≤ GREATEST_CAPS.spaces
+  pub threads : caps.threads ≤ GREATEST_CAPS.threads
+  pub mappings : caps.mappings ≤ GREATEST_CAPS.mappings
 
 -- memory has the size of its groups, of which there are at most 16, and the capacities are bounded
 pub record IsSized (machine : Option Machine) (memory : List ℕ) : Type 0 where
@@ -28,13 +29,13 @@ pub record IsSized (machine : Option Machine) (memory : List ℕ) : Type 0 where
 -- there are at most 1,024 kernels, of which the first alone may lock kernels, and the locks that they are granted leave
 -- room in the caches
 pub record AreKernels (machine : Option Machine) (kernels : List FlatKernel) : Type 0 where
-  pub few : length kernels ≤ 1024
+  pub few : length kernels ≤ MOST_DECLARED.kernels
   pub locking : (n : ℕ) (k : FlatKernel) → slice_get kernels n ≡ Some k → may_lock_kernels n k.limits ≡ true
   pub locks : 0 < length kernels → ((locks_granted kernels).kernels + 5 ≤ (caps_of machine).kernels) × ((locks_granted kernels).spaces + 5 ≤ (caps_of machine).spaces) × ((locks_granted kernels).threads + 5 ≤ (caps_of machine).threads) × ((locks_granted kernels).mappings + 6 ≤ (caps_of machine).mappings)
 
 -- there are at most 4,096 spaces, each of a kernel that is declared
 pub record AreSpaces (kernels : List FlatKernel) (spaces : List KernelNo) : Type 0 where
-  pub few : length spaces ≤ 4096
+  pub few : length spaces ≤ MOST_DECLARED.spaces
   pub owned : (n : ℕ) (kernel : KernelNo) → slice_get spaces n ≡ Some kernel → kernel.0 < length kernels
 
 -- a thread has its place as its number, a space that is declared, an aligned pc, one of 32 priorities, and a queue that
@@ -47,7 +48,7 @@ pub record IsThread (spaces : List KernelNo) (n : ℕ) (t : FlatThread) : Type 0
   pub queued : length t.queue.items ≤ 64
 
 pub record AreThreads (spaces : List KernelNo) (threads : List FlatThread) : Type 0 where
-  pub few : length threads ≤ 16384
+  pub few : length threads ≤ MOST_DECLARED.threads
   pub each : (n : ℕ) (t : FlatThread) → slice_get threads n ≡ Some t → IsThread spaces n t
 
 -- a row is one that could be declared
@@ -61,7 +62,7 @@ pub record IsRow (machine : Option Machine) (spaces : List KernelNo) (threads : 
 
 -- no page has two rows, and no frame more than four signal rows
 pub record AreRows (machine : Option Machine) (spaces : List KernelNo) (threads : List FlatThread) (rows : List Row) : Type 0 where
-  pub few : length rows ≤ 262144
+  pub few : length rows ≤ MOST_DECLARED.mappings
   pub each : (row : Row) → Contains rows row → IsRow machine spaces threads row
   pub single : HasOneRowAPage rows
   pub signals : (frame : Frame) → count_by (is_signal_row_of frame) rows ≤ 4

@@ -3,6 +3,22 @@
 use cache_ident::{Caps, Frame, KernelNo, SpaceNo, ThreadNo, Vpn};
 use phys_groups::Flags;
 
+/// The greatest capacities that a machine's caches can have.
+pub const GREATEST_CAPS: Caps = Caps {
+    kernels: 16,
+    spaces: 64,
+    threads: 256,
+    mappings: 65_536,
+};
+
+/// The most that can be declared of each kind.
+pub const MOST_DECLARED: Caps = Caps {
+    kernels: 1_024,
+    spaces: 4_096,
+    threads: 16_384,
+    mappings: 262_144,
+};
+
 /// How much memory a machine has, and how much its caches hold.
 #[derive(Clone, Copy, PartialEq, Eq, Debug)]
 pub struct Machine {

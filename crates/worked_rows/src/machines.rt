@@ -1,20 +1,13 @@
 //! Machines made of declarations, and a plain scheduler for them.
 
 use cache_ident::{Caps, Frame, KernelNo, SpaceNo, ThreadNo, Vpn};
-use flat_machine::{Decl, Event, Flat, Machine, Settled};
+use flat_machine::{Decl, Event, Flat, GREATEST_CAPS, Machine, Settled};
 use phys_groups::{Flags, Row};
 use rv32_asm::assemble;
 use rv32_exec::Status;
 use std::alloc::Global;
 use std::process::Abort;
 use std::test::Fail;
-
-const GREATEST: Caps = Caps {
-    kernels: 16,
-    spaces: 64,
-    threads: 256,
-    mappings: 65_536,
-};
 
 pub(crate) fn flags(text: &str) -> Flags {
     Flags {
@@ -29,7 +22,7 @@ pub(crate) fn machine(groups: u32) -> Decl {
     Decl::Machine {
         machine: Machine {
             groups,
-            caps: GREATEST,
+            caps: GREATEST_CAPS,
         },
     }
 }
