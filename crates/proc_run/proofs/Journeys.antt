@@ -94,7 +94,7 @@ machine_first (decls.Kernel n limits ∷ ds) rest some fit = some_is_none 5 _ fi
 machine_first (decls.Right kernel group read write ∷ ds) rest some fit = some_is_none 5 _ fit.0
 machine_first (decls.Space n kernel ∷ ds) rest some fit = some_is_none 5 _ fit.0
 machine_first (decls.Thread n space pc priority a0 a1 ∷ ds) rest some fit = some_is_none 5 _ fit.0
-machine_first (decls.Map space vpn frame flags receiver ∷ ds) rest some fit = some_is_none 5 _ fit.0
+machine_first (decls.Map space vpn frame flags receiver ∷ ds) rest some fit = some_is_none _ _ fit.0
 machine_first (decls.Word frame offset value ∷ ds) rest some fit = some_is_none 5 _ fit.0
 
 -- a run goes on from the seal to its end
