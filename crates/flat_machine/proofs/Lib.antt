@@ -1,9 +1,3 @@
-pub mod DeclareSound
-pub mod CallSound
-pub mod CallEnds
-pub mod FlatLaws
-pub mod Missing
-pub mod Looks
-pub mod Settling
-pub mod RunLaws
-pub mod SendLaws
+mod DeclareSound
+mod ChangeSound
+mod PlainLaws

@@ -1,4 +1,1 @@
 pub mod Readings
-pub mod Calls
-pub mod Looking
-pub mod Settling

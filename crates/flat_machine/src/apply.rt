@@ -9,6 +9,7 @@ use crate::NoMemory;
 use crate::flat::Flat;
 use arrayvec::ArrayVec;
 use cache_ident::{Caps, Frame, KernelNo, SpaceNo, ThreadNo, Vpn};
+use flat_events::{complete, step};
 use flat_state::{Decl, Event, FlatKernel, FlatThread, Machine};
 use phys_groups::{Flags, Memory, Rights, Row};
 use rv32_exec::{Context, Output, Status};
@@ -33,19 +34,19 @@ impl Flat {
     {
         match *event {
             Event::Declare(decl) => match self.admit(&decl) {
-                Ok(()) => self.declare(&decl),
+                Ok(()) => self.add(&decl),
                 Err(_) => Ok(()),
             },
             Event::Step(no) => {
-                self.step(no);
+                step(self, no);
                 Ok(())
             }
-            Event::Complete(no) => self.complete(no),
+            Event::Complete(no) => complete(self, no),
         }
     }
 
     // Makes a declaration that breaks no rule.
-    pub(crate) fn declare(&mut self, decl: &Decl) -> Result<(), NoMemory>
+    pub(crate) fn add(&mut self, decl: &Decl) -> Result<(), NoMemory>
         requires { broken_rule self.old decl.now ≡ None }
         ensures ok { OnOk result (self.new ≡ declared self.old decl.now) }
         ensures err { OnErr result (self.new ≡ self.old) }

@@ -1,18 +1,20 @@
 //! The machine and what can be read off it.
 
-ghost use Rattle.std.specs.Prelude.{◌≡◌, ◌<◌, ◌^◌, length, slice_get};
+ghost use Rattle.std.specs.Prelude.{◌≡◌, ◌<◌, ◌^◌, None, Some, MatchResult, length, slice_get};
 ghost use Rattle.std.specs.Option.{option_copied, option_map};
 ghost use Rattle.phys_groups.specs.Translation.{row_of};
 ghost use Rattle.flat_state.specs.State.{nothing_declared};
-ghost use Rattle.flat_state.specs.Translation.{is_fit_row as is_fit_row_def, rights_of as rights_of_def};
+ghost use Rattle.flat_state.specs.Declaration.{broken_rule};
+ghost use Rattle.flat_state.specs.Dependence.{parents as parents_def};
+ghost use Rattle.flat_state.specs.NextSteps.{next_step as next_step_def};
 ghost use Rattle.flat_state.specs.Settling.{settled_of};
-ghost use Rattle.flat_machine.specs.Readings.{is_fit_page};
+ghost use Rattle.flat_rules.specs.Readings.{is_fit_page};
 
-use cache_ident::{Caps, KernelNo, SpaceNo, ThreadNo, Vpn};
-use flat_state::{FlatKernel, FlatThread, Machine, Settled};
-use phys_groups::{Memory, Rights, Row};
+use arrayvec::ArrayVec;
+use cache_ident::{Caps, KernelNo, Name, SpaceNo, ThreadNo, Vpn};
+use flat_state::{Decl, FlatKernel, FlatThread, Machine, NextStep, Settled};
+use phys_groups::{Memory, Row};
 use row_table::{RowTable, Rows};
-use rv32_exec::Status;
 use std::alloc::Global;
 use std::marker::Model;
 
@@ -127,48 +129,41 @@ impl Flat {
     pub fn is_fit(&self, space: SpaceNo, vpn: Vpn) -> bool
         ensures { result ≡ is_fit_page self.now (row_of self.now.rows space vpn.0) }
     {
-        match self.rows.get(space, vpn) {
-            Some(row) => self.is_fit_row(row),
-            None => false,
-        }
+        flat_rules::is_fit(self, space, vpn)
     }
 
     /// Whether a run of so many steps is over, at that limit. It goes over the threads once at most, and no further
     /// than to one that can go on. Of each it looks at the status, of one that is ready at the next step, and of one
     /// in a call at the queue.
-    #[tactic(auto, unfolding(flat_state::specs::Settling::settled_of))]
     pub fn settled(&self, steps: u64, limit: u64) -> Settled
         ensures { result ≡ settled_of self.now steps limit }
     {
-        // How the run stands as far as the threads before go: as the least settled of them.
-        let mut settled = Settled::Done;
-        for at in 0..self.threads() {
-            match self.settled_by(self.thread_at(at as usize), steps == limit) {
-                Settled::Done => {}
-                Settled::Stalled if matches!(settled, Settled::Done) => settled = Settled::Stalled,
-                Settled::Stalled => {}
-                Settled::Spent => settled = Settled::Spent,
-                Settled::Running => return Settled::Running,
-            }
-        }
-        settled
+        flat_rules::settled(self, steps, limit)
     }
 
-    // The rights of the kernel that owns a space.
-    pub(crate) fn rights_of(&self, space: SpaceNo) -> Rights
-        requires { space.0 < length self.now.spaces }
-        ensures { result ≡ rights_of_def self.now space }
+    /// What can be said of a thread's next step, and none where there is no such thread. It costs the logarithm of
+    /// the rows.
+    pub fn next_step(&self, no: ThreadNo) -> Option<NextStep>
+        ensures { result ≡ next_step_def self.now no.0 }
     {
-        let kernel = self.spaces[space.0 as usize];
-        self.kernels[kernel.0 as usize].rights
+        flat_rules::next_step(self, no)
     }
 
-    // Whether the rights of the row's kernel cover its flags on its frame.
-    pub(crate) fn is_fit_row(&self, row: &Row) -> bool
-        requires space { row.now.space.0 < length self.now.spaces }
-        requires frame { row.now.frame.0 < 2048 }
-        ensures { result ≡ is_fit_row_def self.now row.now }
+    /// What a descriptor depends on: a space on its kernel, a thread on its space, a row on its space and on its
+    /// receiver, if it has one, and a message row also on each fit signal row of its frame. They come in this order,
+    /// and signal rows in declared order. A kernel depends on nothing, and there is nothing for what isn't there. It
+    /// costs the logarithm of the rows.
+    pub fn parents(&self, child: Name) -> ArrayVec<Name, 6>
+        ensures { result.items ≡ parents_def self.now child }
     {
-        self.rights_of(row.space).covers(row.frame, row.flags)
+        flat_rules::parents(self, child)
+    }
+
+    /// Whether the declaration breaks a rule, and which one it breaks first, as `flat_rules::admit` has them. It costs
+    /// the logarithm of the rows.
+    pub fn admit(&self, decl: &Decl) -> Result<(), u32>
+        ensures { MatchResult result (λ _. broken_rule self.now decl.now ≡ None) (λ rule. broken_rule self.now decl.now ≡ Some rule) }
+    {
+        flat_rules::admit(self, decl)
     }
 }

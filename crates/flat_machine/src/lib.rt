@@ -1,16 +1,14 @@
-//! The plain program of the machine with unlimited tables: memory, kernels, spaces, rows and threads in declared
-//! order, and the events that change them. What it does is what the definitions of `flat_state` say.
+//! The machine with unlimited tables as a plain program: memory, kernels, spaces, rows and threads in declared order, and
+//! the events that change them. What it does is what the definitions of `flat_state` say, by the rules of `flat_rules` and
+//! `flat_events` over its tables.
 #![tactic(auto)]
 
-mod admit;
 mod apply;
-mod calls;
-mod depends;
+mod changes;
 mod flat;
-mod look;
-mod signals;
-mod steps;
-mod threads;
+#[cfg(test)]
+mod plain;
+mod records;
 
 pub use cache_ident::NoMemory;
 pub use flat::Flat;

@@ -1,4 +1,2 @@
 pub mod Marking
-pub mod Places
-pub mod Reaching
 pub mod MmuLaws

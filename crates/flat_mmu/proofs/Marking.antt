@@ -5,7 +5,6 @@ use Rattle.std.proofs.Math.Path.{fun_ext}
 use Rattle.std.proofs.lemmas.Bool.{and_parts, cases_Bool}
 use Rattle.cache_ident.specs.declared.names.Frame.{Frame}
 use Rattle.cache_ident.specs.declared.names.SpaceNo.{SpaceNo}
-use Rattle.cache_ident.specs.declared.names.Vpn.{Vpn}
 use Rattle.phys_groups.specs.declared.rows.Row.{Row}
 use Rattle.phys_groups.specs.Memory.{page_at}
 use Rattle.phys_groups.specs.Translation.{is_row_of}
@@ -14,7 +13,7 @@ use Rattle.rv32_exec.specs.declared.statuses.Access.TheVariants.{Fetch, Read, Wr
 use Rattle.rv32_exec.specs.Pages.{Page, mark, mark_page}
 use Rattle.flat_state.specs.Pages.{is_in, page_of, pages_in}
 use Rattle.flat_state.specs.Rest.{is_mapped, rest_of, unmarked}
-use Rattle.row_table.specs.Rows.{marked}
+use Rattle.phys_groups.specs.Rows.{marked}
 use Rattle.flat_mmu.specs.Seen.{writes}
 
 or_false : (b : Bool) → (b || false) ≡ b
@@ -76,22 +75,10 @@ module _ (space : SpaceNo) (n : ℕ) where
   unmarked-map w [] = refl
   unmarked-map w (row ∷ rows) = ap₂ (λ (r : Row) (rs : List Row). r ∷ rs) (unmarked-marked w row) (unmarked-map w rows)
 
-  pub marked-frame : (w : Bool) (row : Row) → (marked space n w row).frame ≡ row.frame
+  marked-frame : (w : Bool) (row : Row) → (marked space n w row).frame ≡ row.frame
   marked-frame w row = elim (cases_Bool (is_row_of space n row)) [ inl own ↦ ap (λ (r : Row). r.frame) (marked-row w row own) | inr other ↦ ap (λ (r : Row). r.frame) (marked-other w row other) ]
 
-  marked-page : (w : Bool) (row : Row) → ((marked space n w row).space ≡ row.space) × ((marked space n w row).vpn ≡ row.vpn)
-  marked-page w row = elim (cases_Bool (is_row_of space n row)) [
-    | inl own ↦ (ap (λ (r : Row). r.space) (marked-row w row own), ap (λ (r : Row). r.vpn) (marked-row w row own))
-    | inr other ↦ (ap (λ (r : Row). r.space) (marked-other w row other), ap (λ (r : Row). r.vpn) (marked-other w row other))
-  ]
-
-  -- marks leave each row at its page
-  pub marked-same : (w : Bool) (a b : Row) → is_row_of (marked space n w a).space (marked space n w a).vpn.0 (marked space n w b) ≡ is_row_of a.space a.vpn.0 b
-  marked-same w a b =
-      ap₂ (λ (s : SpaceNo) (v : Vpn). is_row_of s v.0 (marked space n w b)) (marked-page w a).0 (marked-page w a).1
-      ∙ ap₂ (λ (s : SpaceNo) (v : Vpn). eqb s.0 a.space.0 && eqb v.0 a.vpn.0) (marked-page w b).0 (marked-page w b).1
-
-  pub mapped-marked : (w : Bool) (rows : List Row) (f : Frame) → is_mapped (map (marked space n w) rows) space f ≡ is_mapped rows space f
+  mapped-marked : (w : Bool) (rows : List Row) (f : Frame) → is_mapped (map (marked space n w) rows) space f ≡ is_mapped rows space f
   mapped-marked w [] f = refl
   mapped-marked w (row ∷ rows) f = ap₂ (λ (a b : Bool). a || b) (ap₂ (λ (a : Bool) (g : Frame). a && eqb g.0 f.0) (marked-space w row) (marked-frame w row)) (mapped-marked w rows f)
 

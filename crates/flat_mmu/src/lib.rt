@@ -3,9 +3,5 @@
 #![tactic(auto)]
 
 mod mmu;
-#[cfg(test)]
-mod tests;
-mod translation;
 
 pub use mmu::Mmu;
-pub use translation::reach;

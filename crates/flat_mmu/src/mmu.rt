@@ -1,99 +1,59 @@
 //! Memory and rows as the threads of one space see them.
 
 ghost use Rattle.std.specs.Prelude.{◌≡◌, ◌%◌, ◌<◌, IfSome};
-ghost use Rattle.phys_groups.specs.Translation.{place_in as place_in_lem};
-ghost use Rattle.rv32_exec.specs.Pages.{number_at, put_bytes, size_of};
-ghost use Rattle.flat_state.specs.Rest.{Rest};
-ghost use Rattle.flat_mmu.specs.Seen.{IsInMemory, IsMapped, pages_seen, rest_seen, seen_row, writes as writes_lem};
+ghost use Rattle.phys_groups.specs.Translation.{place_in as place_in_def};
+ghost use Rattle.rv32_exec.specs.Pages.{number_at, size_of};
+ghost use Rattle.flat_state.specs.Pages.{pages_of};
+ghost use Rattle.flat_rules.specs.Readings.{IsInMemory};
+ghost use Rattle.flat_mmu.specs.Seen.{Beside, beside, seen, seen_row, writes as writes_def};
 
-use crate::translation::reach;
 use cache_ident::{Frame, SpaceNo, Vpn};
-use phys_groups::{Memory, Rights, Row};
-use row_table::RowTable;
+use flat_rules::{Changes, Records, reached};
+use phys_groups::Row;
 use rv32_exec::{Access, Hole, Space, Width};
 use rv32_isa::{Instr, decode};
-use std::marker::Model;
 
-/// Memory and rows, held for a step in one space.
+/// A machine's memory and rows, for a step in one space.
 ///
 /// The pages of the space are its rows. An access goes through the row of its page, where that row has the flag of the
 /// access and is fit, to the row's frame; two rows of one frame see each other's stores. Every other access is a hole,
-/// and changes nothing. No call takes memory, and an access costs the logarithm of the rows.
+/// and changes nothing. No call takes memory, and an access costs a look at its row.
 #[derive(Drop)]
-pub struct Mmu {
-    memory: Memory,
-    rows: RowTable,
-    // Of the kernel that owns the space.
-    rights: Rights,
+pub struct Mmu<'a, T> {
+    tables: &'a mut T,
     space: SpaceNo,
 }
 
-impl Model for Mmu {
-    ghost use Rattle.flat_mmu.specs.Seen.{IsMapped, Seen};
-
-    ghost Value = { Seen };
-
-    ghost view = { λ m. record { memory = m.memory; rows = m.rows; rights = m.rights; space = m.space } };
-
-    ghost invariant = { λ m. IsMapped m.memory m.rows };
-}
-
-impl Mmu {
-    /// Memory and rows for the threads of a space, whose kernel has these rights. Constant time.
-    pub fn new(memory: Memory, rows: RowTable, rights: Rights, space: SpaceNo) -> Mmu
-        requires { IsMapped memory rows }
-        ensures { result ≡ record { memory = memory; rows = rows; rights = rights; space = space } }
+impl<'a, T: Changes> Mmu<'a, T> {
+    /// The memory and the rows of these tables for the threads of a space.
+    pub fn new(tables: &'a mut T, space: SpaceNo) -> Mmu<'a, T>
+        ensures same_tables { result.tables.ghost_name ≡ tables.entry.ghost_name }
+        ensures as_they_are { result.tables.now ≡ tables.old }
+        ensures space { result.space ≡ space }
     {
-        Mmu {
-            memory,
-            rows,
-            rights,
-            space,
-        }
-    }
-
-    /// Memory and rows as the accesses left them. Constant time.
-    pub fn into_parts(self) -> (Memory, RowTable)
-        ensures parts { result ≡ (self.memory, self.rows) }
-        ensures mapped { IsMapped self.memory self.rows }
-    {
-        let Mmu { memory, rows, .. } = self;
-        (memory, rows)
+        Mmu { tables, space }
     }
 
     // The row that an access goes through. Its frame is in memory.
     fn translate(&self, access: Access, va: u32) -> Option<Row>
-        ensures row { result ≡ seen_row self.now access va }
-        ensures in_memory { IfSome result (λ row. IsInMemory self.now.memory row.frame) }
+        ensures row { result ≡ seen_row (seen (T.state self.now.tables.now) self.now.space) access va }
+        ensures in_memory { IfSome result (λ row. IsInMemory (T.state self.now.tables.now).memory row.frame) }
     {
-        reach(&self.rights, &self.rows, self.space, access, va).ok()
+        reached(&*self.tables, access, self.space, va).ok()
     }
 
     // The number at an address of the row's page.
     fn number(&self, row: &Row, va: u32, width: Width) -> u32
-        requires in_memory { IsInMemory self.now.memory row.now.frame }
+        requires in_memory { IsInMemory (T.state self.now.tables.now).memory row.now.frame }
         requires aligned { va % size_of width ≡ 0 }
-        ensures { result ≡ number_at width self.now.memory (place_in_lem row.now.frame va) }
+        ensures { result ≡ number_at width (T.state self.now.tables.now).memory (place_in_def row.now.frame va) }
     {
         let at = place_in(row.frame, va);
+        let memory = self.tables.memory();
         match width {
-            Width::Byte => u32::from(self.memory.byte(at)),
-            Width::Half => u32::from(self.memory.half(at)),
-            Width::Word => self.memory.word(at),
-        }
-    }
-
-    // Puts the low bytes of a number at an address of the row's page.
-    fn put(&mut self, row: &Row, va: u32, width: Width, value: u32)
-        requires in_memory { IsInMemory self.old.memory row.now.frame }
-        requires aligned { va % size_of width ≡ 0 }
-        ensures { self.new ≡ record self.old { memory = put_bytes (size_of width) self.old.memory (place_in_lem row.now.frame va) value } }
-    {
-        let at = place_in(row.frame, va);
-        match width {
-            Width::Byte => self.memory.store_byte(at, (value % 256) as u8),
-            Width::Half => self.memory.store_half(at, (value % 65_536) as u16),
-            Width::Word => self.memory.store_word(at, value),
+            Width::Byte => u32::from(memory.byte(at)),
+            Width::Half => u32::from(memory.half(at)),
+            Width::Word => memory.word(at),
         }
     }
 }
@@ -101,24 +61,25 @@ impl Mmu {
 // The place in memory of an address whose page is mapped to that frame.
 fn place_in(frame: Frame, va: u32) -> u32
     requires { frame.0 < 2048 }
-    ensures { result ≡ place_in_lem frame va }
+    ensures { result ≡ place_in_def frame va }
 {
     frame.0 * 4_096 + va % 4_096
 }
 
 // Whether the access leaves the mark of a store.
 fn writes(access: Access) -> bool
-    ensures { result ≡ writes_lem access }
+    ensures { result ≡ writes_def access }
 {
     matches!(access, Access::Write)
 }
 
-impl Space for Mmu {
-    ghost pages = { pages_seen };
+impl<'a, T: Changes> Space for Mmu<'a, T> {
+    ghost pages = { λ m. pages_of (T.state m.tables.now) m.space };
 
-    ghost Kept = { Rest };
+    // The tables of before are those of after, and but for the pages they are as they were.
+    ghost Kept = { Beside };
 
-    ghost kept = { rest_seen };
+    ghost kept = { λ m. beside (T.state m.tables.now) m.space m.tables.ghost_name };
 
     fn fetch(&self, va: u32) -> Result<u32, Hole> {
         match self.translate(Access::Fetch, va) {
@@ -141,7 +102,7 @@ impl Space for Mmu {
     fn store(&mut self, va: u32, width: Width, value: u32) -> Result<(), Hole> {
         match self.translate(Access::Write, va) {
             Some(row) => {
-                self.put(&row, va, width, value);
+                self.tables.store(place_in(row.frame, va), width, value);
                 Ok(())
             }
             None => Err(Hole),
@@ -149,6 +110,6 @@ impl Space for Mmu {
     }
 
     fn touch(&mut self, va: u32, access: Access) {
-        self.rows.mark(self.space, Vpn(va / 4_096), writes(access));
+        self.tables.mark(self.space, Vpn(va / 4_096), writes(access));
     }
 }

@@ -5,6 +5,7 @@ use Rattle.arrayvec.specs.ArrayVec.{ArrayVec}
 use Rattle.cache_ident.specs.declared.names.ThreadNo.{ThreadNo}
 use Rattle.rv32_exec.specs.declared.contexts.Context.{Context}
 use Rattle.rv32_exec.specs.declared.statuses.Reason.{Reason}
+use Rattle.rv32_exec.specs.declared.statuses.Status.{Status}
 use Rattle.rv32_exec.specs.declared.statuses.Status.TheVariants.{Ready}
 use Rattle.fault_forward.specs.declared.effects.Effect.{Effect}
 use Rattle.fault_forward.specs.declared.effects.Effect.TheVariants as effects
@@ -50,9 +51,9 @@ queue_stays t q e other = elim (leaves_rest t.no t.context t.queue.items) [
 ]
 
 -- the thread as its call leaves it, from its parts
-pub carried : (t : FlatThread) (context : Context) (q : ArrayVec ℕ) (output written : List ℕ) → context ≡ (call_of t).context → q.items ≡ (call_of t).queue → output ≡ written → ◌≡◌ {A = FlatThread} (record t { context = context; status = Ready; queue = q; output = output }) (record (resumed t (call_of t)) { output = written })
-carried t context q output written same_context same_items same_output =
-    rw (same_context, same_queue q _ same_items, same_output) refl
+pub carried : (t : FlatThread) (context : Context) (status : Status) (q : ArrayVec ℕ) (output written : List ℕ) → context ≡ (call_of t).context → status ≡ Ready → q.items ≡ (call_of t).queue → output ≡ written → ◌≡◌ {A = FlatThread} (record t { context = context; status = status; queue = q; output = output }) (record (resumed t (call_of t)) { output = written })
+carried t context status q output written same_context goes_on same_items same_output =
+    rw (same_context, goes_on, same_queue q _ same_items, same_output) refl
 
 -- a call whose effect is the machine's leaves its thread
 pub left_over : (t : FlatThread) (x : Completion) (effect : Effect) → (effect ≡ effects.Ready → ⊥) → ((byte : ℕ) → effect ≡ effects.Put byte → ⊥) → ((number : ℕ) → effect ≡ effects.Decimal number → ⊥) → ((reason : Reason) → effect ≡ effects.End reason → ⊥) → own_part_so t x effect ≡ t

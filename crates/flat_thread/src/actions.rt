@@ -4,8 +4,8 @@ ghost use Rattle.std.specs.Prelude.{◌≡◌};
 ghost use Rattle.std.specs.Option.{option_map};
 ghost use Rattle.rv32_isa.specs.Table.{instruction_of};
 ghost use Rattle.rv32_exec.specs.Actions.{action_of};
-ghost use Rattle.flat_state.specs.NextSteps.{data_access as data_access_lem};
-ghost use Rattle.flat_thread.specs.Actions.{stored_word as stored_word_lem};
+ghost use Rattle.flat_state.specs.NextSteps.{data_access as data_access_def};
+ghost use Rattle.flat_thread.specs.Actions.{stored_word as stored_word_def};
 
 use flat_state::DataAccess;
 use rv32_exec::{Access, Action, Context, Width, action_for};
@@ -24,7 +24,7 @@ pub fn action_for_word(context: &Context, word: u32) -> Option<Action>
 /// The first access to data that an action makes. An atomic one reads before it writes. Where the width doesn't divide
 /// the address it makes none.
 pub fn data_access(action: Action) -> Option<DataAccess>
-    ensures { result ≡ data_access_lem action }
+    ensures { result ≡ data_access_def action }
 {
     let (access, va, size) = match action {
         Action::Load { va, width, .. } => (Access::Read, va, width.size()),
@@ -41,7 +41,7 @@ pub fn data_access(action: Action) -> Option<DataAccess>
 
 /// The address of an action that stores a word. An atomic operation is no store.
 pub fn stored_word(action: Action) -> Option<u32>
-    ensures { result ≡ stored_word_lem action }
+    ensures { result ≡ stored_word_def action }
 {
     match action {
         Action::Store { va, width, .. } => match width {

@@ -1,60 +1,81 @@
-//! What a call does to the thread that is in it.
+//! What a call does to the thread that is in it, and how a thread gets an answer or a signal.
+//!
+//! A thread is taken by its parts, so that whoever keeps it may keep it in a record of their own.
 
-ghost use Rattle.std.specs.Prelude.{◌≡◌, ◌++◌, true, IfOk, OnOk, OnErr};
+ghost use Rattle.std.specs.Prelude.{◌≡◌, ◌<◌, ◌++◌, false, IfOk, OnOk, OnErr, length};
 ghost use Rattle.std.specs.Fmt.{decimal};
 ghost use Rattle.rv32_exec.specs.declared.statuses.Status.TheVariants.{Ready};
-ghost use Rattle.flat_state.specs.Call.{answered, is_completable};
-ghost use Rattle.flat_thread.specs.Calls.{call_of, own_part};
+ghost use Rattle.fault_forward.specs.Calls.{IsCompletable, completion_of, with_answer};
+ghost use Rattle.flat_state.specs.State.{is_ended};
+ghost use Rattle.flat_thread.specs.Calls.{Keeps, Leaves, queue_with};
 
-use cache_ident::NoMemory;
+use arrayvec::ArrayVec;
+use cache_ident::{NoMemory, ThreadNo};
 use fault_forward::{Effect, effect};
-use flat_state::FlatThread;
 use rv32_exec::{Context, Output, Status};
 
 /// The thread goes on with an answer in a0. Constant time.
-pub fn answer(thread: &mut FlatThread, answer: u32)
-    ensures { thread.new ≡ answered thread.old answer }
+pub fn answer(context: &mut Context, status: &mut Status, answer: u32)
+    ensures context { context.new ≡ with_answer context.old answer }
+    ensures status { status.new ≡ Ready }
 {
-    thread.context.regs[10] = answer;
-    thread.status = Status::Ready;
+    context.regs[10] = answer;
+    *status = Status::Ready;
 }
 
-/// Does what a call does to its thread alone, and answers what the call brings about. For want of memory nothing
-/// happens.
+/// Appends the address of a signal to the queue of a thread that does that, unless the thread has ended. Constant time.
+pub fn give(status: Status, queue: &mut ArrayVec<u32, 64>, va: u32)
+    requires { is_ended status ≡ false → length queue.old.items < 64 }
+    ensures { queue.new ≡ queue_with va status queue.old }
+{
+    if !matches!(status, Status::Ended(_)) {
+        queue.push(va);
+    }
+}
+
+/// Does what a call does to the thread of that number alone, and answers what the call brings about. For want of memory
+/// nothing happens.
 ///
 /// A call that is the thread's alone is done with: the thread goes on, or has ended. One that asks for a row, a thread or
 /// rights leaves the thread as it is, in its call, for the caller to answer. Constant time, but that the output may have
 /// to grow.
-pub fn carry_out(thread: &mut FlatThread) -> Result<Effect, NoMemory>
-    requires { is_completable thread.old ≡ true }
-    ensures effect { IfOk result (λ effect. effect ≡ (call_of thread.old).effect) }
-    ensures ok { OnOk result (thread.new ≡ own_part thread.old) }
-    ensures err { OnErr result (thread.new ≡ thread.old) }
+pub fn carry_out(
+    no: ThreadNo,
+    context: &mut Context,
+    status: &mut Status,
+    queue: &mut ArrayVec<u32, 64>,
+    output: &mut Output,
+) -> Result<Effect, NoMemory>
+    requires { IsCompletable context.old queue.old.items }
+    ensures effect { IfOk result (λ effect. effect ≡ (completion_of no context.old queue.old.items).effect) }
+    ensures ok { OnOk result (Leaves no context.old status.old queue.old output.old context.new status.new queue.new output.new) }
+    ensures err { OnErr result (Keeps context.old status.old queue.old output.old context.new status.new queue.new output.new) }
 {
-    let mut context = thread.context;
-    let effect = effect(thread.no, &mut context, &mut thread.queue);
+    let mut left = *context;
+    let effect = effect(no, &mut left, queue);
     match effect {
-        Effect::Ready => resume(thread, context),
+        Effect::Ready => resume(context, status, left),
         Effect::Put(byte) => {
-            thread.output.append(&[byte])?;
-            resume(thread, context);
+            output.append(&[byte])?;
+            resume(context, status, left);
         }
         Effect::Decimal(number) => {
-            put_decimal(&mut thread.output, number)?;
-            resume(thread, context);
+            put_decimal(output, number)?;
+            resume(context, status, left);
         }
-        Effect::End(reason) => thread.status = Status::Ended(reason),
+        Effect::End(reason) => *status = Status::Ended(reason),
         _ => {}
     }
     Ok(effect)
 }
 
 // The thread goes on as its completed call leaves its context.
-fn resume(thread: &mut FlatThread, context: Context)
-    ensures { thread.new ≡ record thread.old { context = context; status = Ready } }
+fn resume(context: &mut Context, status: &mut Status, left: Context)
+    ensures context { context.new ≡ left }
+    ensures status { status.new ≡ Ready }
 {
-    thread.context = context;
-    thread.status = Status::Ready;
+    *context = left;
+    *status = Status::Ready;
 }
 
 // Appends a number in decimal.

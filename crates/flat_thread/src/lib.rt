@@ -9,5 +9,5 @@ mod numbers;
 mod tests;
 
 pub use actions::{action_for_word, data_access, stored_word};
-pub use calls::{answer, carry_out};
+pub use calls::{answer, carry_out, give};
 pub use numbers::{are_flags, bit, flags_of, receiver_of, refusal};

@@ -1,14 +1,15 @@
 //! Calls, their numbers, and what instructions ask for.
 
-ghost use Rattle.std.specs.Prelude.{◌≡◌, ◌≢◌, true};
-ghost use Rattle.flat_state.specs.Call.{is_completable};
+ghost use Rattle.std.specs.Prelude.{◌≡◌, ◌≢◌};
+ghost use Rattle.fault_forward.specs.Calls.{call_number};
 
 use crate::{
-    action_for_word, answer, are_flags, bit, carry_out, data_access, flags_of, receiver_of,
+    action_for_word, answer, are_flags, bit, carry_out, data_access, flags_of, give,
+    receiver_of,
     refusal, stored_word,
 };
 use arrayvec::ArrayVec;
-use cache_ident::{SpaceNo, ThreadNo};
+use cache_ident::{NoMemory, SpaceNo, ThreadNo};
 use fault_forward::Effect;
 use flat_state::FlatThread;
 use phys_groups::Flags;
@@ -19,7 +20,7 @@ use std::test::Fail;
 // A thread in a call that can be completed, with 0x141 in a0.
 fn in_call(alloc: Global, number: u32) -> FlatThread
     requires { number ≢ 3 }
-    ensures { is_completable result ≡ true }
+    ensures { call_number result.context ≢ 3 }
 {
     let mut regs = [0; 32];
     regs[10] = 0x141;
@@ -35,23 +36,44 @@ fn in_call(alloc: Global, number: u32) -> FlatThread
     }
 }
 
+// What the call of the thread brings about, once the thread's own part of it is done.
+fn done(thread: &mut FlatThread) -> Result<Effect, NoMemory>
+    requires { call_number thread.old.context ≢ 3 }
+{
+    carry_out(
+        thread.no,
+        &mut thread.context,
+        &mut thread.status,
+        &mut thread.queue,
+        &mut thread.output,
+    )
+}
+
+#[test]
+fn a_signal_goes_to_a_thread_that_goes_on(rt: HostRuntime) {
+    let mut queue = ArrayVec::new();
+    give(Status::Trapped, &mut queue, 60);
+    give(Status::Ended(Reason::Breakpoint), &mut queue, 124);
+    assert_eq!(rt; queue.as_slice(), [60].as_slice());
+}
+
 #[test]
 fn a_call_leaves_its_thread(rt: HostRuntime) -> Result<(), Fail> {
     let mut thread = in_call(rt.alloc(), 1);
-    assert_eq!(rt; carry_out(&mut thread)?, Effect::Put(0x41));
+    assert_eq!(rt; done(&mut thread)?, Effect::Put(0x41));
     assert_eq!(rt; thread.status, Status::Ready);
     assert_eq!(rt; thread.output.bytes(), b"A".as_slice());
     let mut thread = in_call(rt.alloc(), 2);
-    assert_eq!(rt; carry_out(&mut thread)?, Effect::Decimal(0x141));
+    assert_eq!(rt; done(&mut thread)?, Effect::Decimal(0x141));
     assert_eq!(rt; thread.output.bytes(), b"321".as_slice());
     let mut thread = in_call(rt.alloc(), 0);
     let exited = Reason::Exited { code: 0x141 };
-    assert_eq!(rt; carry_out(&mut thread)?, Effect::End(exited));
+    assert_eq!(rt; done(&mut thread)?, Effect::End(exited));
     assert_eq!(rt; thread.status, Status::Ended(exited));
     let mut thread = in_call(rt.alloc(), 7);
-    assert_eq!(rt; carry_out(&mut thread)?, Effect::Unmap { vpn: 0x141 });
+    assert_eq!(rt; done(&mut thread)?, Effect::Unmap { vpn: 0x141 });
     assert_eq!(rt; thread.status, Status::Trapped);
-    answer(&mut thread, refusal(1));
+    answer(&mut thread.context, &mut thread.status, refusal(1));
     assert_eq!(rt; thread.status, Status::Ready);
     assert_eq!(rt; thread.context.regs[10], 0xffff_ffff);
     Ok(())

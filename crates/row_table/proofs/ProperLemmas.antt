@@ -14,7 +14,8 @@ use Rattle.signal_pages.specs.Signals.{is_signal_row_of}
 use Rattle.phys_groups.specs.Translation.{is_row_of}
 use Rattle.row_table.specs.declared.pages.PageKey.{PageKey}
 use Rattle.row_table.specs.Pages.{is_of, key_of}
-use Rattle.row_table.specs.Rows.{marked, IsProper}
+use Rattle.phys_groups.specs.Rows.{marked}
+use Rattle.row_table.specs.Rows.{IsProper}
 use Rattle.row_table.specs.Stamps.{HaveOneRow}
 use Rattle.row_table.proofs.OnlyOne.{NonePass}
 use Rattle.row_table.proofs.PageLemmas.{is_row_of-flip}

@@ -13,7 +13,8 @@ use Rattle.signal_pages.specs.Signals.{is_signal_row_of}
 use Rattle.row_table.specs.declared.pages.PageKey.{PageKey}
 use Rattle.row_table.specs.declared.signals.SignalIndex.{SignalIndex}
 use Rattle.row_table.specs.Pages.{is_of, key_of}
-use Rattle.row_table.specs.Rows.{marked, IsProper}
+use Rattle.phys_groups.specs.Rows.{marked}
+use Rattle.row_table.specs.Rows.{IsProper}
 use Rattle.row_table.specs.SignalPages.{is_page, other_pages, pages_in, IsListed, IsSignalIndexOf, IsUnlisted}
 use Rattle.row_table.specs.Soundness.{IsSound}
 use Rattle.row_table.proofs.OnlyOne.{NonePass, filter-others, find-contained, find-passes}

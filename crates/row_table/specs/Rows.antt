@@ -1,18 +1,13 @@
 -- What a mark makes of the rows, and what holds of them.
-use Rattle.std.specs.Prelude.{ℕ, ◌≤◌, Bool, true, ◌||◌, if◌then◌else◌, List, count_by}
+use Rattle.std.specs.Prelude.{◌≤◌, Bool, List, count_by}
 use Rattle.cache_ident.specs.declared.names.Frame.{Frame}
-use Rattle.cache_ident.specs.declared.names.SpaceNo.{SpaceNo}
 use Rattle.phys_groups.specs.declared.rows.Row.{Row}
-use Rattle.phys_groups.specs.Translation.{is_row_of}
+use Rattle.phys_groups.specs.Rows.{marked}
 use Rattle.signal_pages.specs.Signals.{is_signal_row_of}
 use Rattle.row_table.specs.declared.pages.PageKey.{PageKey}
 use Rattle.row_table.specs.Stamps.{HaveOneRow}
 
--- a row once a step or a store has gone through the row of that page
-abbrev pub marked : SpaceNo → ℕ → Bool → Row → Row
-marked space vpn written row = if is_row_of space vpn row then record row { referenced = true; modified = row.modified || written } else row
-
--- the same of a page of a space
+-- a row once a step or a store has gone through the row of that page of a space
 abbrev pub marked_on : PageKey → Bool → Row → Row
 marked_on page = marked (record { 0 = page.space }) page.vpn
 

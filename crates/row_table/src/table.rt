@@ -4,7 +4,8 @@ ghost use Rattle.std.specs.Prelude.{◌≡◌, ◌<◌, ◌^◌, [], ◌∷◌, 
 ghost use Rattle.std.specs.Option.{option_copied};
 ghost use Rattle.phys_groups.specs.Translation.{row_of, without};
 ghost use Rattle.signal_pages.specs.Signals.{is_signal_row_of};
-ghost use Rattle.row_table.specs.Rows.{marked, IsProper};
+ghost use Rattle.phys_groups.specs.Rows.{marked};
+ghost use Rattle.row_table.specs.Rows.{IsProper};
 
 use super::iter::Rows;
 use super::pages::PageKey;

@@ -1,0 +1,112 @@
+-- What a completion's parts come to, and which rules its declaration may break.
+use Rattle.std.proofs.Common.{◌≡◌, ℕ, ◌<◌, ◌≤◌, Bool, true, false, not, List, [], ◌∷◌, filter, length, Option, Some, None, slice_get, refl, ap, subst, ◌∙◌, arith}
+use Rattle.std.specs.Prelude.{◌&&◌, ◌||◌, ◌==◌, nat_lt, is_some, find, if◌then◌else◌}
+use Rattle.std.proofs.lemmas.Bool.{and_parts, ltb-true}
+use Rattle.std.proofs.lemmas.List.{length_push}
+use Rattle.std.proofs.lemmas.Option.{same_Some}
+use Rattle.cache_ident.specs.declared.names.SpaceNo.{SpaceNo}
+use Rattle.phys_groups.specs.declared.rows.Row.{Row}
+use Rattle.phys_groups.specs.Translation.{is_row_of, row_of, without}
+use Rattle.flat_state.specs.declared.events.Decl.{Decl}
+use Rattle.flat_state.specs.declared.events.Decl.TheVariants as decls
+use Rattle.flat_state.specs.declared.events.Machine.{Machine}
+use Rattle.flat_state.specs.declared.records.FlatThread.{FlatThread}
+use Rattle.flat_state.specs.State.{FlatState, with_thread}
+use Rattle.flat_state.specs.Declaration.{breaks, broken_rule, declared, has_no_flag, new_thread, rule_by_machine, rule_of_first, rule_of_other}
+use Rattle.flat_state.specs.Call.{answered, made, mapped, mapping, refusal, unmapped}
+use Rattle.flat_state.proofs.Places.{get-append}
+use Rattle.flat_events.specs.Readings.{IsRule, rule_if_formed}
+
+not-not : (b : Bool) → not (not b) ≡ b
+not-not true = refl
+not-not false = refl
+
+-- a declaration for a call, from its parts
+pub mapped_from : (s : FlatState) (n : ℕ) (t : FlatThread) (d : Decl) (formed : Bool) (vpn frame bits receiver : ℕ) → d ≡ mapping t vpn frame bits receiver → formed ≡ not ((bits == 0) || nat_lt 15 bits) → made s n t d 0 (rule_if_formed s d formed) ≡ mapped s n t (mapping t vpn frame bits receiver) bits
+mapped_from s n t d formed vpn frame bits receiver same_decl same_form = rw (same_decl, same_form, not-not ((bits == 0) || nat_lt 15 bits)) refl
+
+-- where nothing passes a test, all pass its opposite
+all_kept : (p : Row → Bool) (xs : List Row) → is_some (find p xs) ≡ false → filter (λ x. not (p x)) xs ≡ xs
+all_kept p [] e = refl
+all_kept p (x ∷ xs) e = by (p x) (find p xs) (filter (λ y. not (p y)) xs) e (all_kept p xs)
+  where
+    by : (b : Bool) (later : Option Row) (kept : List Row) → is_some (if b then Some x else later) ≡ false → (is_some later ≡ false → kept ≡ xs) → (if not b then x ∷ kept else kept) ≡ x ∷ xs
+    by true later kept e rest = absurd (cc)
+    by false later kept e rest = ap (λ ys. x ∷ ys) (rest e)
+
+-- where there is no row of the page nothing but the answer comes of the call
+pub unmapped_none : (s r : FlatState) (n : ℕ) (t : FlatThread) (space : SpaceNo) (vpn value : ℕ) → space ≡ t.space → slice_get s.threads n ≡ Some t → is_some (row_of s.rows space vpn) ≡ false → r ≡ record s { rows = without space vpn s.rows } → value ≡ refusal 1 → (u : FlatState) → ((x : FlatThread) → slice_get r.threads n ≡ Some x → u ≡ with_thread r n (answered x value)) → u ≡ unmapped s n t vpn
+unmapped_none s r n t space vpn value same here none rows same_value u answer =
+    let kept = all_kept (is_row_of space vpn) s.rows none in
+    let there : slice_get r.threads n ≡ Some t = rw rows here in
+    answer t there ∙ rw (← same, none, rows, kept, same_value) refl
+
+-- a declaration leaves each thread in its place
+pub thread_stays : (s : FlatState) (d : Decl) (n : ℕ) (t : FlatThread) → slice_get s.threads n ≡ Some t → slice_get (declared s d).threads n ≡ Some t
+unfolding declared
+thread_stays s (decls.Machine machine) n t here = here
+thread_stays s (decls.Kernel number limits) n t here = here
+thread_stays s (decls.Right kernel group read write) n t here = here
+thread_stays s (decls.Space number kernel) n t here = here
+thread_stays s (decls.Thread number space pc priority a0 a1) n t here = get-append s.threads _ n t here
+thread_stays s (decls.Map space vpn frame flags receiver) n t here = here
+thread_stays s (decls.Word frame offset value) n t here = here
+
+-- so as many are there
+pub still_there : (s : FlatState) (d : Decl) (n : ℕ) → n < length s.threads → n < length (declared s d).threads
+unfolding declared
+still_there s (decls.Machine machine) n within = within
+still_there s (decls.Kernel number limits) n within = within
+still_there s (decls.Right kernel group read write) n within = within
+still_there s (decls.Space number kernel) n within = within
+still_there s (decls.Thread number space pc priority a0 a1) n within = let many = length_push s.threads (new_thread number space pc priority a0 a1) in omega (arith, many, within)
+still_there s (decls.Map space vpn frame flags receiver) n within = within
+still_there s (decls.Word frame offset value) n within = within
+
+-- the rule that is broken, if one is, has the number of a rule
+abbrev IsOfRules : Option ℕ → Type 0
+IsOfRules broken = (rule : ℕ) → broken ≡ Some rule → IsRule rule
+
+no_rule : IsOfRules None
+no_rule rule e = absurd (cc)
+
+one_rule : (number : ℕ) → (nat_lt 0 number && nat_lt number 20) ≡ true → IsOfRules (Some number)
+one_rule number e rule is =
+    let parts = and_parts (nat_lt 0 number) (nat_lt number 20) e in
+    subst IsRule (same_Some number rule is) (ltb-true 0 number parts.0, ltb-true number 20 parts.1)
+
+or_later : (test : Bool) (number : ℕ) (later : Option ℕ) → (nat_lt 0 number && nat_lt number 20) ≡ true → IsOfRules later → IsOfRules (breaks test number later)
+or_later true number later e rest = one_rule number e
+or_later false number later e rest = rest
+
+of_other : (s : FlatState) (d : Decl) → IsOfRules (rule_of_other s d)
+of_other s (decls.Machine machine) = one_rule 5 refl
+of_other s (decls.Kernel number limits) = or_later _ 8 _ refl (or_later _ 9 _ refl (or_later _ 10 _ refl (or_later _ 11 _ refl no_rule)))
+of_other s (decls.Right kernel group read write) = or_later _ 12 _ refl (or_later _ 13 _ refl no_rule)
+of_other s (decls.Space number kernel) = or_later _ 8 _ refl (or_later _ 9 _ refl (or_later _ 12 _ refl no_rule))
+of_other s (decls.Thread number space pc priority a0 a1) = or_later _ 8 _ refl (or_later _ 9 _ refl (or_later _ 12 _ refl (or_later _ 14 _ refl no_rule)))
+of_other s (decls.Map space vpn frame flags receiver) =
+    or_later _ 4 _ refl (or_later _ 9 _ refl (or_later _ 12 _ refl (or_later _ 13 _ refl (or_later _ 16 _ refl (or_later _ 17 _ refl (or_later _ 18 _ refl (or_later _ 19 _ refl no_rule)))))))
+of_other s (decls.Word frame offset value) = or_later _ 13 _ refl (or_later _ 15 _ refl no_rule)
+
+of_first : (d : Decl) → IsOfRules (rule_of_first d)
+of_first (decls.Machine machine) = or_later _ 6 _ refl (or_later _ 7 _ refl no_rule)
+of_first (decls.Kernel number limits) = one_rule 5 refl
+of_first (decls.Right kernel group read write) = one_rule 5 refl
+of_first (decls.Space number kernel) = one_rule 5 refl
+of_first (decls.Thread number space pc priority a0 a1) = one_rule 5 refl
+of_first (decls.Map space vpn frame flags receiver) = by (has_no_flag flags)
+  where
+    by : (none : Bool) → IsOfRules (Some (if none then 4 else 5))
+    by true = one_rule 4 refl
+    by false = one_rule 5 refl
+of_first (decls.Word frame offset value) = one_rule 5 refl
+
+by_machine : (machine : Option Machine) (s : FlatState) (d : Decl) → IsOfRules (rule_by_machine machine s d)
+by_machine None s d = of_first d
+by_machine (Some m) s d = of_other s d
+
+-- a declaration breaks none but the rules
+pub rule_broken : (s : FlatState) (d : Decl) (rule : ℕ) → broken_rule s d ≡ Some rule → IsRule rule
+unfolding broken_rule
+rule_broken s d rule e = by_machine s.machine s d rule e

@@ -1,0 +1,4 @@
+mod CallEnds
+mod CallParts
+mod RunLaws
+mod SendLaws

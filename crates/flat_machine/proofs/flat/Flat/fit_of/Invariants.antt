@@ -1,6 +1,0 @@
-use Rattle.std.proofs.Common.{◌≡◌, map, take}
-use Rattle.flat_state.specs.Translation.{is_fit_row}
-use Rattle.flat_machine.proofs.flat.Flat.fit_of.Given as goal
-
-abbrev pub invariant-loop-row : goal.invariant-loop-row
-invariant-loop-row l = l.fit.items ≡ map (is_fit_row l.self) (take l.row-index l.rows)

@@ -1,6 +1,0 @@
-use Rattle.std.proofs.Common.{◌≡◌, map, take}
-use Rattle.flat_state.specs.Signals.{has_ended}
-use Rattle.flat_machine.proofs.signals.ends_of.Given as goal
-
-abbrev pub invariant-loop-thread : goal.invariant-loop-thread
-invariant-loop-thread l = l.ended.items ≡ map (has_ended l.threads) (take l.thread-index l.to)

@@ -1,0 +1,4 @@
+pub mod Known
+pub mod Looks
+pub mod Missing
+pub mod Standings
