@@ -18,7 +18,7 @@ sed 's/rv32_exec\.proofs\.tests/step_times.proofs/' \
     echo 'use std::io;'
     echo 'use std::time::Instant;'
     # the space and the loop of the tests, up to the first test
-    sed -e '/^#\[test\]/,$d' -e '/^\/\/ ---- programs/d' -e '/^mod model;/d' -e '/^use /d' \
+    sed -e '/^#\[test\]/,$d' -e '/^\/\/ ---- programs/d' -e '/^mod model;/d' -e '/^use .*;$/d' -e '/^use .*{$/,/^};$/d' \
         -e 's/crate::specs/rv32_exec::specs/g' -e '/fn marks/,/^    }/d' \
         "$top/crates/rv32_exec/src/tests.rt"
     cat <<'MAIN'
