@@ -7,12 +7,12 @@ use Rattle.sorted_list.specs.Trees.{Tree, HasSeat, Stands, items_of}
 
 module _ {T : Type 0} where
   -- the items below a node, where `below` are those of each branch
-  unfoldable pub items_of_node : (Branch → List T) → Option (Node T) → List T
+  abbrev pub items_of_node : (Branch → List T) → Option (Node T) → List T
   items_of_node below (Some node) = below node.before ++ node.item ∷ below node.behind
   items_of_node below None = []
 
   -- the items of a branch: none where it has no node. As many steps down are looked at
-  unfoldable pub items_down : ℕ → ℕ → List (Node T) → ℕ → List T
+  abbrev pub items_down : ℕ → ℕ → List (Node T) → ℕ → List T
   items_down zero count nodes seat = []
   items_down (suc steps) zero nodes seat = []
   items_down (suc steps) (suc count) nodes seat = items_of_node (λ branch. items_down steps branch.count nodes branch.seat) (slice_get nodes seat)

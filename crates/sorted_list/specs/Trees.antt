@@ -10,17 +10,17 @@ pub data Tree (T : Type 0) : Type 0 where
 
 module _ {T : Type 0} where
   -- the items in order
-  unfoldable pub items_of : Tree T → List T
+  abbrev pub items_of : Tree T → List T
   items_of leaf = []
   items_of (fork own before item behind) = items_of before ++ item ∷ items_of behind
 
   -- some fork of the tree has that seat
-  unfoldable pub HasSeat : Tree T → ℕ → Type 0
+  abbrev pub HasSeat : Tree T → ℕ → Type 0
   HasSeat leaf seat = ⊥
   HasSeat (fork own before item behind) seat = (seat ≡ own) ⊎ (HasSeat before seat ⊎ HasSeat behind seat)
 
   -- the seat of the uppermost fork
-  unfoldable pub seat_of : Tree T → ℕ
+  abbrev pub seat_of : Tree T → ℕ
   seat_of leaf = 0
   seat_of (fork own before item behind) = own
 
@@ -35,7 +35,7 @@ module _ {T : Type 0} where
     pub apart : (seat : ℕ) → HasSeat before seat → HasSeat behind seat → ⊥
 
   -- each fork of the tree is written down at a seat of its own
-  unfoldable pub Lies : List (Node T) → Tree T → Type 0
+  abbrev pub Lies : List (Node T) → Tree T → Type 0
   Lies nodes leaf = Unit {0}
   Lies nodes (fork own before item behind) = (slice_get nodes own ≡ Some (record { item = item; before = branch_of before; behind = branch_of behind })) × Lies nodes before × Lies nodes behind × AreApart own before behind
 
@@ -51,10 +51,10 @@ module _ {T : Type 0} where
     pub apart : AreApart own before behind
 
   -- a tree of these items stands there now, on seats of which the fact holds; what is at others is as it was
-  pub record Becomes (old new : List (Node T)) (branch : Branch) (items : List T) (Own : ℕ → Type 0) : Type 0 where
+  pub record Becomes (old new : List (Node T)) (branch : Branch) (list : List T) (Own : ℕ → Type 0) : Type 0 where
     pub tree : Tree T
     pub stands : Stands new branch tree
-    pub items : items_of tree ≡ items
+    pub items : items_of tree ≡ list
     pub seats : (seat : ℕ) → HasSeat tree seat → Own seat
     pub others : (seat : ℕ) → (Own seat → ⊥) → slice_get new seat ≡ slice_get old seat
 
@@ -65,3 +65,10 @@ module _ {T : Type 0} where
   -- a fork of the tree at that seat has the item of that place
   abbrev pub IsItemAt : List (Node T) → ℕ → Tree T → ℕ → Type 0
   IsItemAt nodes seat tree place = HasSeat tree seat × (option_map (λ node. node.item) (slice_get nodes seat) ≡ slice_get (items_of tree) place)
+
+  -- a tree is the node that stands at its seat, over the trees of its branches
+  pub record Opens (nodes : List (Node T)) (branch : Branch) (node : Node T) (tree : Tree T) : Type 0 where
+    pub before : Tree T
+    pub behind : Tree T
+    pub is : tree ≡ fork branch.seat before node.item behind
+    pub joins : Joins nodes branch.seat node before behind

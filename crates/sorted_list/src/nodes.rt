@@ -4,7 +4,7 @@
 //! nodes. Since each node has two branches, places in the list are found on the way down. The functions here take a
 //! branch, change the tree, and answer the branch that it is then.
 
-ghost use Rattle.std.specs.Prelude.{◌≡◌, ◌≢◌, ◌⊎◌, ◌+◌, ◌<◌, ◌≤◌, ◌^◌, length, insert, remove, slice_set, IsTrue};
+ghost use Rattle.std.specs.Prelude.{◌≡◌, ◌≢◌, ◌⊎◌, ◌+◌, ◌<◌, ◌≤◌, ◌^◌, length, insert, remove, slice_get, Some, IsTrue};
 ghost use Rattle.sorted_list.specs.Trees.{Becomes, HasSeat, IsItemAt, Joins, Keeps, Stands, Tree, Tree.fork, items_of};
 
 /// A tree: where its uppermost node lies, and how many nodes it has. Where it has none, the seat tells nothing.
@@ -30,7 +30,7 @@ pub(crate) fn seat_at<T: Copy>(nodes: &[Node<T>], branch: Branch, place: u32) ->
     requires { (tree : Tree T) × Stands nodes.now branch tree × (place < length (items_of tree)) }
     ensures { (tree : Tree T) → Stands nodes.now branch tree → IsItemAt nodes.now result tree place }
 {
-    let node = nodes[branch.seat as usize];
+    let node = node_at(nodes, branch.seat);
     let before = node.before.count;
     if place < before {
         seat_at(nodes, node.before, place)
@@ -52,7 +52,8 @@ pub(crate) fn insert<T: Copy>(
     requires seat { seat < length nodes.old }
     requires tree { (tree : Tree T) × Stands nodes.old branch tree × (HasSeat tree seat → ⊥) × (place ≤ length (items_of tree)) }
     requires few { branch.count + 1 < 2 ^ 32 }
-    ensures { (tree : Tree T) → Stands nodes.old branch tree → Becomes nodes.old nodes.new result (insert (items_of tree) place item) (λ own. (own ≡ seat) ⊎ HasSeat tree own) }
+    ensures inserted { (tree : Tree T) → Stands nodes.old branch tree → (HasSeat tree seat → ⊥) → Becomes nodes.old nodes.new result (insert (items_of tree) place item) (λ own. (own ≡ seat) ⊎ HasSeat tree own) }
+    ensures count { result.count ≡ branch.count + 1 }
 {
     if branch.count == 0 {
         let node = Node {
@@ -62,14 +63,15 @@ pub(crate) fn insert<T: Copy>(
         };
         return put(nodes, seat, node);
     }
-    let mut node = nodes[branch.seat as usize];
+    let mut node = node_at(nodes, branch.seat);
     let before = node.before.count;
     if place <= before {
         node.before = insert(nodes, node.before, place, item, seat);
+        balanced(nodes, branch.seat, node)
     } else {
         node.behind = insert(nodes, node.behind, place - before - 1, item, seat);
+        balanced(nodes, branch.seat, node)
     }
-    balanced(nodes, branch.seat, node)
 }
 
 /// Takes out the node with the item of that place. Answers its seat, where the item still is, and what is left.
@@ -77,8 +79,9 @@ pub(crate) fn remove<T: Copy>(nodes: &mut [Node<T>], branch: Branch, place: u32)
     requires { (tree : Tree T) × Stands nodes.old branch tree × (place < length (items_of tree)) }
     ensures gone { (tree : Tree T) → Stands nodes.old branch tree → IsItemAt nodes.old result.0 tree place }
     ensures left { (tree : Tree T) → Stands nodes.old branch tree → Becomes nodes.old nodes.new result.1 (remove (items_of tree) place) (λ own. HasSeat tree own × (own ≢ result.0)) }
+    ensures count { result.1.count + 1 ≡ branch.count }
 {
-    let mut node = nodes[branch.seat as usize];
+    let mut node = node_at(nodes, branch.seat);
     let before = node.before.count;
     if place < before {
         let (gone, left) = remove(nodes, node.before, place);
@@ -92,7 +95,7 @@ pub(crate) fn remove<T: Copy>(nodes: &mut [Node<T>], branch: Branch, place: u32)
         (branch.seat, node.before)
     } else {
         let (next, left) = remove(nodes, node.behind, 0);
-        node.item = nodes[next as usize].item;
+        node.item = node_at(nodes, next).item;
         node.behind = left;
         (branch.seat, balanced(nodes, next, node))
     }
@@ -103,7 +106,8 @@ fn balanced<T: Copy>(nodes: &mut [Node<T>], seat: u32, node: Node<T>) -> Branch
     requires seat { seat < length nodes.old }
     requires sides { (before behind : Tree T) × Joins nodes.old seat node before behind }
     requires few { node.before.count + node.behind.count + 1 < 2 ^ 32 }
-    ensures { (before behind : Tree T) → Joins nodes.old seat node before behind → Keeps nodes.old nodes.new result (fork seat before node.item behind) }
+    ensures kept { (before behind : Tree T) → Joins nodes.old seat node before behind → Keeps nodes.old nodes.new result (fork seat before node.item behind) }
+    ensures count { result.count ≡ node.before.count + node.behind.count + 1 }
 {
     if is_too_heavy(node.before, node.behind) {
         raise_before(nodes, seat, node)
@@ -141,13 +145,16 @@ fn raise_before<T: Copy>(nodes: &mut [Node<T>], seat: u32, mut node: Node<T>) ->
     requires sides { (before behind : Tree T) × Joins nodes.old seat node before behind }
     requires few { node.before.count + node.behind.count + 1 < 2 ^ 32 }
     requires some { 0 < node.before.count }
-    ensures { (before behind : Tree T) → Joins nodes.old seat node before behind → Keeps nodes.old nodes.new result (fork seat before node.item behind) }
+    ensures kept { (before behind : Tree T) → Joins nodes.old seat node before behind → Keeps nodes.old nodes.new result (fork seat before node.item behind) }
+    ensures count { result.count ≡ node.before.count + node.behind.count + 1 }
 {
-    let up = nodes[node.before.seat as usize];
+    let up = node_at(nodes, node.before.seat);
     if is_inner_heavy(up.behind, up.before) {
         node.before = turn_behind(nodes, node.before.seat, up);
+        turn_before(nodes, seat, node)
+    } else {
+        turn_before(nodes, seat, node)
     }
-    turn_before(nodes, seat, node)
 }
 
 // Writes a node down below one of what is behind it.
@@ -156,13 +163,16 @@ fn raise_behind<T: Copy>(nodes: &mut [Node<T>], seat: u32, mut node: Node<T>) ->
     requires sides { (before behind : Tree T) × Joins nodes.old seat node before behind }
     requires few { node.before.count + node.behind.count + 1 < 2 ^ 32 }
     requires some { 0 < node.behind.count }
-    ensures { (before behind : Tree T) → Joins nodes.old seat node before behind → Keeps nodes.old nodes.new result (fork seat before node.item behind) }
+    ensures kept { (before behind : Tree T) → Joins nodes.old seat node before behind → Keeps nodes.old nodes.new result (fork seat before node.item behind) }
+    ensures count { result.count ≡ node.before.count + node.behind.count + 1 }
 {
-    let up = nodes[node.behind.seat as usize];
+    let up = node_at(nodes, node.behind.seat);
     if is_inner_heavy(up.before, up.behind) {
         node.behind = turn_before(nodes, node.behind.seat, up);
+        turn_behind(nodes, seat, node)
+    } else {
+        turn_behind(nodes, seat, node)
     }
-    turn_behind(nodes, seat, node)
 }
 
 // Writes a node down below the uppermost one of what is before it.
@@ -171,10 +181,11 @@ fn turn_before<T: Copy>(nodes: &mut [Node<T>], seat: u32, mut node: Node<T>) -> 
     requires sides { (before behind : Tree T) × Joins nodes.old seat node before behind }
     requires few { node.before.count + node.behind.count + 1 < 2 ^ 32 }
     requires some { 0 < node.before.count }
-    ensures { (before behind : Tree T) → Joins nodes.old seat node before behind → Keeps nodes.old nodes.new result (fork seat before node.item behind) }
+    ensures kept { (before behind : Tree T) → Joins nodes.old seat node before behind → Keeps nodes.old nodes.new result (fork seat before node.item behind) }
+    ensures count { result.count ≡ node.before.count + node.behind.count + 1 }
 {
     let top = node.before.seat;
-    let mut up = nodes[top as usize];
+    let mut up = node_at(nodes, top);
     node.before = up.behind;
     up.behind = put(nodes, seat, node);
     put(nodes, top, up)
@@ -186,10 +197,11 @@ fn turn_behind<T: Copy>(nodes: &mut [Node<T>], seat: u32, mut node: Node<T>) -> 
     requires sides { (before behind : Tree T) × Joins nodes.old seat node before behind }
     requires few { node.before.count + node.behind.count + 1 < 2 ^ 32 }
     requires some { 0 < node.behind.count }
-    ensures { (before behind : Tree T) → Joins nodes.old seat node before behind → Keeps nodes.old nodes.new result (fork seat before node.item behind) }
+    ensures kept { (before behind : Tree T) → Joins nodes.old seat node before behind → Keeps nodes.old nodes.new result (fork seat before node.item behind) }
+    ensures count { result.count ≡ node.before.count + node.behind.count + 1 }
 {
     let top = node.behind.seat;
-    let mut up = nodes[top as usize];
+    let mut up = node_at(nodes, top);
     node.behind = up.before;
     up.before = put(nodes, seat, node);
     put(nodes, top, up)
@@ -199,11 +211,20 @@ fn turn_behind<T: Copy>(nodes: &mut [Node<T>], seat: u32, mut node: Node<T>) -> 
 fn put<T: Copy>(nodes: &mut [Node<T>], seat: u32, node: Node<T>) -> Branch
     requires seat { seat < length nodes.old }
     requires few { node.before.count + node.behind.count + 1 < 2 ^ 32 }
-    ensures { (before behind : Tree T) → Joins nodes.old seat node before behind → Keeps nodes.old nodes.new result (fork seat before node.item behind) }
+    ensures kept { (before behind : Tree T) → Joins nodes.old seat node before behind → Keeps nodes.old nodes.new result (fork seat before node.item behind) }
+    ensures count { result.count ≡ node.before.count + node.behind.count + 1 }
 {
     nodes[seat as usize] = node;
     Branch {
         seat,
         count: node.before.count + node.behind.count + 1,
     }
+}
+
+// The node that is written down at a seat.
+pub(crate) fn node_at<T: Copy>(nodes: &[Node<T>], seat: u32) -> Node<T>
+    requires { seat < length nodes.now }
+    ensures { slice_get nodes.now seat ≡ Some result }
+{
+    nodes[seat as usize]
 }

@@ -1,6 +1,6 @@
 //! The way down a tree to where something comes.
 
-ghost use Rattle.std.specs.Prelude.{◌≡◌, Bool, true, AllPairs, count_by};
+ghost use Rattle.std.specs.Prelude.{◌≡◌, ◌≤◌, Bool, true, AllPairs, count_by};
 ghost use Rattle.std.specs.Ordering.{is_le, is_lt};
 ghost use Rattle.sorted_list.specs.Sorted.{by_parts};
 ghost use Rattle.sorted_list.specs.Trees.{Stands, Tree, items_of};
