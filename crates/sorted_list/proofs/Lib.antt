@@ -1,0 +1,4 @@
+pub mod EditLemmas
+pub mod TreeLemmas
+pub mod WayLemmas
+pub mod FixedLemmas

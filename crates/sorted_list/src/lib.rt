@@ -1,0 +1,13 @@
+//! A sorted list in memory that is made once: searched and changed in logarithmic time.
+#![tactic(auto)]
+
+mod fixed;
+mod nodes;
+mod run;
+mod search;
+mod sorted;
+#[cfg(test)]
+mod tests;
+
+pub use run::Run;
+pub use sorted::SortedList;
