@@ -10,9 +10,8 @@ use Rattle.cache_ident.specs.declared.idents.Ident.{Ident}
 use Rattle.cache_ident.specs.declared.classes.Class.{Class}
 use Rattle.depend_lists.specs.declared.nodes.Node.{Node}
 use Rattle.depend_lists.specs.Indexes.{turned, turned_cmp, Mirrors}
-use Rattle.depend_lists.proofs.ListLemmas.{some_item, Contains-filter, Contains-from_filter}
+use Rattle.depend_lists.proofs.ListLemmas.{some_item, Contains-filter, Contains-from_filter, filter_all}
 use Rattle.depend_lists.proofs.PairLemmas.{one_turned, turned_back, turned_itself}
-use Rattle.depend_lists.proofs.RisingLemmas.{filter_all}
 
 module _ {X : Type 0} (test : X → Bool) (xs : List X) where
   -- where some pass a test, one of them is there
