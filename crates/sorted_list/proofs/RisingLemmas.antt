@@ -55,21 +55,7 @@ pub filter_all : {X : Type 0} (p : X → Bool) (xs : List X) → All (λ x. p x 
 filter_all p [] passes = refl
 filter_all p (x ∷ xs) passes = rw (All-head (λ x. p x ≡ true) x xs passes) (ap (λ ys. x ∷ ys) (filter_all p xs (All-tail (λ x. p x ≡ true) x xs passes)))
 
--- the answers of a comparison are apart
-pub less≢equal : (o : Ordering) → o ≡ Less → o ≡ Equal → ⊥
-less≢equal o less equal = cc
-
--- no item stands twice in a rising list
-pub once_from_rising : {K : Type 0} (cmp : K → K → Ordering) → ((a : K) → cmp a a ≡ Equal) → (xs : List K) → IsRising cmp xs → AllPairs ◌≢◌ xs
-once_from_rising cmp itself xs rising i j d lt within same = less≢equal _ (rising i j d lt within) (ap (cmp (get_or xs i d)) (sym same) ∙ itself (get_or xs i d))
-
 module _ {K : Type 0} (cmp : K → K → Ordering) (o : IsTotalOrder cmp) where
-  -- a rising list is sorted
-  pub sorted_from_rising : (xs : List K) → IsRising cmp xs → IsSortedBy (λ a b. is_lt (cmp a b)) xs
-  sorted_from_rising xs rising k d low high =
-      let less = rising k (k + 1) d (omega arith) (omega arith) in
-      ap is_lt (o.antisymm (get_or xs (k + 1) d) (get_or xs k d) ∙ ap ordering_reverse less)
-
   -- a new item in its gap keeps the order
   pub rising-insert : (xs : List K) (x : K) (at : ℕ) → at ≤ length xs → IsRising cmp xs → IsPartitionPoint (λ y. cmp y x ≡ Less) (λ y. cmp y x ≡ Greater) xs at → IsRising cmp (insert xs at x)
   rising-insert xs x at within rising parted = AllPairs-insert (λ a b. cmp a b ≡ Less) xs at x within rising (λ k d lt. parted.0 k d (omega arith) lt) (λ k d le lt. o.antisymm x (get_or xs k d) ∙ ap ordering_reverse (parted.1 k d le lt))
@@ -80,7 +66,7 @@ up_to Less le = inl refl
 up_to Equal le = inr refl
 up_to Greater le = absurd (cc)
 
-less : (o : Ordering) → is_lt o ≡ true → o ≡ Less
+pub less : (o : Ordering) → is_lt o ≡ true → o ≡ Less
 less Less lt = refl
 less Equal lt = absurd (cc)
 less Greater lt = absurd (cc)

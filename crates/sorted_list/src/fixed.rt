@@ -48,8 +48,7 @@ impl<T: Copy> FixedList<T> {
 
     /// How many items there are. Constant time.
     pub(crate) fn len(&self) -> u32
-        ensures len { result ≡ length self.now.items }
-        ensures few { length self.now.items ≤ self.now.room }
+        ensures { result ≡ length self.now.items }
     {
         self.root.count
     }
