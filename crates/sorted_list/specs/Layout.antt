@@ -1,6 +1,5 @@
 -- How a list lies in memory.
-use Rattle.std.specs.Prelude.{◌≡◌, ◌≢◌, ℕ, zero, suc, ◌+◌, ◌<◌, ◌≤◌, ◌^◌, List, [], ◌∷◌, ◌++◌, length, slice_get, Option, Some, None, All, AllPairs, Vec, vec_len, vec_capacity}
-use Rattle.std.specs.declared.alloc.Global.{Global}
+use Rattle.std.specs.Prelude.{◌≡◌, ◌≢◌, ℕ, zero, suc, ◌+◌, ◌<◌, ◌≤◌, ◌^◌, List, [], ◌∷◌, ◌++◌, length, slice_get, Option, Some, None, ◌⊎◌, All, AllPairs}
 use Rattle.sorted_list.specs.declared.nodes.Branch.{Branch}
 use Rattle.sorted_list.specs.declared.nodes.Node.{Node}
 use Rattle.sorted_list.specs.Trees.{Tree, HasSeat, Stands, items_of}
@@ -21,15 +20,17 @@ module _ {T : Type 0} where
   abbrev pub items_at : List (Node T) → Branch → List T
   items_at nodes root = items_down root.count root.count nodes root.seat
 
-  -- a tree stands in the table, each other seat is spare, and there is room for all that may come
-  pub record IsSound (room : ℕ) (root : Branch) (nodes : Vec (Node T) Global) (spare : Vec ℕ Global) : Type 0 where
+  -- a tree stands in the table, and each seat that none of its nodes has is spare
+  pub record IsSound (room : ℕ) (root : Branch) (nodes : List (Node T)) (spare : List ℕ) : Type 0 where
     pub tree : Tree T
-    pub stands : Stands nodes.items root tree
-    pub counted : vec_len nodes ≡ length (items_of tree) + vec_len spare
-    pub few : vec_len nodes ≤ room
+    pub stands : Stands nodes root tree
+    pub counted : length nodes ≡ length (items_of tree) + length spare
+    pub few : length nodes ≤ room
     pub small : room < 2 ^ 32
-    pub spare_within : All (λ seat. seat < vec_len nodes) spare.items
-    pub spare_free : All (λ seat. HasSeat tree seat → ⊥) spare.items
-    pub spare_once : AllPairs ◌≢◌ spare.items
-    pub nodes_room : room ≤ vec_capacity nodes
-    pub spare_room : room ≤ vec_capacity spare
+    pub spare_within : All (λ seat. seat < length nodes) spare
+    pub spare_free : All (λ seat. HasSeat tree seat → ⊥) spare
+    pub spare_once : AllPairs ◌≢◌ spare
+
+  -- a seat was the last spare one, or is a new one where there was no spare one
+  abbrev pub IsSeated : List (Node T) → List ℕ → List (Node T) → List ℕ → ℕ → Type 0
+  IsSeated nodes spare new_nodes new_spare seat = ((spare ≡ new_spare ++ seat ∷ []) × (new_nodes ≡ nodes)) ⊎ ((spare ≡ []) × (new_spare ≡ []) × (seat ≡ length nodes) × ((node : Node T) × (new_nodes ≡ nodes ++ node ∷ [])))

@@ -1,6 +1,7 @@
 //! A list in memory that is made once, with places found in logarithmic time.
 
-ghost use Rattle.std.specs.Prelude.{◌≡◌, ◌<◌, ◌≤◌, [], true, AllPairs, count_by, length, insert, remove, slice_get, IfOk};
+ghost use Rattle.std.specs.Prelude.{◌≡◌, ◌<◌, ◌≤◌, ◌^◌, [], true, AllPairs, count_by, length, insert, remove, slice_get, vec_capacity, vec_len, IfOk};
+ghost use Rattle.sorted_list.specs.Layout.{IsSeated};
 
 use super::nodes::{self, Branch, EMPTY, Node};
 use super::search::{self, Cut};
@@ -18,6 +19,7 @@ pub(crate) struct FixedList<T: Copy> {
 }
 
 impl<T: Copy> Model for FixedList<T> {
+    ghost use Rattle.std.specs.Prelude.{◌≤◌, vec_capacity};
     ghost use Rattle.sorted_list.specs.Fixed.{Fixed};
 
     ghost Value = { Fixed T };
@@ -26,7 +28,7 @@ impl<T: Copy> Model for FixedList<T> {
 
     ghost view = { λ list. record { room = list.room; items = items_at list.nodes.items list.root } };
 
-    ghost invariant = { λ list. IsSound list.room list.root list.nodes list.spare };
+    ghost invariant = { λ list. IsSound list.room list.root list.nodes.items list.spare.items × (list.room ≤ vec_capacity list.nodes) × (list.room ≤ vec_capacity list.spare) };
 }
 
 impl<T: Copy> FixedList<T> {
@@ -46,8 +48,7 @@ impl<T: Copy> FixedList<T> {
 
     /// How many items there are. Constant time.
     pub(crate) fn len(&self) -> u32
-        ensures len { result ≡ length self.now.items }
-        ensures few { length self.now.items ≤ self.now.room }
+        ensures { result ≡ length self.now.items }
     {
         self.root.count
     }
@@ -58,7 +59,7 @@ impl<T: Copy> FixedList<T> {
     {
         if place < self.root.count {
             let seat = nodes::seat_at(&self.nodes, self.root, place);
-            Some(self.nodes[seat as usize].item)
+            Some(nodes::node_at(&self.nodes, seat).item)
         } else {
             None
         }
@@ -78,18 +79,7 @@ impl<T: Copy> FixedList<T> {
         requires room { length self.old.items < self.old.room }
         ensures { self.new ≡ record self.old { items = insert self.old.items place item } }
     {
-        let seat = match self.spare.pop() {
-            Some(seat) => seat,
-            None => {
-                let seat = self.nodes.len() as u32;
-                let _ = self.nodes.push(Node {
-                    item,
-                    before: EMPTY,
-                    behind: EMPTY,
-                });
-                seat
-            }
-        };
+        let seat = new_seat(&mut self.nodes, &mut self.spare, item);
         self.root = nodes::insert(&mut self.nodes, self.root, place, item, seat);
     }
 
@@ -101,5 +91,27 @@ impl<T: Copy> FixedList<T> {
         let (gone, left) = nodes::remove(&mut self.nodes, self.root, place);
         self.root = left;
         let _ = self.spare.push(gone);
+    }
+}
+
+// A seat that no node of the tree has: the last spare one, or else a new one.
+fn new_seat<T: Copy>(nodes: &mut Vec<Node<T>>, spare: &mut Vec<u32>, item: T) -> u32
+    requires room { vec_len spare.old ≡ 0 → vec_len nodes.old < vec_capacity nodes.old }
+    requires few { vec_len nodes.old < 2 ^ 32 }
+    ensures seated { IsSeated nodes.old.items spare.old.items nodes.new.items spare.new.items result }
+    ensures nodes_capacity { vec_capacity nodes.old ≤ vec_capacity nodes.new }
+    ensures spare_capacity { vec_capacity spare.old ≤ vec_capacity spare.new }
+{
+    match spare.pop() {
+        Some(seat) => seat,
+        None => {
+            let seat = nodes.len() as u32;
+            let _ = nodes.push(Node {
+                item,
+                before: EMPTY,
+                behind: EMPTY,
+            });
+            seat
+        }
     }
 }

@@ -1,7 +1,7 @@
 //! Pairs of a key and a value, in order.
 
 ghost use Rattle.std.specs.Prelude.{◌≡◌, ◌≢◌, ◌<◌, ◌≤◌, [], length, map, count_by, slice_get, All, Contains, IfOk};
-ghost use Rattle.std.specs.Ordering.{is_le, is_lt};
+ghost use Rattle.std.specs.Ordering.{is_lt};
 ghost use Rattle.std.specs.declared.cmp.Ordering.TheVariants.{Equal};
 ghost use Rattle.sorted_list.specs.Sorted.{by_parts, values_under, IsAdded, IsProper, IsTakenOut};
 
@@ -21,13 +21,13 @@ pub struct SortedList<K: Ord + Copy, V: Ord + Copy> {
 }
 
 impl<K: Ord + Copy, V: Ord + Copy> Model for SortedList<K, V> {
-    ghost use Rattle.sorted_list.specs.Sorted.{Sorted, IsRising, by_parts};
+    ghost use Rattle.sorted_list.specs.Sorted.{Sorted, IsProper};
 
     ghost Value = { Sorted K V };
 
     ghost view = { λ sorted. record { room = sorted.list.room; entries = sorted.list.items } };
 
-    ghost invariant = { λ sorted. IsRising (by_parts K.cmp V.cmp) sorted.list.items };
+    ghost invariant = { λ sorted. IsProper K.cmp V.cmp (record { room = sorted.list.room; entries = sorted.list.items }) };
 }
 
 impl<K: Ord + Copy, V: Ord + Copy> SortedList<K, V> {
@@ -60,7 +60,7 @@ impl<K: Ord + Copy, V: Ord + Copy> SortedList<K, V> {
         ensures entries { IsAdded self.old.entries self.new.entries (key, value) }
         ensures proper { IsProper K.cmp V.cmp self.new }
     {
-        let place = self.place_of(&key, &value);
+        let place = self.list.count_before(&AtEntry(&key, &value));
         self.list.insert(place, (key, value));
     }
 
@@ -71,7 +71,7 @@ impl<K: Ord + Copy, V: Ord + Copy> SortedList<K, V> {
         ensures entries { IsTakenOut self.old.entries self.new.entries (key, value) }
         ensures proper { IsProper K.cmp V.cmp self.new }
     {
-        let place = self.place_of(&key, &value);
+        let place = self.list.count_before(&AtEntry(&key, &value));
         self.list.remove(place);
     }
 
@@ -95,7 +95,7 @@ impl<K: Ord + Copy, V: Ord + Copy> SortedList<K, V> {
         ensures count { result ≡ count_by (λ entry. is_lt (K.cmp entry.0 key.now)) self.now.entries }
         ensures proper { IsProper K.cmp V.cmp self.now }
     {
-        self.begin_of(key) as usize
+        self.list.count_before(&AtKey(key)) as usize
     }
 
     /// The values of the entries with that key, in order.
@@ -103,7 +103,9 @@ impl<K: Ord + Copy, V: Ord + Copy> SortedList<K, V> {
         ensures values { result ≡ values_under K.eq self.now.entries key.now }
         ensures proper { IsProper K.cmp V.cmp self.now }
     {
-        Run::new(&self.list, self.begin_of(key), self.end_of(key))
+        let begin = self.list.count_before(&AtKey(key));
+        let end = self.list.count_before(&BehindKey(key));
+        Run::new(&self.list, begin, end)
     }
 
     /// The values of all entries, in order of their keys.
@@ -112,26 +114,5 @@ impl<K: Ord + Copy, V: Ord + Copy> SortedList<K, V> {
         ensures proper { IsProper K.cmp V.cmp self.now }
     {
         Run::new(&self.list, 0, self.list.len())
-    }
-
-    // How many entries come before that one.
-    fn place_of(&self, key: &K, value: &V) -> u32
-        ensures { result ≡ count_by (λ entry. is_lt (by_parts K.cmp V.cmp entry (key.now, value.now))) self.now.entries }
-    {
-        self.list.count_before(&AtEntry(key, value))
-    }
-
-    // How many entries come before those with the key.
-    fn begin_of(&self, key: &K) -> u32
-        ensures { result ≡ count_by (λ entry. is_lt (K.cmp entry.0 key.now)) self.now.entries }
-    {
-        self.list.count_before(&AtKey(key))
-    }
-
-    // How many entries come before those behind the key.
-    fn end_of(&self, key: &K) -> u32
-        ensures { result ≡ count_by (λ entry. is_le (K.cmp entry.0 key.now)) self.now.entries }
-    {
-        self.list.count_before(&BehindKey(key))
     }
 }
