@@ -5,7 +5,8 @@ use Rattle.std.specs.declared.cmp.Ordering.TheVariants.{Less, Equal, Greater}
 use Rattle.std.specs.Cmp.{IsTotalOrder}
 use Rattle.std.specs.List.{insert, remove, slice_range}
 use Rattle.std.specs.Ordering.{eq_by_cmp, is_le, is_lt}
-use Rattle.std.specs.Prelude.{slice_get, Some}
+use Rattle.std.specs.Prelude.{slice_get, None, Some, if◌then◌else◌}
+use Rattle.std.proofs.lemmas.List.Elements.{All-cons}
 use Rattle.std.proofs.lemmas.Bool.{cases_lt, false≢true}
 use Rattle.std.proofs.lemmas.Cmp.{tied_itself}
 use Rattle.std.proofs.lemmas.List.{drop_more}
@@ -16,6 +17,7 @@ use Rattle.std.proofs.lemmas.Option.{get_or_from_slice_get, slice_get_within}
 use Rattle.sorted_list.specs.Sorted.{by_parts, IsProper, IsRising}
 use Rattle.sorted_list.specs.Fixed.{Fixed}
 use Rattle.sorted_list.proofs.CountLemmas.{parted, Falls}
+use Rattle.sorted_list.proofs.TreeLemmas.{some_same}
 use Rattle.sorted_list.proofs.RisingLemmas.{by_parts_total, found_run, less, parted_below, parted_upto, rising-insert}
 
 greater : (o : Ordering) → is_lt o ≡ false → o ≢ Equal → o ≡ Greater
@@ -104,3 +106,27 @@ module _ {K V : Type 0} (first : K → K → Ordering) (o : IsTotalOrder first) 
         rising = all_pairs_remove (λ a b. by_parts first second a b ≡ Less) list.items place at.0 proper.rising;
         few = omega (arith, length-remove list.items place at.0, proper.few);
         small = proper.small })
+
+-- the first value under a key belongs to an entry with that key, and without one there is no such entry
+module _ {K V : Type 0} (test : K × V → Bool) where
+  pub first_passes : (entries : List (K × V)) (value : V) → slice_get (map (λ entry. entry.1) (filter test entries)) 0 ≡ Some value → (entry : K × V) × Contains entries entry × (test entry ≡ true) × (entry.1 ≡ value)
+  first_passes [] value read = absurd (none_some read)
+    where
+      none_some : None ≡ Some value → ⊥
+      none_some e = cc
+  first_passes (entry ∷ entries) value read = by (λ later. first_passes entries value later) (test entry) refl read
+    where
+      by : (slice_get (map (λ entry. entry.1) (filter test entries)) 0 ≡ Some value → (entry : K × V) × Contains entries entry × (test entry ≡ true) × (entry.1 ≡ value)) → (b : Bool) → test entry ≡ b → slice_get (map (λ entry. entry.1) (if b then entry ∷ filter test entries else filter test entries)) 0 ≡ Some value → (other : K × V) × Contains (entry ∷ entries) other × (test other ≡ true) × (other.1 ≡ value)
+      by next true passes here = (entry, (0, omega arith, refl), passes, some_same entry.1 value here)
+      by next false fails later = let rest = next later in (rest.0, (suc rest.1.0, omega (arith, rest.1.1), rest.1.2), rest.2, rest.3)
+
+  pub none_passes : (entries : List (K × V)) → slice_get (map (λ entry. entry.1) (filter test entries)) 0 ≡ None → All (λ entry. test entry ≡ false) entries
+  none_passes [] read = λ k d within. absurd (omega (arith, within))
+  none_passes (entry ∷ entries) read = by (λ later. none_passes entries later) (test entry) refl read
+    where
+      none_some : {X : Type 0} (x : X) → Some x ≡ None → ⊥
+      none_some x e = cc
+
+      by : (slice_get (map (λ entry. entry.1) (filter test entries)) 0 ≡ None → All (λ entry. test entry ≡ false) entries) → (b : Bool) → test entry ≡ b → slice_get (map (λ entry. entry.1) (if b then entry ∷ filter test entries else filter test entries)) 0 ≡ None → All (λ entry. test entry ≡ false) (entry ∷ entries)
+      by next true passes here = absurd (none_some entry.1 here)
+      by next false fails later = All-cons (λ entry. test entry ≡ false) entry entries fails (next later)

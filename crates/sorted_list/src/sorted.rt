@@ -75,11 +75,14 @@ impl<K: Ord + Copy, V: Ord + Copy> SortedList<K, V> {
         self.list.remove(place);
     }
 
-    /// The first entry.
-    pub fn first(&self) -> Option<(K, V)>
-        ensures { result ≡ slice_get self.now.entries 0 }
+    /// The entry at a place.
+    pub fn get(&self, place: usize) -> Option<(K, V)>
+        ensures { result ≡ slice_get self.now.entries place }
     {
-        self.list.get(0)
+        match u32::try_from(place) {
+            Ok(place) => self.list.get(place),
+            Err(_) => None,
+        }
     }
 
     /// The value of the first entry with that key.

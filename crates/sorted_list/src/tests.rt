@@ -1,1 +1,0 @@
-//! Entries come and go.
