@@ -1,8 +1,8 @@
 -- What is in a list after an edit.
-use Rattle.std.proofs.Common.{◌≡◌, ℕ, zero, suc, ◌+◌, ◌<◌, Bool, true, false, cond, List, [], ◌∷◌, ◌++◌, length, get_or, take, drop, map, filter, All, Contains, sym, ◌∙◌, ap, ◌⊎◌, inl, inr, refl, arith}
+use Rattle.std.proofs.Common.{◌≡◌, ℕ, zero, suc, ◌+◌, ◌<◌, Bool, true, false, cond, List, [], ◌∷◌, ◌++◌, length, get_or, take, drop, map, filter, Contains, sym, ◌∙◌, ap, ◌⊎◌, inl, inr, refl, arith}
 use Rattle.std.specs.List.{insert, remove}
 use Rattle.std.proofs.lemmas.List.{drop_more, get_or-map, length-map, take-append-drop}
-use Rattle.std.proofs.lemmas.List.Elements.{All-contains, All-contains_itself, All-filter, All-head, All-tail, Contains-get_or, filter-append, filter_passes}
+use Rattle.std.proofs.lemmas.List.Elements.{All-contains, All-contains_itself, All-filter, Contains-get_or, filter-append, filter_passes}
 use Rattle.std.proofs.lemmas.List.Sorted.{Contains-permutation, IsPermutation-insert, IsPermutation-remove, IsPermutation-sym}
 
 module _ {X : Type 0} where
@@ -70,13 +70,3 @@ Contains-from_map f xs y there =
     let within : there.0 < length xs = omega (arith, there.1, length-map xs f) in
     let d = some_item xs (omega (arith, within)) in
     (get_or xs there.0 d, Contains-get_or xs there.0 d within, sym (get_or-map f xs there.0 d y within) ∙ there.2)
-
--- a filter keeps nothing of what fails
-pub filter_none : {X : Type 0} (p : X → Bool) (xs : List X) → All (λ x. p x ≡ false) xs → filter p xs ≡ []
-filter_none p [] fails = refl
-filter_none p (x ∷ xs) fails = rw (All-head (λ x. p x ≡ false) x xs fails) (filter_none p xs (All-tail (λ x. p x ≡ false) x xs fails))
-
--- and all of what passes
-pub filter_all : {X : Type 0} (p : X → Bool) (xs : List X) → All (λ x. p x ≡ true) xs → filter p xs ≡ xs
-filter_all p [] passes = refl
-filter_all p (x ∷ xs) passes = rw (All-head (λ x. p x ≡ true) x xs passes) (ap (λ ys. x ∷ ys) (filter_all p xs (All-tail (λ x. p x ≡ true) x xs passes)))

@@ -9,6 +9,7 @@ use Rattle.std.proofs.lemmas.List.Sums.{count_by-le-length, sum_by-cons}
 use Rattle.cache_ident.specs.declared.idents.Ident.{Ident}
 use Rattle.cache_ident.specs.contracts.idents.IdentOrd.TheImpl as ident
 use Rattle.cache_ident.specs.contracts.idents.IdentOrd.TheImpl.Laws as ident_laws
+use Rattle.sorted_list.proofs.RisingLemmas.{less}
 use Rattle.depend_lists.specs.declared.nodes.Node.{Node}
 use Rattle.depend_lists.specs.Pairs.{place_of, IsChild}
 use Rattle.depend_lists.proofs.ListLemmas.{Contains-cons_cases}
@@ -38,11 +39,6 @@ module _ {X : Type 0} (p q : X → Bool) (implied : (x : X) → p x ≡ true →
 
 abbrev ident_cmp : Ident → Ident → Ordering
 ident_cmp = (ident.ghosts).cmp
-
-less : (o : Ordering) → is_lt o ≡ true → o ≡ Less
-less Less lt = refl
-less Equal lt = absurd (cc)
-less Greater lt = absurd (cc)
 
 module _ (pairs : List (Ident × Node)) (child : Ident) (is_child : IsChild pairs child) where
   not_before_itself : is_lt (ident_cmp is_child.0.1.ident child) ≡ false

@@ -15,11 +15,12 @@ use Rattle.cache_ident.specs.declared.names.Caps.{Caps}
 use Rattle.cache_ident.specs.Names.{amount_of}
 use Rattle.cache_ident.specs.Rolls.{is_same}
 use Rattle.cache_ident.proofs.RollLemmas.{is_same-refl}
+use Rattle.sorted_list.proofs.RisingLemmas.{filter_none}
 use Rattle.depend_lists.specs.declared.nodes.Node.{Node}
 use Rattle.sorted_list.specs.Sorted.{IsAdded}
 use Rattle.depend_lists.specs.Pairs.{parent_count, without, HasOneClass, IsWithin}
 use Rattle.depend_lists.specs.Roomy.{IsRoomy}
-use Rattle.depend_lists.proofs.ListLemmas.{Contains-from_filter, Contains-insert_cases, Contains-map, filter_none}
+use Rattle.depend_lists.proofs.ListLemmas.{Contains-from_filter, Contains-insert_cases, Contains-map}
 
 -- few pairs have few children
 within_roomy : (caps : Caps) (pairs : List (Ident × Node)) → IsRoomy caps (length pairs) → IsWithin caps pairs
