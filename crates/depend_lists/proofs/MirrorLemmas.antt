@@ -26,7 +26,7 @@ module _ {X : Type 0} (test : X → Bool) (xs : List X) where
   to_count : (x : X) → Contains xs x → test x ≡ true → 0 < count_by test xs
   to_count x there passes = omega (arith, (Contains-filter test xs x there passes).1, length-filter test xs)
 
-equal : (o : Ordering) → is_eq o ≡ true → o ≡ Equal
+pub equal : (o : Ordering) → is_eq o ≡ true → o ≡ Equal
 equal Less ties = absurd (cc)
 equal Equal ties = refl
 equal Greater ties = absurd (cc)

@@ -48,7 +48,7 @@ same_node a b ident class =
     ap by_ident ident ∙ ap by_class class
 
 -- and nodes that compare as equal
-one_node : (a b : Node) → (node.ghosts).cmp a b ≡ Equal → a ≡ b
+pub one_node : (a b : Node) → (node.ghosts).cmp a b ≡ Equal → a ≡ b
 one_node a b ties =
     let both = both_tie _ _ ties in
     same_node a b (one_ident a.ident b.ident both.0) (one_class a.class b.class both.1)
