@@ -9,8 +9,6 @@
 #
 # Makes a program in a temporary folder, with the helper and its proofs that the tests of writeback_order use, and
 # lets rt prove and build it there.
-#
-# PLAIN
 set -euo pipefail
 source "$(dirname "$0")/program.sh"
 begin_program leaving_times 'cache_ident sorted_list depend_lists writeback_order' anyhow
