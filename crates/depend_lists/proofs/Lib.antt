@@ -1,4 +1,3 @@
-pub mod RisingLemmas
 pub mod ListLemmas
 pub mod PairLemmas
 pub mod CountLemmas

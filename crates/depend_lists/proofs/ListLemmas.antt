@@ -1,7 +1,7 @@
 -- What is in a list after an edit.
 use Rattle.std.proofs.Common.{◌≡◌, ℕ, zero, suc, ◌+◌, ◌<◌, Bool, true, false, cond, List, [], ◌∷◌, ◌++◌, length, get_or, take, drop, map, filter, Contains, sym, ◌∙◌, ap, ◌⊎◌, inl, inr, refl, arith}
 use Rattle.std.specs.List.{insert, remove}
-use Rattle.std.proofs.lemmas.List.{drop-map, drop_more, get_or-map, length-map, map-append, take-map, take-append-drop}
+use Rattle.std.proofs.lemmas.List.{drop_more, get_or-map, length-map, take-append-drop}
 use Rattle.std.proofs.lemmas.List.Elements.{All-contains, All-contains_itself, All-filter, Contains-get_or, filter-append, filter_passes}
 use Rattle.std.proofs.lemmas.List.Sorted.{Contains-permutation, IsPermutation-insert, IsPermutation-remove, IsPermutation-sym}
 
@@ -70,10 +70,3 @@ Contains-from_map f xs y there =
     let within : there.0 < length xs = omega (arith, there.1, length-map xs f) in
     let d = some_item xs (omega (arith, within)) in
     (get_or xs there.0 d, Contains-get_or xs there.0 d within, sym (get_or-map f xs there.0 d y within) ∙ there.2)
-
--- an edit of a list made by a function
-pub map-insert : {X Y : Type 0} (f : X → Y) (xs : List X) (at : ℕ) (x : X) → map f (insert xs at x) ≡ insert (map f xs) at (f x)
-map-insert f xs at x = map-append f (take at xs) (x ∷ drop at xs) ∙ ap (λ ys. ys ++ f x ∷ map f (drop at xs)) (sym (take-map f at xs)) ∙ ap (λ ys. take at (map f xs) ++ f x ∷ ys) (sym (drop-map f at xs))
-
-pub map-remove : {X Y : Type 0} (f : X → Y) (xs : List X) (at : ℕ) → map f (remove xs at) ≡ remove (map f xs) at
-map-remove f xs at = map-append f (take at xs) (drop (suc at) xs) ∙ ap (λ ys. ys ++ map f (drop (suc at) xs)) (sym (take-map f at xs)) ∙ ap (λ ys. take at (map f xs) ++ ys) (sym (drop-map f (suc at) xs))

@@ -8,11 +8,11 @@ use Rattle.std.proofs.lemmas.List.Elements.{Contains-get_or}
 use Rattle.std.proofs.lemmas.List.Sums.{length-filter, sum_by-insert, sum_by-remove}
 use Rattle.cache_ident.specs.declared.idents.Ident.{Ident}
 use Rattle.cache_ident.specs.declared.classes.Class.{Class}
+use Rattle.sorted_list.proofs.RisingLemmas.{filter_all}
 use Rattle.depend_lists.specs.declared.nodes.Node.{Node}
 use Rattle.depend_lists.specs.Indexes.{turned, turned_cmp, Mirrors}
 use Rattle.depend_lists.proofs.ListLemmas.{some_item, Contains-filter, Contains-from_filter}
 use Rattle.depend_lists.proofs.PairLemmas.{one_turned, turned_back, turned_itself}
-use Rattle.depend_lists.proofs.RisingLemmas.{filter_all}
 
 module _ {X : Type 0} (test : X → Bool) (xs : List X) where
   -- where some pass a test, one of them is there
@@ -26,7 +26,7 @@ module _ {X : Type 0} (test : X → Bool) (xs : List X) where
   to_count : (x : X) → Contains xs x → test x ≡ true → 0 < count_by test xs
   to_count x there passes = omega (arith, (Contains-filter test xs x there passes).1, length-filter test xs)
 
-equal : (o : Ordering) → is_eq o ≡ true → o ≡ Equal
+pub equal : (o : Ordering) → is_eq o ≡ true → o ≡ Equal
 equal Less ties = absurd (cc)
 equal Equal ties = refl
 equal Greater ties = absurd (cc)

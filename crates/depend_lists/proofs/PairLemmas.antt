@@ -1,16 +1,13 @@
 -- Pairs of parents and children: how they compare, and what an edit of their list leaves.
-use Rattle.std.proofs.Common.{◌≡◌, ℕ, ◌-◌, List, take, drop, map, filter, ◌∙◌, ap, refl, rules}
+use Rattle.std.proofs.Common.{◌≡◌, ◌≢◌, List, get_or, AllPairs, sym, ◌∙◌, ap, refl, rules}
 use Rattle.std.specs.declared.cmp.Ordering.{Ordering}
 use Rattle.std.specs.declared.cmp.Ordering.TheVariants.{Less, Equal, Greater}
-use Rattle.std.specs.List.{slice_range}
 use Rattle.std.specs.Ordering.{is_eq, ordering_then}
 use Rattle.std.proofs.lemmas.Cmp.{tied_itself}
-use Rattle.std.proofs.lemmas.List.{drop-map, take-map}
 use denote.Enum.Bare.{same_true}
 use Rattle.cache_ident.specs.declared.idents.Ident.{Ident}
 use Rattle.cache_ident.specs.contracts.idents.IdentOrd.TheImpl as ident
 use Rattle.cache_ident.specs.contracts.idents.IdentOrd.TheImpl.Laws as ident_laws
-use Rattle.cache_ident.specs.Rolls.{is_same}
 use Rattle.cache_ident.proofs.RollLemmas.{same_ident}
 use Rattle.cache_ident.specs.declared.classes.Class.{Class}
 use Rattle.depend_lists.specs.declared.nodes.Node.{Node}
@@ -19,7 +16,7 @@ use Rattle.cache_ident.specs.contracts.classes.ClassOrd.TheImpl as class
 use Rattle.cache_ident.specs.contracts.classes.ClassOrd.TheImpl.Laws as class_laws
 use Rattle.depend_lists.specs.contracts.nodes.NodeOrd.TheImpl as node
 use Rattle.depend_lists.specs.contracts.nodes.NodeOrd.TheImpl.Laws as node_laws
-use Rattle.depend_lists.specs.Pairs.{children_of}
+use Rattle.sorted_list.specs.Sorted.{IsRising}
 use Rattle.depend_lists.specs.Indexes.{pair_cmp, turned, turned_cmp}
 
 -- pairs of equal parts are equal
@@ -51,7 +48,7 @@ same_node a b ident class =
     ap by_ident ident ∙ ap by_class class
 
 -- and nodes that compare as equal
-one_node : (a b : Node) → (node.ghosts).cmp a b ≡ Equal → a ≡ b
+pub one_node : (a b : Node) → (node.ghosts).cmp a b ≡ Equal → a ≡ b
 one_node a b ties =
     let both = both_tie _ _ ties in
     same_node a b (one_ident a.ident b.ident both.0) (one_class a.class b.class both.1)
@@ -70,7 +67,7 @@ one_turned a b ties =
     same_pair a b (one_ident a.0 b.0 both.0) (same_pair a.1 b.1 (one_class a.1.0 b.1.0 rest.0) (one_ident a.1.1 b.1.1 rest.1))
 
 -- and each with itself
-pub pair_itself : (a : Ident × Node) → pair_cmp a a ≡ Equal
+pair_itself : (a : Ident × Node) → pair_cmp a a ≡ Equal
 pair_itself a = rw (tied_itself ident_laws.total-law a.0, tied_itself node_laws.total-law a.1) refl
 
 pub turned_itself : (a : Ident × (Class × Ident)) → turned_cmp a a ≡ Equal
@@ -84,8 +81,10 @@ turned_back a b same =
     let classes : a.1.class ≡ b.1.class = ap (λ (t : Ident × (Class × Ident)). t.1.0) same in
     same_pair a b parents (same_node a.1 b.1 idents classes)
 
--- the children of a run of pairs are those of the pairs
-pub children_in_run : (pairs : List (Ident × Node)) (parent : Ident) (from to : ℕ) → slice_range pairs from to ≡ filter (λ pair. is_same pair.0 parent) pairs → slice_range (map (λ pair. pair.1) pairs) from to ≡ children_of pairs parent
-children_in_run pairs parent from to run =
-    let child = λ (pair : Ident × Node). pair.1 in
-    ap (take (to - from)) (drop-map child from pairs) ∙ take-map child (to - from) (drop from pairs) ∙ ap (map child) run
+-- the answers of a comparison are apart
+pub less≢equal : (o : Ordering) → o ≡ Less → o ≡ Equal → ⊥
+less≢equal o less equal = cc
+
+-- no pair stands twice in a rising list
+pub once_from_rising : (pairs : List (Ident × Node)) → IsRising pair_cmp pairs → AllPairs ◌≢◌ pairs
+once_from_rising pairs rising i j d lt within same = less≢equal _ (rising i j d lt within) (ap (pair_cmp (get_or pairs i d)) (sym same) ∙ pair_itself (get_or pairs i d))

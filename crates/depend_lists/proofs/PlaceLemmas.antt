@@ -1,33 +1,22 @@
 -- Where the pairs of a child begin in the order of children.
-use Rattle.std.proofs.Common.{◌≡◌, ℕ, ◌+◌, ◌<◌, ◌≤◌, Bool, true, false, cond, List, [], ◌∷◌, length, take, drop, count_by, Contains, ◌∙◌, ap, inl, inr, refl, arith}
+use Rattle.std.proofs.Common.{◌≡◌, ℕ, ◌+◌, ◌<◌, ◌≤◌, Bool, true, false, cond, List, [], ◌∷◌, length, count_by, Contains, ◌∙◌, ap, inl, inr, refl, arith}
 use Rattle.std.specs.declared.cmp.Ordering.{Ordering}
 use Rattle.std.specs.declared.cmp.Ordering.TheVariants.{Less, Equal, Greater}
-use Rattle.std.specs.List.Sorted.{IsPartitionPoint}
 use Rattle.std.specs.Ordering.{is_lt, ordering_reverse}
 use Rattle.std.proofs.lemmas.Bool.{cases_Bool}
 use Rattle.std.proofs.lemmas.Cmp.{tied_itself}
-use Rattle.std.proofs.lemmas.List.{get_or-drop, get_or-take, length-drop, length-take-le}
-use Rattle.std.proofs.lemmas.List.Sums.{count_by-le-length, length-filter, sum_by-cons, sum_by-take-drop}
+use Rattle.std.proofs.lemmas.List.Sums.{count_by-le-length, sum_by-cons}
 use Rattle.cache_ident.specs.declared.idents.Ident.{Ident}
 use Rattle.cache_ident.specs.contracts.idents.IdentOrd.TheImpl as ident
 use Rattle.cache_ident.specs.contracts.idents.IdentOrd.TheImpl.Laws as ident_laws
+use Rattle.sorted_list.proofs.RisingLemmas.{less}
 use Rattle.depend_lists.specs.declared.nodes.Node.{Node}
 use Rattle.depend_lists.specs.Pairs.{place_of, IsChild}
 use Rattle.depend_lists.proofs.ListLemmas.{Contains-cons_cases}
 use Rattle.depend_lists.proofs.PairLemmas.{one_ident}
-use Rattle.depend_lists.proofs.RisingLemmas.{filter_all, filter_none}
 
 abbrev counts : Bool → ℕ
 counts b = cond b 1 0
-
--- where the items that pass are those before a place, they are as many
-pub count_parted : {X : Type 0} (p : X → Bool) (xs : List X) (at : ℕ) → at ≤ length xs → IsPartitionPoint (λ x. p x ≡ true) (λ x. p x ≡ false) xs at → count_by p xs ≡ at
-count_parted p xs at within parted =
-    let before = filter_all p (take at xs) (λ k d lt.
-    let place : k < at = omega (arith, lt, length-take-le at xs within) in
-    ap p (get_or-take at xs k d place) ∙ parted.0 k d (omega arith) place) in
-    let behind = filter_none p (drop at xs) (λ k d lt. ap p (get_or-drop at xs k d) ∙ parted.1 (at + k) d (omega arith) (omega (arith, lt, length-drop at xs))) in
-    omega (arith, sum_by-take-drop (λ x. counts (p x)) xs at, length-filter p (take at xs), length-filter p (drop at xs), ap length before, ap length behind, length-take-le at xs within)
 
 module _ {X : Type 0} (p q : X → Bool) (implied : (x : X) → p x ≡ true → q x ≡ true) where
   each : (x : X) → counts (p x) ≤ counts (q x)
@@ -50,11 +39,6 @@ module _ {X : Type 0} (p q : X → Bool) (implied : (x : X) → p x ≡ true →
 
 abbrev ident_cmp : Ident → Ident → Ordering
 ident_cmp = (ident.ghosts).cmp
-
-less : (o : Ordering) → is_lt o ≡ true → o ≡ Less
-less Less lt = refl
-less Equal lt = absurd (cc)
-less Greater lt = absurd (cc)
 
 module _ (pairs : List (Ident × Node)) (child : Ident) (is_child : IsChild pairs child) where
   not_before_itself : is_lt (ident_cmp is_child.0.1.ident child) ≡ false

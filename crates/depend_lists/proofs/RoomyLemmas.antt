@@ -15,10 +15,11 @@ use Rattle.cache_ident.specs.declared.names.Caps.{Caps}
 use Rattle.cache_ident.specs.Names.{amount_of}
 use Rattle.cache_ident.specs.Rolls.{is_same}
 use Rattle.cache_ident.proofs.RollLemmas.{is_same-refl}
+use Rattle.sorted_list.proofs.RisingLemmas.{filter_none}
 use Rattle.depend_lists.specs.declared.nodes.Node.{Node}
-use Rattle.depend_lists.specs.Pairs.{parent_count, without, HasOneClass, IsAdded, IsWithin}
+use Rattle.sorted_list.specs.Sorted.{IsAdded}
+use Rattle.depend_lists.specs.Pairs.{parent_count, without, HasOneClass, IsWithin}
 use Rattle.depend_lists.specs.Roomy.{IsRoomy}
-use Rattle.depend_lists.proofs.RisingLemmas.{filter_none}
 use Rattle.depend_lists.proofs.ListLemmas.{Contains-from_filter, Contains-insert_cases, Contains-map}
 
 -- few pairs have few children

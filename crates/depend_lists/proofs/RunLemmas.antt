@@ -1,37 +1,33 @@
--- What stands, or doesn't stand, in the run of a child.
-use Rattle.std.proofs.Common.{◌≡◌, ◌+◌, ℕ, ◌<◌, ◌≤◌, Bool, true, false, not, List, length, get_or, filter, drop, ◌-◌, Contains, sym, ◌∙◌, ap, subst, refl, arith}
-use Rattle.std.specs.List.{slice_range}
-use Rattle.std.proofs.lemmas.Bool.{not_from_false}
-use Rattle.std.proofs.lemmas.List.{length-take}
-use Rattle.std.proofs.lemmas.List.Elements.{Contains-get_or}
-use Rattle.std.proofs.lemmas.List.Edits.{get_or-between, length-between}
+-- What stands, or doesn't stand, under a child.
+use Rattle.std.proofs.Common.{◌≡◌, Bool, true, false, not, List, get_or, Some, None, slice_get, Contains, sym, ◌∙◌, subst, refl}
+use Rattle.std.proofs.lemmas.Bool.{false≢true, not_from_false}
+use Rattle.std.proofs.lemmas.List.Elements.{All-contains, Contains-get_or}
 use Rattle.cache_ident.specs.declared.idents.Ident.{Ident}
+use Rattle.cache_ident.specs.declared.classes.Class.{Class}
 use Rattle.cache_ident.specs.Rolls.{is_same}
 use Rattle.cache_ident.proofs.RollLemmas.{same_ident}
-use Rattle.cache_ident.specs.declared.classes.Class.{Class}
+use Rattle.sorted_list.specs.Sorted.{values_under}
+use Rattle.sorted_list.proofs.RisingLemmas.{filter_all}
+use Rattle.sorted_list.proofs.SortedLemmas.{first_passes, none_passes}
 use Rattle.depend_lists.specs.declared.nodes.Node.{Node}
 use Rattle.depend_lists.specs.Pairs.{without}
 use Rattle.depend_lists.specs.Indexes.{turned, Mirrors}
-use Rattle.depend_lists.proofs.RisingLemmas.{filter_all}
-use Rattle.depend_lists.proofs.ListLemmas.{Contains-filter, Contains-from_filter}
+use Rattle.depend_lists.proofs.PairLemmas.{same_pair}
 use Rattle.depend_lists.proofs.MirrorLemmas.{both_ways}
 
-module _ (parents : List (Ident × (Class × Ident))) (child : Ident) (from to : ℕ) (run : slice_range parents from to ≡ filter (λ entry. is_same entry.0 child) parents) where
-  -- the first of a run is of the child
-  pub first_of_run : (entry : Ident × (Class × Ident)) → from < to → to ≤ length parents → entry ≡ get_or parents from entry → Contains parents entry × (entry.0 ≡ child)
-  first_of_run entry some within read =
-      let place : from + 0 ≡ from = omega arith in
-      let first : get_or (slice_range parents from to) 0 entry ≡ entry = get_or-between parents from to 0 entry (omega arith) ∙ ap (λ k. get_or parents k entry) place ∙ sym read in
-      let in_run : Contains (slice_range parents from to) entry = (0, omega (arith, length-between parents from to within), first) in
-      let kept = Contains-from_filter (λ e. is_same e.0 child) parents entry (subst (λ entries. Contains entries entry) run in_run) in
-      (kept.0, same_ident entry.0 child kept.1)
+module _ (parents : List (Ident × (Class × Ident))) (child : Ident) where
+  -- the first value under a child is one of it
+  pub first_under : (value : Class × Ident) → slice_get (values_under is_same parents child) 0 ≡ Some value → Contains parents (child, value)
+  first_under value first =
+      let entry = first_passes (λ (e : Ident × (Class × Ident)). is_same e.0 child) parents value first in
+      subst (Contains parents) (same_pair entry.0 (child, value) (same_ident entry.0.0 child entry.2) entry.3) entry.1
 
-  -- where the run is empty, all pairs are of other children
-  pub none_in_run : (pairs : List (Ident × Node)) → Mirrors pairs parents → to ≤ from → without pairs child ≡ pairs
-  none_in_run pairs mirrored empty = filter_all (λ pair. not (is_same pair.1.ident child)) pairs (λ k d lt. other (get_or pairs k d) (Contains-get_or pairs k d lt) (is_same (get_or pairs k d).1.ident child) refl)
+  -- where there is none, all pairs are of other children
+  pub none_under : (pairs : List (Ident × Node)) → Mirrors pairs parents → slice_get (values_under is_same parents child) 0 ≡ None → without pairs child ≡ pairs
+  none_under pairs mirrored nothing = filter_all (λ pair. not (is_same pair.1.ident child)) pairs (λ k d lt. other (get_or pairs k d) (Contains-get_or pairs k d lt) (is_same (get_or pairs k d).1.ident child) refl)
     where
       other : (pair : Ident × Node) → Contains pairs pair → (b : Bool) → is_same pair.1.ident child ≡ b → not (is_same pair.1.ident child) ≡ true
       other pair there false differs = not_from_false _ differs
       other pair there true same =
-          let in_run = subst (λ entries. Contains entries (turned pair)) (sym run) (Contains-filter (λ e. is_same e.0 child) parents (turned pair) ((both_ways pairs parents mirrored pair).1 there) same) in
-          absurd (omega (arith, in_run.1, length-take (to - from) (drop from parents)))
+          let fails = none_passes (λ (e : Ident × (Class × Ident)). is_same e.0 child) parents nothing in
+          absurd (false≢true (sym (All-contains (λ (e : Ident × (Class × Ident)). is_same e.0 child ≡ false) parents (turned pair) fails ((both_ways pairs parents mirrored pair).1 there)) ∙ same))

@@ -1,6 +1,5 @@
 -- What holds of the lists in which the pairs stand.
-use Rattle.std.specs.Prelude.{◌≡◌, ◌*◌, ◌≤◌, Bool, List, map, count_by, Vec, vec_capacity}
-use Rattle.std.specs.declared.alloc.Global.{Global}
+use Rattle.std.specs.Prelude.{◌≡◌, ◌*◌, Bool, List, count_by}
 use Rattle.std.specs.declared.cmp.Ordering.{Ordering}
 use Rattle.cache_ident.specs.declared.idents.Ident.{Ident}
 use Rattle.cache_ident.specs.declared.names.Caps.{Caps}
@@ -10,7 +9,7 @@ use Rattle.depend_lists.specs.declared.nodes.Node.{Node}
 use Rattle.depend_lists.specs.declared.nodes.TheConstants.{MOST_PARENTS}
 use Rattle.cache_ident.specs.contracts.classes.ClassOrd.TheImpl as class
 use Rattle.depend_lists.specs.contracts.nodes.NodeOrd.TheImpl as node
-use Rattle.depend_lists.specs.Rising.{IsRising, by_parts}
+use Rattle.sorted_list.specs.Sorted.{Sorted, by_parts}
 use Rattle.depend_lists.specs.Pairs.{count_of, IsProper}
 
 -- a pair from its other end
@@ -29,13 +28,9 @@ turned_cmp = by_parts (ident.ghosts).cmp (by_parts (class.ghosts).cmp (ident.gho
 abbrev pub Mirrors : List (Ident × Node) → List (Ident × (Class × Ident)) → Type 0
 Mirrors pairs parents = (test : Ident × (Class × Ident) → Bool) → count_by test parents ≡ count_by (λ pair. test (turned pair)) pairs
 
--- the lists are in order, agree, and have room for all that may come
-pub record IsSound (caps : Caps) (pairs : Vec (Ident × Node) Global) (children : Vec Node Global) (parents : Vec (Ident × (Class × Ident)) Global) : Type 0 where
-  pub proper : IsProper (record { caps = caps; pairs = pairs.items })
-  pub rising : IsRising pair_cmp pairs.items
-  pub alone : children.items ≡ map (λ pair. pair.1) pairs.items
-  pub turned_rising : IsRising turned_cmp parents.items
-  pub mirrored : Mirrors pairs.items parents.items
-  pub pairs_room : MOST_PARENTS * count_of caps ≤ vec_capacity pairs
-  pub children_room : MOST_PARENTS * count_of caps ≤ vec_capacity children
-  pub parents_room : MOST_PARENTS * count_of caps ≤ vec_capacity parents
+-- the lists agree, and have room for all that may come
+pub record IsSound (caps : Caps) (pairs : Sorted Ident Node) (parents : Sorted Ident (Class × Ident)) : Type 0 where
+  pub proper : IsProper (record { caps = caps; pairs = pairs.entries })
+  pub mirrored : Mirrors pairs.entries parents.entries
+  pub pairs_room : pairs.room ≡ MOST_PARENTS * count_of caps
+  pub parents_room : parents.room ≡ MOST_PARENTS * count_of caps

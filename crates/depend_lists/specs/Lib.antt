@@ -1,4 +1,3 @@
-pub mod Rising
 pub mod Pairs
 pub mod Indexes
 pub mod Roomy

@@ -1,5 +1,5 @@
 -- The pairs of a parent and a child that depends on it.
-use Rattle.std.specs.Prelude.{◌≡◌, ◌≢◌, ℕ, ◌+◌, ◌<◌, ◌≤◌, not, List, length, map, filter, count_by, insert, remove, slice_index_or, Contains, AllPairs}
+use Rattle.std.specs.Prelude.{◌≡◌, ◌≢◌, ℕ, ◌+◌, ◌≤◌, not, List, length, map, filter, count_by, Contains, AllPairs}
 use Rattle.std.specs.Ordering.{is_lt}
 use Rattle.cache_ident.specs.declared.idents.Ident.{Ident}
 use Rattle.cache_ident.specs.declared.idents.Kind.{Kind}
@@ -35,10 +35,6 @@ parent_count pairs child = count_by (λ pair. is_same pair.1.ident child) pairs
 abbrev pub place_of : List (Ident × Node) → Ident → ℕ
 place_of pairs child = count_by (λ pair. is_lt ((ident_order.ghosts).cmp pair.1.ident child)) pairs
 
--- the new list has the pair too, at some place, and else is the old one
-abbrev pub IsAdded : List (Ident × Node) → List (Ident × Node) → Ident × Node → Type 0
-IsAdded old new pair = (at : ℕ) × (at ≤ length old) × (new ≡ insert old at pair)
-
 -- the child has the class that it has in the pairs
 abbrev pub HasOneClass : List (Ident × Node) → Node → Type 0
 HasOneClass pairs child = (pair : Ident × Node) → Contains pairs pair → pair.1.ident ≡ child.ident → pair.1.class ≡ child.class
@@ -57,10 +53,6 @@ pub record IsProper (dependence : Dependence) : Type 0 where
   pub few_parents : (child : Ident) → parent_count dependence.pairs child ≤ MOST_PARENTS
   pub once : AllPairs ◌≢◌ dependence.pairs
   pub within : IsWithin dependence.caps dependence.pairs
-
--- the new list lacks one place of the old one, where the pair stood
-abbrev pub IsTakenOut : List (Ident × Node) → List (Ident × Node) → Ident × Node → Type 0
-IsTakenOut old new pair = (at : ℕ) × (at < length old) × (slice_index_or old at pair ≡ pair) × (new ≡ remove old at)
 
 -- a pair of the list with that child
 abbrev pub IsChildPair : List (Ident × Node) → Ident → Ident × Node → Type 0

@@ -1,11 +1,12 @@
 //! The pairs of parent and child, in order of parent.
 
 ghost use Rattle.std.specs.Prelude.{◌≡◌, ◌≢◌, ◌+◌, ◌*◌, ◌<◌, ◌≤◌, length, [], ◌∷◌, remove, Contains, IfOk, IfSome, IfNone};
-ghost use Rattle.depend_lists.specs.Pairs.{children_of, count_of, parent_count, place_of, without, HasOneClass, IsAdded, IsAloneAt, IsChild, IsChildPair, IsProper, IsTakenOut, IsWithin};
+ghost use Rattle.sorted_list.specs.Sorted.{IsAdded, IsTakenOut};
+ghost use Rattle.depend_lists.specs.Pairs.{children_of, count_of, parent_count, place_of, without, HasOneClass, IsAloneAt, IsChild, IsChildPair, IsProper, IsWithin};
 
 use super::nodes::{self, MOST_PARENTS, Node};
-use super::rising;
 use cache_ident::{Caps, Class, Ident, NoMemory};
+use sorted_list::{Run, SortedList};
 use std::alloc::Global;
 use std::marker::Model;
 
@@ -17,11 +18,9 @@ use std::marker::Model;
 pub struct Depends {
     caps: Caps,
     // In order of parent, and under one parent in that of the children.
-    pairs: Vec<(Ident, Node)>,
-    // The children of these pairs alone.
-    children: Vec<Node>,
+    pairs: SortedList<Ident, Node>,
     // Each pair from its other end: the child's identifier, its class and its parent.
-    parents: Vec<(Ident, (Class, Ident))>,
+    parents: SortedList<Ident, (Class, Ident)>,
 }
 
 impl Model for Depends {
@@ -31,27 +30,26 @@ impl Model for Depends {
 
     ghost use Rattle.depend_lists.specs.Indexes.{IsSound};
 
-    ghost view = { λ depends. record { caps = depends.caps; pairs = depends.pairs.items } };
+    ghost view = { λ depends. record { caps = depends.caps; pairs = depends.pairs.entries } };
 
-    ghost invariant = { λ depends. IsSound depends.caps depends.pairs depends.children depends.parents };
+    ghost invariant = { λ depends. IsSound depends.caps depends.pairs depends.parents };
 }
 
 impl Depends {
-    /// No pairs, with room for the children that the capacities allow.
+    /// No pairs, with room for the children that the capacities allow. Where that is room for 2^32 pairs or more, there
+    /// is no memory for them. None of the room is written, so the time doesn't grow with the capacities.
     pub fn new(alloc: Global, caps: Caps) -> Result<Depends, NoMemory>
         ensures { IfOk result (λ depends. depends ≡ record { caps = caps; pairs = [] }) }
     {
         let room = MOST_PARENTS * nodes::most_loaded(caps);
         Ok(Depends {
             caps,
-            pairs: Vec::with_capacity(alloc, room)?,
-            children: Vec::with_capacity(alloc, room)?,
-            parents: Vec::with_capacity(alloc, room)?,
+            pairs: SortedList::new(alloc, room)?,
+            parents: SortedList::new(alloc, room)?,
         })
     }
 
-    /// From now on the child depends on the parent. It takes no memory; its time is two searches in the
-    /// pairs, and moves of those behind.
+    /// From now on the child depends on the parent. It takes no memory, and a time logarithmic in the pairs.
     pub fn add(&mut self, parent: Ident, child: Node)
         requires absent { Contains self.old.pairs (parent, child) → ⊥ }
         requires class { HasOneClass self.old.pairs child }
@@ -60,9 +58,8 @@ impl Depends {
         ensures caps { self.new.caps ≡ self.old.caps }
         ensures pairs { IsAdded self.old.pairs self.new.pairs (parent, child) }
     {
-        let at = rising::put(&mut self.pairs, (parent, child));
-        let _ = self.children.insert(at, child);
-        rising::put(&mut self.parents, (child.ident, (child.class, parent)));
+        self.pairs.insert(parent, child);
+        self.parents.insert(child.ident, (child.class, parent));
     }
 
     /// Takes out every pair with that child and no other pair, at most five, each in the time of `add`.
@@ -74,25 +71,25 @@ impl Depends {
         }
     }
 
-    /// All that depends on the parent over one pair, each once. Two searches in the pairs.
-    pub fn children(&self, parent: Ident) -> &[Node]
-        ensures children { result.now ≡ children_of self.now.pairs parent }
+    /// All that depends on the parent over one pair, each once, in order. The call takes a time logarithmic in the
+    /// pairs, and so does each child that is gone over; how many are left is known at once.
+    pub fn children(&self, parent: Ident) -> Run<'_, Ident, Node>
+        ensures children { result ≡ children_of self.now.pairs parent }
         ensures proper { IsProper self.now }
     {
-        let (from, to) = rising::run_of(&self.pairs, &parent);
-        &self.children[from..to]
+        self.pairs.run(&parent)
     }
 
     /// A number for each child: how many pairs have a child before it in the order of identifiers. While the pairs
     /// stay it stays too, and no other child of a pair has it, so that it can index a table made once for the
-    /// capacities. One search in the pairs.
+    /// capacities. A time logarithmic in the pairs.
     pub fn place(&self, child: Ident) -> usize
         ensures place { result ≡ place_of self.now.pairs child }
         ensures within { IsChild self.now.pairs child → result < length self.now.pairs }
         ensures few { length self.now.pairs ≤ MOST_PARENTS * count_of self.now.caps }
         ensures alone { IsChild self.now.pairs child → IsAloneAt self.now.pairs child result }
     {
-        rising::begin_of(&self.parents, &child)
+        self.parents.count_below(&child)
     }
 
     // A pair with that child.
@@ -100,13 +97,14 @@ impl Depends {
         ensures some { IfSome result (IsChildPair self.now.pairs child) }
         ensures none { IfNone result (without self.now.pairs child ≡ self.now.pairs) }
     {
-        let (from, to) = rising::run_of(&self.parents, &child);
-        if from < to {
-            let (ident, (class, parent)) = self.parents[from];
-            Some((parent, Node { ident, class }))
-        } else {
-            None
-        }
+        let (class, parent) = self.parents.find(&child)?;
+        Some((
+            parent,
+            Node {
+                ident: child,
+                class,
+            },
+        ))
     }
 
     // Takes out one pair.
@@ -115,8 +113,7 @@ impl Depends {
         ensures caps { self.new.caps ≡ self.old.caps }
         ensures pairs { IsTakenOut self.old.pairs self.new.pairs (parent, child) }
     {
-        let at = rising::take(&mut self.pairs, &(parent, child));
-        let _ = self.children.remove(at);
-        rising::take(&mut self.parents, &(child.ident, (child.class, parent)));
+        self.pairs.remove(parent, child);
+        self.parents.remove(child.ident, (child.class, parent));
     }
 }

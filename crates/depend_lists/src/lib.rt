@@ -3,7 +3,6 @@
 
 mod depends;
 mod nodes;
-mod rising;
 #[cfg(test)]
 mod tests;
 

@@ -9,7 +9,7 @@ use Rattle.std.proofs.lemmas.Map.Keys.{IsDistinct-IsPermutation, IsDistinct-from
 use Rattle.cache_ident.specs.declared.idents.Ident.{Ident}
 use Rattle.cache_ident.specs.Rolls.{is_same}
 use Rattle.cache_ident.proofs.RollLemmas.{is_same-refl, same_ident}
-use Rattle.depend_lists.proofs.RisingLemmas.{filter_none}
+use Rattle.sorted_list.proofs.RisingLemmas.{filter_none}
 
 -- the test of two identifiers answers the same both ways round
 same_turned : (a b : Ident) → is_same a b ≡ true → is_same b a ≡ true

@@ -1,8 +1,10 @@
 -- What was gathered so far, and what is gathered in the end.
-use Rattle.std.proofs.Common.{◌≡◌, ◌≢◌, ℕ, Bool, true, false, refl, ◌+◌, ◌<◌, ◌≤◌, List, [], ◌∷◌, ◌++◌, length, get_or, map, Contains, sym, ◌∙◌, ap, subst, ◌⊎◌, inl, inr, arith}
+use Rattle.std.proofs.Common.{◌≡◌, ◌≢◌, ℕ, Bool, true, false, refl, ◌+◌, ◌<◌, ◌≤◌, List, [], ◌∷◌, ◌++◌, length, get_or, map, All, Contains, Option, Some, None, sym, ◌∙◌, ap, subst, ◌⊎◌, inl, inr, arith}
 use Rattle.std.proofs.Math.ListN.{set}
-use Rattle.std.proofs.lemmas.List.{append_assoc, get_or_append_left, get_or_default, map-append, map_push}
-use Rattle.std.proofs.lemmas.List.Elements.{Contains-append_left, Contains-get_or, Contains-push, Contains-push_cases}
+use Rattle.std.specs.Iterator.{Yields, YieldsFirst}
+use Rattle.std.proofs.lemmas.Iterator.Consumers.{YieldsList-end, YieldsList-from_first, YieldsList-turn}
+use Rattle.std.proofs.lemmas.List.{append_assoc, get_or_append_left, get_or_default, map-append, map-id, map_push}
+use Rattle.std.proofs.lemmas.List.Elements.{All-contains, All-push, Contains-append_left, Contains-get_or, Contains-push, Contains-push_cases}
 use Rattle.std.proofs.lemmas.List.Quantifiers.{all_pairs_push}
 use Rattle.std.proofs.lemmas.Bool.{cases_lt, false≢true}
 use Rattle.cache_ident.specs.declared.idents.Ident.{Ident}
@@ -100,63 +102,65 @@ module _ (pairs : List (Ident × Node)) (root : Ident) (nodes : List Node) where
       ],
     )
 
-module _ (pairs : List (Ident × Node)) (parent : Ident) (children : List Node) (are : children ≡ children_of pairs parent) (k : ℕ) (d : Node) (lt : k < length children) where
-  listed : Contains pairs (parent, get_or children k d)
-  listed = pair_of_child pairs parent (get_or children k d) (subst (λ nodes. Contains nodes (get_or children k d)) are (Contains-get_or children k d lt))
-
+module _ (pairs : List (Ident × Node)) (parent : Ident) (child : Node) (listed : Contains (children_of pairs parent) child) where
   -- what is listed under a parent is a child
-  pub listed_child : IsChild pairs (get_or children k d).ident
-  listed_child = ((parent, get_or children k d), (listed, refl))
+  pub listed_child : IsChild pairs child.ident
+  listed_child = ((parent, child), (pair_of_child pairs parent child listed, refl))
 
   -- and depends, where the children of that parent do
-  pub listed_depends : (root : Ident) → IsUnder pairs root parent → DependsOn pairs root (get_or children k d)
-  listed_depends root under = under (get_or children k d) listed
+  pub listed_depends : (root : Ident) → IsUnder pairs root parent → DependsOn pairs root child
+  listed_depends root under = under child (pair_of_child pairs parent child listed)
 
--- the first k children of a list are there: each is the root or was gathered
-abbrev pub AreThere : Ident → List Node → List Node → ℕ → Type 0
-AreThere root children nodes n = (k : ℕ) (d : Node) → k < n → ((get_or children k d).ident ≡ root) ⊎ Contains (map (λ node. node.ident) nodes) (get_or children k d).ident
+module _ (pairs : List (Ident × Node)) (parent : Ident) (start : List Node) (are : start ≡ children_of pairs parent) (gone left : List Node) (yielded : Yields (YieldsFirst (λ (left : List Node). left)) start gone left) (item : Option Node) (rest : List Node) (next : YieldsFirst (λ (left : List Node). left) left item rest) where
+  -- what comes while the children of a parent are gone over is one of them
+  pub comes_listed : (child : Node) → item ≡ Some child → Contains (children_of pairs parent) child
+  comes_listed child is =
+      let turn = YieldsList-turn (YieldsList-from_first (λ node. node) (λ left. left) (children_of pairs parent) are) gone left yielded item rest child is next in
+      (length gone, turn.0, sym turn.1)
 
--- the state after so many children: what was gathered at first, and these
-pub record HasCome (pairs : List (Ident × Node)) (root : Ident) (children first nodes : List Node) (marks : List Bool) (n : ℕ) : Type 0 where
+  -- and in the end all have come
+  pub all_came : item ≡ None → gone ≡ children_of pairs parent
+  all_came none = sym (map-id gone) ∙ (YieldsList-end (YieldsList-from_first (λ node. node) (λ left. left) (children_of pairs parent) are) gone left yielded item rest none next).0
+
+-- these children are there: each is the root or was gathered
+abbrev pub AreThere : Ident → List Node → List Node → Type 0
+AreThere root nodes children = All (λ child. (child.ident ≡ root) ⊎ Contains (map (λ node. node.ident) nodes) child.ident) children
+
+-- the state after some children: what was gathered at first, and these
+pub record HasCome (pairs : List (Ident × Node)) (root : Ident) (first nodes : List Node) (marks : List Bool) (gone : List Node) : Type 0 where
   pub gathered : IsGathered pairs root nodes
   pub marked : IsMarked pairs nodes marks
   pub extended : IsExtended first nodes
-  pub there : AreThere root children nodes n
+  pub there : AreThere root nodes gone
 
-module _ (pairs : List (Ident × Node)) (root : Ident) (children first nodes : List Node) (marks : List Bool) (n : ℕ) (come : HasCome pairs root children first nodes marks n) (d : Node) (within : n < length children) where
-  one_more : (after : List Node) → AreThere root children after n → ((get_or children n d).ident ≡ root) ⊎ Contains (map (λ node. node.ident) after) (get_or children n d).ident → AreThere root children after (n + 1)
-  one_more after before here k e lt = elim (cases_lt k n) [
-    | inl earlier ↦ before k e earlier
-    | inr not_earlier ↦
-        let same : n ≡ k = omega arith in
-        subst (λ node. (node.ident ≡ root) ⊎ Contains (map (λ node. node.ident) after) node.ident) (get_or_default children n d e within ∙ ap (λ k. get_or children k e) same) here
-  ]
-
+module _ (pairs : List (Ident × Node)) (root : Ident) (first nodes : List Node) (marks : List Bool) (gone : List Node) (come : HasCome pairs root first nodes marks gone) (child : Node) where
   -- one more child, which is there
-  pub come_past : ((get_or children n d).ident ≡ root) ⊎ Contains (map (λ node. node.ident) nodes) (get_or children n d).ident → HasCome pairs root children first nodes marks (n + 1)
-  come_past here = record { gathered = come.gathered; marked = come.marked; extended = come.extended; there = one_more nodes come.there here }
+  pub come_past : (child.ident ≡ root) ⊎ Contains (map (λ node. node.ident) nodes) child.ident → HasCome pairs root first nodes marks (gone ++ child ∷ [])
+  come_past here = record {
+    gathered = come.gathered;
+    marked = come.marked;
+    extended = come.extended;
+    there = All-push (λ (c : Node). (c.ident ≡ root) ⊎ Contains (map (λ node. node.ident) nodes) c.ident) gone child come.there here;
+  }
 
   -- or which is gathered now
-  pub come_new : (place : ℕ) → DependsOn pairs root (get_or children n d) → (get_or children n d).ident ≢ root → place ≡ place_of pairs (get_or children n d).ident → place < length marks → get_or marks place false ≡ false → HasCome pairs root children first (nodes ++ get_or children n d ∷ []) (set marks place true) (n + 1)
+  pub come_new : (place : ℕ) → DependsOn pairs root child → child.ident ≢ root → place ≡ place_of pairs child.ident → place < length marks → get_or marks place false ≡ false → HasCome pairs root first (nodes ++ child ∷ []) (set marks place true) (gone ++ child ∷ [])
   come_new place depends apart is has_mark unset =
-      let child = get_or children n d in
       let longer = nodes ++ child ∷ [] in
       let idents = map_push ident_of nodes child in
       record {
         gathered = gathered_more pairs root nodes come.gathered child depends apart (not_before pairs root nodes come.gathered marks come.marked child.ident place is unset);
         marked = marked_more pairs nodes marks child place is has_mark come.marked;
         extended = (come.extended.0 ++ child ∷ [], ap (λ ns. ns ++ child ∷ []) come.extended.1 ∙ append_assoc first come.extended.0 (child ∷ []));
-        there = one_more longer (λ k e lt. elim (come.there k e lt) [
+        there = All-push (λ (c : Node). (c.ident ≡ root) ⊎ Contains (map (λ node. node.ident) longer) c.ident) gone child (λ k d lt. elim (come.there k d lt) [
           | inl is_root ↦ inl is_root
-          | inr was ↦ inr (rw idents (Contains-append_left (map ident_of nodes) (child.ident ∷ []) (get_or children k e).ident was))
+          | inr was ↦ inr (rw idents (Contains-append_left (map ident_of nodes) (child.ident ∷ []) (get_or gone k d).ident was))
         ]) (inr (rw idents (Contains-push (map ident_of nodes) child.ident)));
       }
 
 -- each child of a parent whose children were gone through is there
-pub has_children_all : (pairs : List (Ident × Node)) (root parent : Ident) (nodes children : List Node) → children ≡ children_of pairs parent → AreThere root children nodes (length children) → HasChildrenOf pairs root parent nodes
-has_children_all pairs root parent nodes children are each node there =
-    let place = subst (λ nodes. Contains nodes node) (sym are) (child_of_pair pairs parent node there) in
-    subst (λ n. (n.ident ≡ root) ⊎ Contains (map (λ node. node.ident) nodes) n.ident) place.2 (each place.0 node place.1)
+pub has_children_all : (pairs : List (Ident × Node)) (root parent : Ident) (nodes : List Node) → AreThere root nodes (children_of pairs parent) → HasChildrenOf pairs root parent nodes
+has_children_all pairs root parent nodes each node there = All-contains (λ (c : Node). (c.ident ≡ root) ⊎ Contains (map (λ node. node.ident) nodes) c.ident) (children_of pairs parent) node each (child_of_pair pairs parent node there)
 
 -- what depends on the root over one pair
 pub under_root : (pairs : List (Ident × Node)) (root : Ident) → IsUnder pairs root root

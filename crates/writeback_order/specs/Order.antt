@@ -7,7 +7,7 @@ use Rattle.cache_ident.specs.contracts.idents.IdentOrd.TheImpl as ident_order
 use Rattle.cache_ident.specs.declared.classes.Class.{Class}
 use Rattle.cache_ident.specs.declared.classes.Class.TheVariants as class
 use Rattle.depend_lists.specs.declared.nodes.Node.{Node}
-use Rattle.depend_lists.specs.Rising.{IsRising}
+use Rattle.sorted_list.specs.Sorted.{IsRising}
 
 -- the node depends on the root: it is a child of the root, or of what depends on it
 pub data DependsOn (pairs : List (Ident × Node)) (root : Ident) : Node → Type 0 where

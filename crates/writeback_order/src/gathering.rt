@@ -56,7 +56,7 @@ fn gather_children(
         let place = depends.place(child.ident);
         if child.ident != root && !marks[place] {
             marks[place] = true;
-            let _ = nodes.push(*child);
+            let _ = nodes.push(child);
         }
     }
 }

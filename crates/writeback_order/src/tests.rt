@@ -26,13 +26,7 @@ fn node(kind: Kind, slot: u32, serial: u64, class: Class) -> Node {
 fn is_child(depends: &Depends, parent: Ident, child: Node) -> bool
     ensures { IsTrue result ↔ Contains depends.now.pairs (parent, child) }
 {
-    is_among(depends.children(parent), child)
-}
-
-fn is_among(children: &[Node], child: Node) -> bool
-    ensures { IsTrue result ↔ Contains children.now child }
-{
-    children.contains(&child)
+    depends.children(parent).any(|node| node == child)
 }
 
 // Makes the child depend on these parents, and on no others.

@@ -1,19 +1,16 @@
+use Rattle.std.proofs.Common.{sym, refl}
+use Rattle.depend_lists.specs.declared.nodes.Node.{Node}
 use Rattle.depend_lists.proofs.MirrorLemmas.{both_ways}
-use Rattle.depend_lists.proofs.RunLemmas.{first_of_run, none_in_run}
+use Rattle.depend_lists.proofs.RunLemmas.{first_under, none_under}
 use Rattle.depend_lists.proofs.depends.Depends.pair_of.Goals as goal
 
-pub run_of-from-requires : goal.run_of-from-requires
-run_of-from-requires c = rw c.deref.ensures.value c.self.invariant.turned_rising
+-- where there is no entry of the child, each pair is of another one
+pub returns-in_err-class-clause-none : goal.returns-in_err-class-clause-none
+returns-in_err-class-clause-none c = rw (c.from_residual.ensures, ← c.self.view_is) (none_under c.self.inside.parents.entries c.args.child c.self.inside.pairs.entries c.self.invariant.mirrored (sym c.in_err-class.ensures.value))
 
--- the first of the run is a pair with the child
-pub returns-then-from-to-clause-some : goal.returns-then-from-to-clause-some
-returns-then-from-to-clause-some c =
-    let found = rw c.deref.ensures.value at c.run_of-from.ensures in
-    let first = first_of_run c.self.inside.parents.items c.args.child _ _ found.run c.index.result.now c.if-from-to.true found.within c.index.ensures in
-    rw (← c.self.view_is) ((both_ways c.self.inside.pairs.items c.self.inside.parents.items c.self.invariant.mirrored (c.index.result.now.1.1, record { ident = c.index.result.now.0; class = c.index.result.now.1.0 })).0 first.0, first.1)
-
--- and where there is none, each pair is of another child
-pub returns-else-from-to-clause-none : goal.returns-else-from-to-clause-none
-returns-else-from-to-clause-none c =
-    let found = rw c.deref.ensures.value at c.run_of-from.ensures in
-    rw (← c.self.view_is) (none_in_run c.self.inside.parents.items c.args.child _ _ found.run c.self.inside.pairs.items c.self.invariant.mirrored c.if-from-to.false)
+-- the first entry of the child is a pair with it
+pub returns-clause-some : goal.returns-clause-some
+returns-clause-some c =
+    let child : Node = record { ident = c.args.child; class = c.in_ok-class.class } in
+    let first = first_under c.self.inside.parents.entries c.args.child (c.in_ok-class.class, c.in_ok-class.parent) (sym c.in_ok-class.ensures.value) in
+    rw (← c.self.view_is) ((both_ways c.self.inside.pairs.entries c.self.inside.parents.entries c.self.invariant.mirrored (c.in_ok-class.parent, child)).0 first, refl)

@@ -1,0 +1,4 @@
+pub mod Fixed
+pub mod Sorted
+pub mod Trees
+pub mod Layout

@@ -1,0 +1,11 @@
+//! A sorted list in memory that is made once: searched and changed in logarithmic time.
+#![tactic(auto)]
+
+mod fixed;
+mod nodes;
+mod run;
+mod search;
+mod sorted;
+
+pub use run::Run;
+pub use sorted::SortedList;

@@ -1,0 +1,70 @@
+//! The way down a tree to where something comes.
+
+ghost use Rattle.std.specs.Prelude.{◌≡◌, ◌≤◌, Bool, true, AllPairs, count_by};
+ghost use Rattle.std.specs.Ordering.{is_le, is_lt};
+ghost use Rattle.sorted_list.specs.Sorted.{by_parts};
+ghost use Rattle.sorted_list.specs.Trees.{Stands, Tree, items_of};
+
+use super::nodes::{Branch, Node};
+
+/// A place between items, which an item is before or behind.
+pub(crate) trait Cut<T> {
+    ghost is_behind_of: { Self → T → Bool };
+
+    /// Whether the place is behind the item.
+    fn is_behind(&self, item: &T) -> bool
+        ensures { result ≡ is_behind_of self.now item.now };
+}
+
+/// Before the entry itself.
+#[derive(Drop)]
+pub(crate) struct AtEntry<'a, K, V>(pub(crate) &'a K, pub(crate) &'a V);
+
+/// Before all entries with the key.
+#[derive(Drop)]
+pub(crate) struct AtKey<'a, K>(pub(crate) &'a K);
+
+/// Behind all entries with the key.
+#[derive(Drop)]
+pub(crate) struct BehindKey<'a, K>(pub(crate) &'a K);
+
+impl<'a, K: Ord, V: Ord> Cut<(K, V)> for AtEntry<'a, K, V> {
+    ghost is_behind_of = { λ cut entry. is_lt (by_parts K.cmp V.cmp entry (cut.0.now, cut.1.now)) };
+
+    fn is_behind(&self, item: &(K, V)) -> bool {
+        item.0.cmp(self.0).then(item.1.cmp(self.1)).is_lt()
+    }
+}
+
+impl<'a, K: Ord, V> Cut<(K, V)> for AtKey<'a, K> {
+    ghost is_behind_of = { λ cut entry. is_lt (K.cmp entry.0 cut.0.now) };
+
+    fn is_behind(&self, item: &(K, V)) -> bool {
+        item.0 < *self.0
+    }
+}
+
+impl<'a, K: Ord, V> Cut<(K, V)> for BehindKey<'a, K> {
+    ghost is_behind_of = { λ cut entry. is_le (K.cmp entry.0 cut.0.now) };
+
+    fn is_behind(&self, item: &(K, V)) -> bool {
+        item.0 <= *self.0
+    }
+}
+
+/// How many items the place is behind.
+pub(crate) fn count_before<T: Copy, C: Cut<T>>(nodes: &[Node<T>], branch: Branch, cut: &C) -> u32
+    requires { (tree : Tree T) × Stands nodes.now branch tree }
+    ensures found { (tree : Tree T) → Stands nodes.now branch tree → AllPairs (λ a b. C.is_behind_of cut.now b ≡ true → C.is_behind_of cut.now a ≡ true) (items_of tree) → result ≡ count_by (C.is_behind_of cut.now) (items_of tree) }
+    ensures few { result ≤ branch.count }
+{
+    if branch.count == 0 {
+        return 0;
+    }
+    let node = &nodes[branch.seat as usize];
+    if cut.is_behind(&node.item) {
+        node.before.count + 1 + count_before(nodes, node.behind, cut)
+    } else {
+        count_before(nodes, node.before, cut)
+    }
+}
