@@ -58,7 +58,13 @@ fn admit_if<T: Records>(tables: &T, formed: bool, decl: &Decl) -> Result<(), u32
 }
 
 // Makes a declaration for a call. Where it breaks a rule nothing but the answer comes of it.
-fn make<T: Changes>(tables: &mut T, no: ThreadNo, decl: Decl, formed: bool, made: u32) -> Result<(), NoMemory>
+fn make<T: Changes>(
+    tables: &mut T,
+    no: ThreadNo,
+    decl: Decl,
+    formed: bool,
+    made: u32,
+) -> Result<(), NoMemory>
     requires { no.0 < length (T.state tables.old).threads }
     ensures ok { OnOk result (OfThread (T.state tables.old) no.0 (λ t. T.state tables.new ≡ made_def (T.state tables.old) no.0 t decl made (rule_if_formed (T.state tables.old) decl formed))) }
     ensures err { OnErr result (T.state tables.new ≡ (T.state tables.old)) }
@@ -73,7 +79,9 @@ fn make<T: Changes>(tables: &mut T, no: ThreadNo, decl: Decl, formed: bool, made
     Ok(())
 }
 
-fn map<T: Changes>(tables: &mut T, no: ThreadNo,
+fn map<T: Changes>(
+    tables: &mut T,
+    no: ThreadNo,
     space: SpaceNo,
     vpn: u32,
     frame: u32,
@@ -105,7 +113,9 @@ fn unmap<T: Changes>(tables: &mut T, no: ThreadNo, space: SpaceNo, vpn: Vpn)
     }
 }
 
-fn spawn<T: Changes>(tables: &mut T, no: ThreadNo,
+fn spawn<T: Changes>(
+    tables: &mut T,
+    no: ThreadNo,
     space: SpaceNo,
     pc: u32,
     a0: u32,
@@ -127,7 +137,9 @@ fn spawn<T: Changes>(tables: &mut T, no: ThreadNo,
     make(tables, no, decl, true, spawned)
 }
 
-fn grant<T: Changes>(tables: &mut T, no: ThreadNo,
+fn grant<T: Changes>(
+    tables: &mut T,
+    no: ThreadNo,
     space: SpaceNo,
     kernel: u32,
     group: u32,

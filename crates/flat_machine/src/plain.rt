@@ -297,7 +297,11 @@ fn rules_answer_alike(rt: HostRuntime) -> Result<(), Fail> {
         let plain = Plain::of(rt.alloc(), stepped(rt.alloc(), steps)?)?;
         for no in 0..3 {
             let no = ThreadNo(no);
-            assert_eq!(rt; next_step(&plain, no), flat.next_step(no), "after {steps} steps");
+            assert_eq!(rt;
+                next_step(&plain, no),
+                flat.next_step(no),
+                "after {steps} steps"
+            );
             assert_eq!(rt;
                 parents(&plain, Name::Thread(no)).as_slice(),
                 flat.parents(Name::Thread(no)).as_slice()
@@ -313,7 +317,11 @@ fn rules_answer_alike(rt: HostRuntime) -> Result<(), Fail> {
             assert_eq!(rt; is_fit(&plain, SpaceNo(0), Vpn(vpn)), vpn != 2);
             assert_eq!(rt; admit(&plain, &again), flat.admit(&again), "of page {vpn}");
         }
-        assert_eq!(rt; settled(&plain, 4, 4), flat.settled(4, 4), "after {steps} steps");
+        assert_eq!(rt;
+            settled(&plain, 4, 4),
+            flat.settled(4, 4),
+            "after {steps} steps"
+        );
     }
     Ok(())
 }

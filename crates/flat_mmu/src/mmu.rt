@@ -110,6 +110,7 @@ impl<'a, T: Changes> Space for Mmu<'a, T> {
     }
 
     fn touch(&mut self, va: u32, access: Access) {
-        self.tables.mark(self.space, Vpn(va / 4_096), writes(access));
+        self.tables
+            .mark(self.space, Vpn(va / 4_096), writes(access));
     }
 }

@@ -119,7 +119,8 @@ pub fn admit<T: Records>(tables: &T, decl: &Decl) -> Result<(), u32>
         (None, Decl::Machine { machine }) => rule_of_machine(machine),
         (None, early) => Err(rule_of_early(early)),
         (Some(_), Decl::Machine { .. }) => Err(5),
-        (Some(machine), Decl::Kernel { no, limits }) => rule_of_kernel(tables, 
+        (Some(machine), Decl::Kernel { no, limits }) => rule_of_kernel(
+            tables,
             machine.caps,
             no,
             limits,
@@ -211,7 +212,9 @@ fn rule_of_space<T: Records>(tables: &T, no: SpaceNo, kernel: KernelNo) -> Resul
     Ok(())
 }
 
-fn rule_of_thread<T: Records>(tables: &T, no: ThreadNo,
+fn rule_of_thread<T: Records>(
+    tables: &T,
+    no: ThreadNo,
     space: SpaceNo,
     pc: u32,
     priority: u32,
@@ -262,7 +265,9 @@ fn has_four<T: Records>(tables: &T, frame: Frame) -> bool
     tables.signal_rows(frame).is_full()
 }
 
-fn rule_of_map<T: Records>(tables: &T, space: SpaceNo,
+fn rule_of_map<T: Records>(
+    tables: &T,
+    space: SpaceNo,
     vpn: Vpn,
     frame: Frame,
     flags: Flags,

@@ -34,7 +34,11 @@ pub fn parents<T: Records>(tables: &T, child: Name) -> ArrayVec<Name, 6>
         Name::Kernel(_) => ArrayVec::new(),
         Name::Space(space) => at_most_one(tables.kernel_of(space).map(Name::Kernel)),
         Name::Thread(no) => {
-            at_most_one(tables.thread(no).map(|thread| Name::Space(T::space_of(thread))))
+            at_most_one(
+                tables
+                    .thread(no)
+                    .map(|thread| Name::Space(T::space_of(thread))),
+            )
         }
         Name::Mapping(space, vpn) => match tables.row(space, vpn) {
             Some(row) => parents_of_row(tables, row),

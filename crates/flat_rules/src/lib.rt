@@ -5,7 +5,6 @@
 //! whatever form, has all its rules.
 #![tactic(auto)]
 
-
 mod changes;
 mod declarations;
 mod depends;
@@ -16,8 +15,8 @@ mod signals;
 mod threads;
 mod translation;
 
-pub use declarations::admit;
 pub use changes::Changes;
+pub use declarations::admit;
 pub use depends::parents;
 pub use look::{next_signal, next_step};
 pub use records::Records;

@@ -145,7 +145,12 @@ fn action_of<T: Records>(tables: &T, thread: &T::Thread, word: Option<u32>) -> O
 }
 
 // Whether an access of the thread's next step doesn't translate, where that is the word fetched and what it asks for.
-fn faults<T: Records>(tables: &T, thread: &T::Thread, word: Option<u32>, action: Option<Action>) -> bool
+fn faults<T: Records>(
+    tables: &T,
+    thread: &T::Thread,
+    word: Option<u32>,
+    action: Option<Action>,
+) -> bool
     requires word { word ≡ fetched (pages_of (T.state tables.now) (T.shown thread.now).space) (T.shown thread.now).context.pc }
     requires action { action ≡ next_action_def (T.shown thread.now).context (pages_of (T.state tables.now) (T.shown thread.now).space) }
     ensures { result ≡ faults_def (T.state tables.now) (T.shown thread.now) }
@@ -183,11 +188,8 @@ fn misses<T: Records>(tables: &T, thread: &T::Thread, action: Action) -> bool
                 && (lacks(tables, thread, Access::Read, va)
                     || lacks(tables, thread, Access::Write, va))
         }
-        Action::Set { .. }
-        | Action::Pass
-        | Action::Jump { .. }
-        | Action::Call
-        | Action::Break => false,
+        Action::Set { .. } | Action::Pass | Action::Jump { .. } | Action::Call | Action::Break =>
+            false,
     }
 }
 

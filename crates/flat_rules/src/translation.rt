@@ -61,7 +61,12 @@ fn wants(access: Access, flags: Flags) -> bool
 /// first that holds is the reason: `Page` where the page has no row, `Flags` where the row lacks the flag of the access,
 /// and `Rights` where the rights of the kernel that owns the space don't cover the row's flags on its frame. It costs a
 /// look at the row.
-pub fn reached<T: Records>(tables: &T, access: Access, space: SpaceNo, va: u32) -> Result<Row, FaultKind>
+pub fn reached<T: Records>(
+    tables: &T,
+    access: Access,
+    space: SpaceNo,
+    va: u32,
+) -> Result<Row, FaultKind>
     ensures reaches { Reaches result (reached_def (T.state tables.now) access space va) }
     ensures in_memory { IfOk result (λ row. IsInMemory (T.state tables.now).memory row.frame) }
 {

@@ -4,8 +4,7 @@ ghost use Rattle.std.specs.Prelude.{◌≡◌, ◌≢◌};
 ghost use Rattle.fault_forward.specs.Calls.{call_number};
 
 use crate::{
-    action_for_word, answer, are_flags, bit, carry_out, data_access, flags_of, give,
-    receiver_of,
+    action_for_word, answer, are_flags, bit, carry_out, data_access, flags_of, give, receiver_of,
     refusal, stored_word,
 };
 use arrayvec::ArrayVec;

@@ -83,7 +83,8 @@ module _ {T : Type 0} where
         spare_within = subst (λ n. All (λ other. other < n) new_spare) (sym same) (front_of (λ other. other < length nodes) new_spare seat within);
         spare_free = front_of (λ other. HasSeat tree other → ⊥) new_spare seat free;
         spare_once = pairs_front ◌≢◌ new_spare seat once;
-        spare_others = pairs_last ◌≢◌ new_spare seat once }
+        spare_others = pairs_last ◌≢◌ new_spare seat once;
+      }
   ready room root nodes spare sound new_nodes new_spare seat (inr more) =
       let tree = sound.tree in
       let none : length spare ≡ 0 = ap length more.0 in
@@ -98,7 +99,8 @@ module _ {T : Type 0} where
         spare_within = subst (All (λ other. other < length new_nodes)) (sym more.1) (all_none (λ other. other < length new_nodes));
         spare_free = subst (All (λ other. HasSeat tree other → ⊥)) (sym more.1) (all_none (λ other. HasSeat tree other → ⊥));
         spare_once = subst (AllPairs ◌≢◌) (sym more.1) (λ i j d lt within. absurd (omega (arith, within)));
-        spare_others = subst (All (λ other. other ≢ seat)) (sym more.1) (all_none (λ other. other ≢ seat)) }
+        spare_others = subst (All (λ other. other ≢ seat)) (sym more.1) (all_none (λ other. other ≢ seat));
+      }
     where
       below_itself : (n : ℕ) → n < n → ⊥
       below_itself n lt = omega (arith, lt)
@@ -118,7 +120,8 @@ module _ {T : Type 0} where
     small = small;
     spare_within = subst (λ n. All (λ other. other < n) spare) (sym same) r.spare_within;
     spare_free = λ k d within has. clear (get_or spare k d) (r.spare_others k d within) (r.spare_free k d within) (became.seats (get_or spare k d) has);
-    spare_once = r.spare_once }
+    spare_once = r.spare_once;
+  }
     where
       clear : (own : ℕ) → own ≢ seat → (HasSeat tree own → ⊥) → (own ≡ seat) ⊎ HasSeat tree own → ⊥
       clear own other free (inl here) = other here
@@ -134,7 +137,8 @@ module _ {T : Type 0} where
     small = sound.small;
     spare_within = All-push (λ other. other < length new) spare gone (subst (λ n. All (λ other. other < n) spare) (sym same) sound.spare_within) (omega (arith, same, seat_within nodes sound.tree gone sound.stands.lies was));
     spare_free = All-push (λ other. HasSeat became.tree other → ⊥) spare gone (λ k d within has. sound.spare_free k d within (became.seats (get_or spare k d) has).0) (λ has. (became.seats gone has).1 refl);
-    spare_once = all_pairs_push ◌≢◌ spare gone sound.spare_once (λ k d within here. sound.spare_free k d within (subst (HasSeat sound.tree) (sym here) was)) }
+    spare_once = all_pairs_push ◌≢◌ spare gone sound.spare_once (λ k d within here. sound.spare_free k d within (subst (HasSeat sound.tree) (sym here) was));
+  }
 
 -- a table whose length stays is what was written over it
 pub written_over : {X : Type 0} (n : ℕ) (xs ys : List X) → n ≡ length xs → length ys ≡ n → take n (ys ++ drop (length ys) xs) ≡ ys
@@ -154,7 +158,8 @@ sound_empty room nodes spare small no_nodes no_spare = record {
   small = small;
   spare_within = subst (All (λ seat. seat < length nodes)) (sym no_spare) (all_none (λ seat. seat < length nodes));
   spare_free = λ k d within has. has;
-  spare_once = subst (AllPairs ◌≢◌) (sym no_spare) (λ i j d lt within. absurd (omega (arith, within))) }
+  spare_once = subst (AllPairs ◌≢◌) (sym no_spare) (λ i j d lt within. absurd (omega (arith, within)));
+}
 
 abbrev view_of : {T : Type 0} → ℕ → List T → Fixed T
 view_of room items = record { room = room; items = items }

@@ -93,7 +93,8 @@ module _ {K V : Type 0} (first : K → K → Ordering) (o : IsTotalOrder first) 
       rw is (record {
         rising = subst (λ n. IsRising (by_parts first second) (insert list.items n entry)) (sym counted) (rising_after (by_parts first second) (by_parts_total o p) list.items proper.rising entry absent);
         few = omega (arith, length-insert list.items place entry within, less);
-        small = proper.small })
+        small = proper.small;
+      })
 
   -- and after one went
   pub there_at : Contains list.items entry → (place < length list.items) × (get_or list.items place entry ≡ entry)
@@ -105,7 +106,8 @@ module _ {K V : Type 0} (first : K → K → Ordering) (o : IsTotalOrder first) 
       rw is (record {
         rising = all_pairs_remove (λ a b. by_parts first second a b ≡ Less) list.items place at.0 proper.rising;
         few = omega (arith, length-remove list.items place at.0, proper.few);
-        small = proper.small })
+        small = proper.small;
+      })
 
 -- the first value under a key belongs to an entry with that key, and without one there is no such entry
 module _ {K V : Type 0} (test : K × V → Bool) where

@@ -54,7 +54,9 @@ module _ {T : Type 0} where
         joins = record {
           before_it = record { named = ap (λ n. n.before) is; lies = stands.lies.1 };
           behind_it = record { named = ap (λ n. n.behind) is; lies = stands.lies.2 };
-          apart = subst (λ s. AreApart s before behind) (sym seat) stands.lies.3 } }
+          apart = subst (λ s. AreApart s before behind) (sym seat) stands.lies.3;
+        };
+      }
 
   -- a tree with nodes has its uppermost one in the table
   pub stands_within : (nodes : List (Node T)) (branch : Branch) (tree : Tree T) → Stands nodes branch tree → 0 < branch.count → branch.seat < length nodes
@@ -86,13 +88,17 @@ module _ {T : Type 0} where
         tree = fork own before node.item behind;
         stands = record {
           named = ap (λ n. record { seat = own; count = n }) (joins_count nodes own node before behind joins);
-          lies = (get_set_same nodes own node within ∙ ap Some is,
+          lies = (
+            get_set_same nodes own node within ∙ ap Some is,
             lies_on nodes new before joins.before_it.lies (λ seat has. get_set_other nodes own seat node (λ same. joins.apart.not_before (subst (HasSeat before) same has))),
             lies_on nodes new behind joins.behind_it.lies (λ seat has. get_set_other nodes own seat node (λ same. joins.apart.not_behind (subst (HasSeat behind) same has))),
-            joins.apart) };
+            joins.apart,
+          );
+        };
         items = refl;
         seats = λ seat has. has;
-        others = λ seat not. get_set_other nodes own seat node (λ same. not (inl same)) }
+        others = λ seat not. get_set_other nodes own seat node (λ same. not (inl same));
+      }
 
   -- where what is before has become another tree, the node joins that one
   pub joins_before : (old mid : List (Node T)) (own : ℕ) (node changed : Node T) (before behind : Tree T) (list : List T) (Own : ℕ → Type 0) (became : Becomes old mid changed.before list Own) → changed.behind ≡ node.behind → Joins old own node before behind → (Own own → ⊥) → ((seat : ℕ) → Own seat → HasSeat behind seat → ⊥) → Joins mid own changed became.tree behind
@@ -100,23 +106,29 @@ module _ {T : Type 0} where
     before_it = became.stands;
     behind_it = record {
       named = same ∙ joins.behind_it.named;
-      lies = lies_on old mid behind joins.behind_it.lies (λ seat has. became.others seat (λ mine. apart seat mine has)) };
+      lies = lies_on old mid behind joins.behind_it.lies (λ seat has. became.others seat (λ mine. apart seat mine has));
+    };
     apart = record {
       not_before = λ has. fresh (became.seats own has);
       not_behind = joins.apart.not_behind;
-      apart = λ seat has there. apart seat (became.seats seat has) there } }
+      apart = λ seat has there. apart seat (became.seats seat has) there;
+    };
+  }
 
   -- and where what is behind has
   pub joins_behind : (old mid : List (Node T)) (own : ℕ) (node changed : Node T) (before behind : Tree T) (list : List T) (Own : ℕ → Type 0) (became : Becomes old mid changed.behind list Own) → changed.before ≡ node.before → Joins old own node before behind → (Own own → ⊥) → ((seat : ℕ) → Own seat → HasSeat before seat → ⊥) → Joins mid own changed before became.tree
   joins_behind old mid own node changed before behind list Own became same joins fresh apart = record {
     before_it = record {
       named = same ∙ joins.before_it.named;
-      lies = lies_on old mid before joins.before_it.lies (λ seat has. became.others seat (λ mine. apart seat mine has)) };
+      lies = lies_on old mid before joins.before_it.lies (λ seat has. became.others seat (λ mine. apart seat mine has));
+    };
     behind_it = became.stands;
     apart = record {
       not_before = joins.apart.not_before;
       not_behind = λ has. fresh (became.seats own has);
-      apart = λ seat has there. apart seat (became.seats seat there) has } }
+      apart = λ seat has there. apart seat (became.seats seat there) has;
+    };
+  }
 
   -- the whole, once the node over the tree that what is before became is in its place
   pub became_before : (old mid new : List (Node T)) (own : ℕ) (item : T) (behind : Tree T) (left result : Branch) (list all : List T) (Own Whole : ℕ → Type 0) (became : Becomes old mid left list Own) → Keeps mid new result (fork own became.tree item behind) → list ++ item ∷ items_of behind ≡ all → ((seat : ℕ) → (seat ≡ own) ⊎ (Own seat ⊎ HasSeat behind seat) → Whole seat) → Becomes old new result all Whole
@@ -125,7 +137,8 @@ module _ {T : Type 0} where
     stands = kept.stands;
     items = kept.items ∙ ap (λ l. l ++ item ∷ items_of behind) became.items ∙ same;
     seats = λ seat has. among seat (wider seat (kept.seats seat has));
-    others = λ seat not. kept.others seat (λ has. not (among seat (wider seat has))) ∙ became.others seat (λ mine. not (among seat (inr (inl mine)))) }
+    others = λ seat not. kept.others seat (λ has. not (among seat (wider seat has))) ∙ became.others seat (λ mine. not (among seat (inr (inl mine))));
+  }
     where
       wider : (seat : ℕ) → (seat ≡ own) ⊎ (HasSeat became.tree seat ⊎ HasSeat behind seat) → (seat ≡ own) ⊎ (Own seat ⊎ HasSeat behind seat)
       wider seat (inl here) = inl here
@@ -139,7 +152,8 @@ module _ {T : Type 0} where
     stands = kept.stands;
     items = kept.items ∙ ap (λ l. items_of before ++ item ∷ l) became.items ∙ same;
     seats = λ seat has. among seat (wider seat (kept.seats seat has));
-    others = λ seat not. kept.others seat (λ has. not (among seat (wider seat has))) ∙ became.others seat (λ mine. not (among seat (inr (inr mine)))) }
+    others = λ seat not. kept.others seat (λ has. not (among seat (wider seat has))) ∙ became.others seat (λ mine. not (among seat (inr (inr mine))));
+  }
     where
       wider : (seat : ℕ) → (seat ≡ own) ⊎ (HasSeat before seat ⊎ HasSeat became.tree seat) → (seat ≡ own) ⊎ (HasSeat before seat ⊎ Own seat)
       wider seat (inl here) = inl here
@@ -160,7 +174,9 @@ module _ {T : Type 0} where
         apart = record {
           not_before = λ has. j.apart.not_before (inr (inr has));
           not_behind = joins.apart.not_behind;
-          apart = λ seat has there. j.apart.apart seat (inr (inr has)) there } }
+          apart = λ seat has there. j.apart.apart seat (inr (inr has)) there;
+        };
+      }
 
   -- and the one that comes up stands over it
   pub raised_joins_before : (old mid : List (Node T)) (own : ℕ) (node changed up : Node T) (before behind : Tree T) (opens : Opens old node.before up before) → Joins old own node before behind → changed.before ≡ up.before → (kept : Keeps old mid changed.behind (fork own opens.behind node.item behind)) → Joins mid node.before.seat changed opens.before kept.tree
@@ -170,12 +186,15 @@ module _ {T : Type 0} where
       record {
         before_it = record {
           named = same ∙ opens.joins.before_it.named;
-          lies = lies_on old mid opens.before opens.joins.before_it.lies (λ seat has. kept.others seat (λ there. clear seat (inr has) there)) };
+          lies = lies_on old mid opens.before opens.joins.before_it.lies (λ seat has. kept.others seat (λ there. clear seat (inr has) there));
+        };
         behind_it = kept.stands;
         apart = record {
           not_before = opens.joins.apart.not_before;
           not_behind = λ has. clear node.before.seat (inl refl) (kept.seats node.before.seat has);
-          apart = λ seat has there. clear seat (inr has) (kept.seats seat there) } }
+          apart = λ seat has there. clear seat (inr has) (kept.seats seat there);
+        };
+      }
     where
       apart_there : (old : List (Node T)) (own : ℕ) (node up : Node T) (before behind : Tree T) (opens : Opens old node.before up before) → Joins old own node (fork node.before.seat opens.before up.item opens.behind) behind → (seat : ℕ) → (seat ≡ node.before.seat) ⊎ HasSeat opens.before seat → (seat ≡ own) ⊎ (HasSeat opens.behind seat ⊎ HasSeat behind seat) → ⊥
       apart_there old own node up before behind opens j seat (inl top) (inl here) = j.apart.not_before (inl (sym here ∙ top))
@@ -212,7 +231,9 @@ module _ {T : Type 0} where
         apart = record {
           not_before = joins.apart.not_before;
           not_behind = λ has. j.apart.not_behind (inr (inl has));
-          apart = λ seat has there. j.apart.apart seat has (inr (inl there)) } }
+          apart = λ seat has there. j.apart.apart seat has (inr (inl there));
+        };
+      }
 
   pub raised_joins_behind : (old mid : List (Node T)) (own : ℕ) (node changed up : Node T) (before behind : Tree T) (opens : Opens old node.behind up behind) → Joins old own node before behind → changed.behind ≡ up.behind → (kept : Keeps old mid changed.before (fork own before node.item opens.before)) → Joins mid node.behind.seat changed kept.tree opens.behind
   raised_joins_behind old mid own node changed up before behind opens joins same kept =
@@ -222,11 +243,14 @@ module _ {T : Type 0} where
         before_it = kept.stands;
         behind_it = record {
           named = same ∙ opens.joins.behind_it.named;
-          lies = lies_on old mid opens.behind opens.joins.behind_it.lies (λ seat has. kept.others seat (λ there. clear seat (inr has) there)) };
+          lies = lies_on old mid opens.behind opens.joins.behind_it.lies (λ seat has. kept.others seat (λ there. clear seat (inr has) there));
+        };
         apart = record {
           not_before = λ has. clear node.behind.seat (inl refl) (kept.seats node.behind.seat has);
           not_behind = opens.joins.apart.not_behind;
-          apart = λ seat has there. clear seat (inr there) (kept.seats seat has) } }
+          apart = λ seat has there. clear seat (inr there) (kept.seats seat has);
+        };
+      }
     where
       apart_there : (old : List (Node T)) (own : ℕ) (node up : Node T) (before behind : Tree T) (opens : Opens old node.behind up behind) → Joins old own node before (fork node.behind.seat opens.before up.item opens.behind) → (seat : ℕ) → (seat ≡ node.behind.seat) ⊎ HasSeat opens.behind seat → (seat ≡ own) ⊎ (HasSeat before seat ⊎ HasSeat opens.before seat) → ⊥
       apart_there old own node up before behind opens j seat (inl top) (inl here) = j.apart.not_behind (inl (sym here ∙ top))

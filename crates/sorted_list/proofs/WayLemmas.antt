@@ -145,7 +145,8 @@ module _ {T : Type 0} (nodes : List (Node T)) (branch : Branch) (node : Node T) 
         stands = opens.joins.before_it;
         items = sym (ap (λ l. items_of opens.before ++ l) (empty (items_of opens.behind) (sym behind_count ∙ none)) ∙ append-nil (items_of opens.before)) ∙ remove_here (items_of opens.before) (items_of opens.behind) node.item place (here ∙ before_count);
         seats = λ own has. (inr (inl has), λ same. opens.joins.apart.not_before (subst (HasSeat opens.before) same has));
-        others = λ own not. refl })
+        others = λ own not. refl;
+      })
     where
       empty : (l : List T) → length l ≡ 0 → l ≡ []
       empty [] none = refl
@@ -157,12 +158,15 @@ module _ {T : Type 0} (nodes : List (Node T)) (branch : Branch) (node : Node T) 
     joins_next same = record {
       before_it = record {
         named = same ∙ opens.joins.before_it.named;
-        lies = lies_on nodes mid opens.before opens.joins.before_it.lies (λ own has. became.others own (λ mine. opens.joins.apart.apart own has mine.0)) };
+        lies = lies_on nodes mid opens.before opens.joins.before_it.lies (λ own has. became.others own (λ mine. opens.joins.apart.apart own has mine.0));
+      };
       behind_it = became.stands;
       apart = record {
         not_before = λ has. opens.joins.apart.apart next has was.0;
         not_behind = λ has. (became.seats next has).1 refl;
-        apart = λ own has there. opens.joins.apart.apart own has (became.seats own there).0 } }
+        apart = λ own has there. opens.joins.apart.apart own has (became.seats own there).0;
+      };
+    }
 
     pub removed_next : (new : List (Node T)) (result : Branch) → place ≡ node.before.count → slice_get mid next ≡ Some above → Keeps mid new result (fork next opens.before above.item became.tree) → Becomes nodes new result (remove (items_of tree) place) (Narrowed tree branch.seat)
     removed_next new result here read kept =
@@ -192,7 +196,8 @@ module _ {T : Type 0} where
   joins_none nodes seat item = record {
     before_it = record { named = refl; lies = tt };
     behind_it = record { named = refl; lies = tt };
-    apart = record { not_before = λ has. has; not_behind = λ has. has; apart = λ own has there. has } }
+    apart = record { not_before = λ has. has; not_behind = λ has. has; apart = λ own has there. has };
+  }
 
   -- a node alone is what an insert leaves of nothing
   pub inserted_alone : (old new : List (Node T)) (result : Branch) (place seat : ℕ) (item : T) → Keeps old new result (fork seat leaf item leaf) → Becomes old new result (insert [] place item) (λ own. (own ≡ seat) ⊎ ⊥)
@@ -201,7 +206,8 @@ module _ {T : Type 0} where
     stands = kept.stands;
     items = kept.items ∙ sym (insert_empty place item);
     seats = λ own has. inl (alone own (kept.seats own has));
-    others = λ own not. kept.others own (λ has. not (inl (alone own has))) }
+    others = λ own not. kept.others own (λ has. not (inl (alone own has)));
+  }
     where
       alone : (own : ℕ) → (own ≡ seat) ⊎ (⊥ ⊎ ⊥) → own ≡ seat
       alone own (inl here) = here

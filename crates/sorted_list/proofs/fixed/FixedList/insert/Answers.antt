@@ -56,10 +56,11 @@ invariant_of-self g c =
     let stays : length call.new.nodes ≡ length nodes.items = omega (arith, call.auto.nodes, ap length c.deref_mut.ensures.value) in
     let became = (rw c.deref_mut.ensures.value at call.ensures.inserted) s.tree (record { named = s.stands.named; lies = r.lies }) r.fresh in
     let longer = length-insert (items_of s.tree) c.args.place c.args.item (omega (arith, place, found)) in
-    rw (written_over nodes.len nodes.items call.new.nodes nodes.ok.0 (omega (arith, stays, nodes.ok.0)))
-    (sound_inserted i.room i.root call.result s.tree nodes.items call.new.nodes spare.items c.new_seat-seat.result (insert (items_of s.tree) c.args.place c.args.item) s.small (omega (arith, less, found)) r (still_few i.room i.root i.nodes.items i.spare.items s nodes.items spare.items c.new_seat-seat.result (omega (arith, less, found)) c.new_seat-seat.ensures.seated) became stays longer,
+    rw (written_over nodes.len nodes.items call.new.nodes nodes.ok.0 (omega (arith, stays, nodes.ok.0))) (
+      sound_inserted i.room i.root call.result s.tree nodes.items call.new.nodes spare.items c.new_seat-seat.result (insert (items_of s.tree) c.args.place c.args.item) s.small (omega (arith, less, found)) r (still_few i.room i.root i.nodes.items i.spare.items s nodes.items spare.items c.new_seat-seat.result (omega (arith, less, found)) c.new_seat-seat.ensures.seated) became stays longer,
       omega (arith, c.self.invariant.1, c.new_seat-seat.ensures.nodes_capacity),
-      omega (arith, c.self.invariant.2, c.new_seat-seat.ensures.spare_capacity))
+      omega (arith, c.self.invariant.2, c.new_seat-seat.ensures.spare_capacity),
+    )
 
 pub returns : goal.returns
 returns g c =

@@ -26,10 +26,11 @@ invariant_of-self g c =
     let shorter = length-remove (items_of s.tree) c.args.place (omega (arith, place, found)) in
     let some : 0 < length (items_of s.tree) = omega (arith, place, found) in
     let pushed = rw (c.push.ensures.succeeds (omega (arith, some, s.counted, s.few, c.self.invariant.2, i.spare.ok.0))) at c.push.ensures.items in
-    rw (written_over i.nodes.len i.nodes.items call.new.nodes i.nodes.ok.0 (omega (arith, stays, i.nodes.ok.0)), pushed)
-    (sound_removed i.room i.root call.result.1 i.nodes.items call.new.nodes i.spare.items call.result.0 (remove (items_of s.tree) c.args.place) s was.0 became stays (omega (arith, some, shorter)),
+    rw (written_over i.nodes.len i.nodes.items call.new.nodes i.nodes.ok.0 (omega (arith, stays, i.nodes.ok.0)), pushed) (
+      sound_removed i.room i.root call.result.1 i.nodes.items call.new.nodes i.spare.items call.result.0 (remove (items_of s.tree) c.args.place) s was.0 became stays (omega (arith, some, shorter)),
       c.self.invariant.1,
-      omega (arith, c.self.invariant.2, c.push.ensures.capacity))
+      omega (arith, c.self.invariant.2, c.push.ensures.capacity),
+    )
 
 pub returns : goal.returns
 returns g c =
