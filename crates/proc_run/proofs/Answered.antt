@@ -8,7 +8,8 @@ use Rattle.flat_state.specs.State.{FlatState}
 use Rattle.flat_state.specs.Settling.{settled_of}
 use Rattle.scenario_text.specs.declared.fault.ScenarioFault.TheVariants as faults
 use Rattle.scenario_text.specs.Spelling.{IsBuilt}
-use Rattle.proc_run.specs.declared.journal.Entry.{Entry}
+use Rattle.run_journal.specs.declared.entries.Entry.{Entry}
+use Rattle.run_journal.specs.Entries.{Written}
 use Rattle.proc_run.specs.declared.outcome.Kept.TheVariants as kept
 use Rattle.proc_run.specs.declared.outcome.RunStatus.{RunStatus}
 use Rattle.proc_run.specs.declared.outcome.RunStatus.TheVariants.{Done, Stalled, Spent, ReadFault, WriteFault, NoMemory, Usage, TooLong, Unbuilt}
@@ -44,13 +45,13 @@ run_of ds j s how steps text bytes ran reported few built = record {
   built = built;
   rest = ran.rest;
   begins = ran.begins;
-  legal = ran.legal;
+  fits = ran.fits;
   settled_so = ran.status ∙ ap₂ (λ t n. settled_of t n step_limit) ran.state ran.count;
   reported = reported ∙ ap₂ (λ t n. report t how n) ran.state ran.count;
 }
 
-pub run_is_due : (ds : List Decl) (j : List Entry) (s : FlatState) (how : Settled) (steps : ℕ) (text : List ℕ) → IsRun ds j s how steps step_limit → text ≡ report s how steps → IsDueFor ds (status_of how) (kept.Journal j) text
-run_is_due ds j s settled.Done steps text ran reported bytes left few built at_end = (refl, at_end, run_of ds j s settled.Done steps text bytes ran reported few built)
-run_is_due ds j s settled.Stalled steps text ran reported bytes left few built at_end = (refl, at_end, run_of ds j s settled.Stalled steps text bytes ran reported few built)
-run_is_due ds j s settled.Spent steps text ran reported bytes left few built at_end = (refl, at_end, run_of ds j s settled.Spent steps text bytes ran reported few built)
+pub run_is_due : (ds : List Decl) (j : Written) (s : FlatState) (how : Settled) (steps : ℕ) (text : List ℕ) → IsRun ds j.entries s how steps step_limit → text ≡ report s how steps → IsDueFor ds (status_of how) (kept.Journal j) text
+run_is_due ds j s settled.Done steps text ran reported bytes left few built at_end = (refl, at_end, run_of ds j.entries s settled.Done steps text bytes ran reported few built)
+run_is_due ds j s settled.Stalled steps text ran reported bytes left few built at_end = (refl, at_end, run_of ds j.entries s settled.Stalled steps text bytes ran reported few built)
+run_is_due ds j s settled.Spent steps text ran reported bytes left few built at_end = (refl, at_end, run_of ds j.entries s settled.Spent steps text bytes ran reported few built)
 run_is_due ds j s settled.Running steps text ran reported bytes left few built at_end = absurd (ran.over refl)

@@ -14,7 +14,7 @@ use Rattle.flat_state.specs.Step.{step_of, after_step}
 use Rattle.flat_state.specs.Call.{is_completable, completion_for, after_completion}
 use Rattle.flat_state.specs.NextSteps.{next_step}
 use Rattle.flat_state.specs.Events.{after_event, applied, after_events}
-use Rattle.proc_run.specs.Legality.{is_faulty, TakesStep, TakesSteps, after_steps}
+use Rattle.proc_run.specs.Fitting.{is_faulty, TakesStep, TakesSteps, after_steps}
 use Rattle.proc_run.specs.Running.{stands_so, may_step, goes_on}
 use Rattle.proc_run.proofs.Choices.{may_step_is}
 

@@ -1,5 +1,4 @@
-pub mod Journals
-pub mod Legality
+pub mod Fitting
 pub mod Counts
 pub mod Running
 pub mod Outcomes

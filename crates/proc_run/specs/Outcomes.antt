@@ -9,13 +9,14 @@ use Rattle.flat_state.specs.declared.records.Settled.TheVariants as settled
 use Rattle.flat_state.specs.Events.{flat}
 use Rattle.flat_state.specs.Settling.{settled_of}
 use Rattle.scenario_text.specs.Spelling.{IsBuilt}
-use Rattle.proc_run.specs.declared.journal.Entry.{Entry}
+use Rattle.run_journal.specs.declared.entries.Entry.{Entry}
 use Rattle.proc_run.specs.declared.outcome.RunStatus.{RunStatus}
 use Rattle.proc_run.specs.declared.outcome.RunStatus.TheVariants.{Done, Stalled, Spent, ReadFault, WriteFault, NoMemory, Usage, TooLong, Unbuilt}
 use Rattle.proc_run.specs.declared.outcome.Kept.{Kept}
 use Rattle.proc_run.specs.declared.outcome.Kept.TheVariants as kept
-use Rattle.proc_run.specs.Journals.{erase, steps_in, opening}
-use Rattle.proc_run.specs.Legality.{IsLegal}
+use Rattle.run_journal.specs.Entries.{erase, steps_in}
+use Rattle.run_journal.specs.Points.{opening}
+use Rattle.proc_run.specs.Fitting.{FitsInOrder}
 use Rattle.report_text.specs.Reports.{report}
 
 -- how many bytes a scenario may have
@@ -47,7 +48,7 @@ exit_status TooLong = 8
 exit_status (Unbuilt line) = 9
 
 -- The bytes, where they were told, are not too many and a built scenario. The journal begins with its declarations and the seal, and
--- is legal. The run is settled so, as the machine with unlimited tables is on what is left of the journal, and the
+-- fits in order. The run is settled so, as the machine with unlimited tables is on what is left of the journal, and the
 -- text is the report of that machine.
 pub record IsRunOf (bytes : Option (List ℕ)) (how : Settled) (j : List Entry) (text : List ℕ) : Type 0 where
   pub decls : List Decl
@@ -55,7 +56,7 @@ pub record IsRunOf (bytes : Option (List ℕ)) (how : Settled) (j : List Entry) 
   pub built : IfSome bytes (λ bs. IsBuilt bs decls)
   pub rest : List Entry
   pub begins : j ≡ opening decls ++ rest
-  pub legal : IsLegal j
+  pub fits : FitsInOrder j
   pub settled_so : how ≡ settled_of (flat (erase j)) (steps_in j) step_limit
   pub reported : text ≡ report (flat (erase j)) how (steps_in j)
 
@@ -66,9 +67,9 @@ IsNotBuilt bytes = (ds : List Decl) → IsBuilt bytes ds → ⊥
 -- This text is due with this status, and this is kept: from the words, the bytes that the source had, and those that
 -- it has left. With words it is the usage line.
 abbrev pub IsDue : List (List ℕ) → Option (List ℕ) → Option (List ℕ) → RunStatus → Kept → List ℕ → Type 0
-IsDue words bytes left Done (kept.Journal j) text = (words ≡ []) × IsAtEnd left × IsRunOf bytes settled.Done j text
-IsDue words bytes left Stalled (kept.Journal j) text = (words ≡ []) × IsAtEnd left × IsRunOf bytes settled.Stalled j text
-IsDue words bytes left Spent (kept.Journal j) text = (words ≡ []) × IsAtEnd left × IsRunOf bytes settled.Spent j text
+IsDue words bytes left Done (kept.Journal j) text = (words ≡ []) × IsAtEnd left × IsRunOf bytes settled.Done j.entries text
+IsDue words bytes left Stalled (kept.Journal j) text = (words ≡ []) × IsAtEnd left × IsRunOf bytes settled.Stalled j.entries text
+IsDue words bytes left Spent (kept.Journal j) text = (words ≡ []) × IsAtEnd left × IsRunOf bytes settled.Spent j.entries text
 IsDue words bytes left Usage kept.Nothing text = (words ≢ []) × Keeps bytes left × (text ≡ usage_line)
 IsDue words bytes left TooLong kept.Nothing text =
     (words ≡ []) × IfSome bytes (λ bs. most_bytes < length bs) × TakesMore bytes left most_bytes × (text ≡ too_long_line)

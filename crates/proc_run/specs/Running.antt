@@ -8,9 +8,10 @@ use Rattle.flat_state.specs.declared.records.Settled.TheVariants.{Running}
 use Rattle.flat_state.specs.State.{FlatState, is_trapped}
 use Rattle.flat_state.specs.Events.{after_events, flat}
 use Rattle.flat_state.specs.Settling.{settled_of}
-use Rattle.proc_run.specs.declared.journal.Entry.{Entry}
-use Rattle.proc_run.specs.Journals.{erase, steps_in, opening}
-use Rattle.proc_run.specs.Legality.{is_faulty, AreLegal, IsLegal}
+use Rattle.run_journal.specs.declared.entries.Entry.{Entry}
+use Rattle.run_journal.specs.Entries.{erase, steps_in}
+use Rattle.run_journal.specs.Points.{opening}
+use Rattle.proc_run.specs.Fitting.{is_faulty, EntriesFit, FitsInOrder}
 
 -- is there a thread, and does it pass a test?
 abbrev pub stands_so : (FlatThread → Bool) → Option FlatThread → Bool
@@ -30,11 +31,11 @@ goes_on next = may_step next && not (is_faulty next)
 abbrev pub trapped_count : FlatState → ℕ
 trapped_count s = count_by (λ t. is_trapped t.status) s.threads
 
--- The journal grew by legal entries with so many steps, and the machine is the one that they make.
+-- The journal grew by entries that fit, with so many steps, and the machine is the one that they make.
 pub record Extends (old : FlatState) (before : List Entry) (new : FlatState) (after : List Entry) (steps : ℕ) : Type 0 where
   pub rest : List Entry
   pub grown : after ≡ before ++ rest
-  pub legal : AreLegal old true rest
+  pub fits : EntriesFit old true rest
   pub state : new ≡ after_events old (erase rest)
   pub count : steps ≡ steps_in rest
 
@@ -43,7 +44,7 @@ pub record IsRun (ds : List Decl) (j : List Entry) (s : FlatState) (settled : Se
   -- it begins with the declarations and the seal
   pub rest : List Entry
   pub begins : j ≡ opening ds ++ rest
-  pub legal : IsLegal j
+  pub fits : FitsInOrder j
   -- the machine is the one with unlimited tables on what is left of the journal
   pub state : s ≡ flat (erase j)
   pub count : steps ≡ steps_in j

@@ -1,16 +1,15 @@
 //! The whole run: from the bytes of a scenario to those of its report.
 #![tactic(auto)]
 
-mod journal;
 mod machine;
 mod outcome;
 mod report;
 mod run;
 mod words;
 
-pub use journal::{Entry, Journal};
 pub use machine::run_machine;
 pub use outcome::{Kept, Outcome, RunStatus};
+pub use run_journal::{Entry, Journal};
 pub use words::Words;
 
 /// Memory ran out, and what was called is as it was before.

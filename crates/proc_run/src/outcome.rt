@@ -3,7 +3,7 @@
 ghost use Rattle.std.specs.Prelude.{◌≡◌};
 ghost use Rattle.proc_run.specs.Outcomes.{exit_status as exit_status_lem};
 
-use crate::journal::Journal;
+use run_journal::Journal;
 
 /// How the whole run came out.
 #[derive(Clone, Copy)]

@@ -8,13 +8,13 @@ ghost use Rattle.flat_state.specs.Call.{is_completable as is_completable_lem};
 ghost use Rattle.flat_state.specs.Events.{AllFit, after_declarations};
 ghost use Rattle.flat_state.specs.NextSteps.{next_step};
 ghost use Rattle.flat_state.specs.Settling.{settled_of};
-ghost use Rattle.proc_run.specs.declared.journal.Entry.TheVariants.{Declared};
-ghost use Rattle.proc_run.specs.Legality.{is_faulty, TakesSteps, after_steps};
+ghost use Rattle.run_journal.specs.declared.entries.Entry.TheVariants.{Declared};
+ghost use Rattle.proc_run.specs.Fitting.{is_faulty, TakesSteps, after_steps};
 ghost use Rattle.proc_run.specs.Running.{stands_so, may_step, goes_on as goes_on_lem, trapped_count, Extends, IsRun};
 
-use crate::journal::{Entry, Journal};
 use cache_ident::ThreadNo;
 use flat_machine::{Decl, Event, Flat, NoMemory, Settled};
+use run_journal::{Entry, Journal};
 use std::alloc::Global;
 
 /// How many steps one entry stands for at most.
@@ -104,7 +104,7 @@ fn run_ahead(flat: &mut Flat, no: ThreadNo, most: u32) -> Result<u32, NoMemory>
 // Completes the call of a thread.
 fn complete(flat: &mut Flat, journal: &mut Journal, no: ThreadNo) -> Result<(), NoMemory>
     requires { stands_so is_completable_lem (slice_get flat.old.threads no.0) ≡ true }
-    ensures extends { OnOk result (Extends flat.old journal.old flat.new journal.new 0) }
+    ensures extends { OnOk result (Extends flat.old journal.old.entries flat.new journal.new.entries 0) }
     ensures trapped { OnOk result (trapped_count flat.new + 1 ≤ trapped_count flat.old) }
 {
     flat.apply(&Event::Complete(no))?;
@@ -115,7 +115,7 @@ fn complete(flat: &mut Flat, journal: &mut Journal, no: ThreadNo) -> Result<(), 
 fn end(flat: &mut Flat, journal: &mut Journal, no: ThreadNo) -> Result<(), NoMemory>
     requires runnable { may_step (next_step flat.old no.0) ≡ true }
     requires faults { is_faulty (next_step flat.old no.0) ≡ true }
-    ensures extends { OnOk result (Extends flat.old journal.old flat.new journal.new 1) }
+    ensures extends { OnOk result (Extends flat.old journal.old.entries flat.new journal.new.entries 1) }
     ensures trapped { OnOk result (trapped_count flat.new ≤ trapped_count flat.old + 1) }
 {
     flat.apply(&Event::Step(no))?;
@@ -127,7 +127,7 @@ fn turn(flat: &mut Flat, journal: &mut Journal, no: ThreadNo, most: u32) -> Resu
     requires runnable { may_step (next_step flat.old no.0) ≡ true }
     requires some { 0 < most }
     requires few { most ≤ 256 }
-    ensures extends { IfOk result (λ n. Extends flat.old journal.old flat.new journal.new n) }
+    ensures extends { IfOk result (λ n. Extends flat.old journal.old.entries flat.new journal.new.entries n) }
     ensures some { IfOk result (λ n. 0 < n) }
     ensures within { IfOk result (λ n. n ≤ most) }
     ensures trapped { IfOk result (λ n. trapped_count flat.new ≤ trapped_count flat.old + n) }
@@ -149,7 +149,7 @@ fn turn(flat: &mut Flat, journal: &mut Journal, no: ThreadNo, most: u32) -> Resu
 fn advance(flat: &mut Flat, journal: &mut Journal, steps: u64, limit: u64) -> Result<u64, NoMemory>
     requires running { settled_of flat.old steps limit ≡ Settled.Running }
     requires within { steps ≤ limit }
-    ensures extends { IfOk result (λ n. Extends flat.old journal.old flat.new journal.new n) }
+    ensures extends { IfOk result (λ n. Extends flat.old journal.old.entries flat.new journal.new.entries n) }
     ensures within { IfOk result (λ n. steps + n ≤ limit) }
     ensures closer { IfOk result (λ n. trapped_count flat.new < trapped_count flat.old + 2 * n) }
 {
@@ -167,7 +167,7 @@ fn advance(flat: &mut Flat, journal: &mut Journal, steps: u64, limit: u64) -> Re
 
 // Runs until the run is over at the limit, and answers how, and after how many steps.
 fn run_on(flat: &mut Flat, journal: &mut Journal, limit: u64) -> Result<(Settled, u64), NoMemory>
-    ensures extends { IfOk result (λ end. Extends flat.old journal.old flat.new journal.new end.1) }
+    ensures extends { IfOk result (λ end. Extends flat.old journal.old.entries flat.new journal.new.entries end.1) }
     ensures settled { IfOk result (λ end. end.0 ≡ settled_of flat.new end.1 limit) }
     ensures over { IfOk result (λ end. end.0 ≢ Settled.Running) }
 {
@@ -185,7 +185,7 @@ fn run_on(flat: &mut Flat, journal: &mut Journal, limit: u64) -> Result<(Settled
 fn declare_all(flat: &mut Flat, journal: &mut Journal, decls: &[Decl]) -> Result<(), NoMemory>
     requires { AllFit flat.old decls.now }
     ensures state { OnOk result (flat.new ≡ after_declarations flat.old decls.now) }
-    ensures journal { OnOk result (journal.new ≡ journal.old ++ map (λ d. Declared d) decls.now) }
+    ensures journal { OnOk result (journal.new.entries ≡ journal.old.entries ++ map (λ d. Declared d) decls.now) }
 {
     for decl in decls {
         flat.apply(&Event::Declare(*decl))?;
@@ -199,7 +199,7 @@ fn declare_all(flat: &mut Flat, journal: &mut Journal, decls: &[Decl]) -> Result
 pub fn run(alloc: Global, decls: &[Decl], limit: u64) -> Result<Finished, NoMemory>
     requires some { 0 < length decls.now }
     requires fit { AllFit nothing_declared decls.now }
-    ensures { IfOk result (λ f. IsRun decls.now f.journal f.flat f.settled f.steps limit) }
+    ensures { IfOk result (λ f. IsRun decls.now f.journal.entries f.flat f.settled f.steps limit) }
 {
     let mut flat = Flat::new(alloc);
     let mut journal = Journal::new(alloc);

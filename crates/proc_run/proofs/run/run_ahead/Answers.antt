@@ -3,7 +3,7 @@ use Rattle.flat_state.specs.declared.events.Event.TheVariants.{Step}
 use Rattle.flat_state.specs.State.{FlatState}
 use Rattle.flat_state.specs.NextSteps.{next_step}
 use Rattle.flat_state.specs.Events.{applied}
-use Rattle.proc_run.specs.Legality.{TakesStep}
+use Rattle.proc_run.specs.Fitting.{TakesStep}
 use Rattle.proc_run.proofs.Steps.{steps_more, takes_more, step_fits, went_on}
 use Rattle.proc_run.proofs.Trapped.{trapped_step}
 use Rattle.proc_run.proofs.run.run_ahead.Goals as goal

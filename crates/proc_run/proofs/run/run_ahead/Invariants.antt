@@ -1,5 +1,5 @@
 use Rattle.std.proofs.Common.{◌≡◌, ◌+◌, ◌-◌, ◌≤◌}
-use Rattle.proc_run.specs.Legality.{TakesSteps, after_steps}
+use Rattle.proc_run.specs.Fitting.{TakesSteps, after_steps}
 use Rattle.proc_run.specs.Running.{trapped_count}
 use Rattle.proc_run.proofs.run.run_ahead.Given as goal
 

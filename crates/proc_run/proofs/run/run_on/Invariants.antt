@@ -4,7 +4,7 @@ use Rattle.proc_run.proofs.run.run_on.Given as goal
 
 abbrev pub invariant-loop-settled : goal.invariant-loop-settled
 invariant-loop-settled l = record {
-  extends : Extends l.fn.flat l.fn.journal l.flat l.journal l.steps;
+  extends : Extends l.fn.flat l.fn.journal.entries l.flat l.journal.entries l.steps;
   within : l.steps ≤ l.limit;
 }
 

@@ -1,0 +1,39 @@
+-- Which descriptors a completed call can touch.
+use Rattle.std.specs.Prelude.{◌≡◌, ℕ, ◌/◌, Option, Some, None, slice_get}
+use Rattle.cache_ident.specs.declared.names.Name.{Name}
+use Rattle.cache_ident.specs.declared.names.Name.TheVariants.{Kernel, Space, Thread, Mapping}
+use Rattle.cache_ident.specs.declared.names.SpaceNo.{SpaceNo}
+use Rattle.cache_ident.specs.declared.names.ThreadNo.{ThreadNo}
+use Rattle.phys_groups.specs.declared.rows.Row.{Row}
+use Rattle.phys_groups.specs.Translation.{row_of}
+use Rattle.fault_forward.specs.declared.effects.Effect.{Effect}
+use Rattle.fault_forward.specs.declared.effects.Effect.TheVariants as effects
+use Rattle.fault_forward.specs.Calls.{completion_of}
+use Rattle.flat_state.specs.declared.records.FlatThread.{FlatThread}
+use Rattle.flat_state.specs.State.{FlatState}
+
+-- the name is that of a row of which something is so
+abbrev pub IsRowWith : FlatState → Name → (Row → Type 0) → Type 0
+IsRowWith s (Mapping space vpn) P = (row : Row) × (row_of s.rows space vpn.0 ≡ Some row) × P row
+IsRowWith s (Kernel kernel) P = ⊥
+IsRowWith s (Space space) P = ⊥
+IsRowWith s (Thread thread) P = ⊥
+
+-- a new row touches those of its frame, a row that goes itself, and rights on a group the rows of its frames
+abbrev pub TouchesBy : Effect → FlatState → SpaceNo → Name → Type 0
+TouchesBy (effects.Map vpn frame flags receiver) s space name = IsRowWith s name (λ row. row.frame.0 ≡ frame)
+TouchesBy (effects.Unmap vpn) s space name = name ≡ Mapping space (record { 0 = vpn })
+TouchesBy (effects.Grant kernel group bits) s space name = IsRowWith s name (λ row. row.frame.0 / 128 ≡ group)
+TouchesBy effects.Ready s space name = ⊥
+TouchesBy (effects.Put byte) s space name = ⊥
+TouchesBy (effects.Decimal number) s space name = ⊥
+TouchesBy (effects.End reason) s space name = ⊥
+TouchesBy (effects.Spawn pc a0 priority) s space name = ⊥
+
+abbrev pub TouchesFor : Option FlatThread → FlatState → Name → Type 0
+TouchesFor None s name = ⊥
+TouchesFor (Some t) s name = TouchesBy (completion_of t.no t.context t.queue.items).effect s t.space name
+
+-- the thread's call, once it is completed, can change whether the descriptor stands, is fit, or what it depends on
+abbrev pub Touches : FlatState → ThreadNo → Name → Type 0
+Touches s thread name = TouchesFor (slice_get s.threads thread.0) s name

@@ -1,0 +1,15 @@
+//! The text of a journal: one line for each entry, in one form.
+#![tactic(auto)]
+
+mod fault;
+mod fields;
+mod lines;
+mod printing;
+mod reading;
+
+pub use fault::JournalFault;
+pub use printing::print;
+pub use reading::read;
+
+#[cfg(test)]
+mod tests;
