@@ -7,7 +7,7 @@
 # Makes a program in a temporary folder, and lets rt prove and build it there.
 set -euo pipefail
 source "$(dirname "$0")/program.sh"
-begin_program displacement_times 'cache_ident phys_groups sorted_list slot_cache mapping_cache'
+begin_program displacement_times 'cache_ident phys_groups slot_cache mapping_cache'
 mkdir -p "$program/proofs/full" "$program/proofs/displace_often"
 cat > "$program/src/main.rt" <<'MAIN'
 #![tactic(auto)]

@@ -6,7 +6,6 @@ ghost use Rattle.slot_cache.specs.Cells.{IsOlder};
 use crate::MappingCache;
 use cache_ident::{Frame, Ident, Kind, Name, SpaceNo, Vpn};
 use phys_groups::{Flags, Row};
-use std::alloc::{AllocError, Global};
 use std::process::Abort;
 use std::test::Fail;
 
@@ -54,10 +53,6 @@ fn unload(rt: &impl Abort, cache: &mut MappingCache, ident: Ident, next: u64) ->
     cache.take(ident).vpn
 }
 
-fn listed(alloc: Global, cache: &MappingCache, frame: Frame) -> Result<Vec<Ident>, AllocError> {
-    cache.of_frame(frame).collect(alloc)
-}
-
 #[test]
 fn rows_are_listed_by_frame(rt: HostRuntime) -> Result<(), Fail> {
     let mut cache = MappingCache::new(rt.alloc(), 8)?;
@@ -65,27 +60,12 @@ fn rows_are_listed_by_frame(rt: HostRuntime) -> Result<(), Fail> {
     let first = load(&rt, &mut cache, 2, 1, 5);
     let other = load(&rt, &mut cache, 3, 2, 4);
     let second = load(&rt, &mut cache, 4, 3, 5);
-    assert_eq!(rt;
-        listed(rt.alloc(), &cache, Frame(5))?.as_slice(),
-        [first, second].as_slice()
-    );
-    assert_eq!(rt;
-        listed(rt.alloc(), &cache, Frame(4))?.as_slice(),
-        [other].as_slice()
-    );
-    assert_eq!(rt;
-        listed(rt.alloc(), &cache, Frame(u32::MAX))?.as_slice(),
-        [high].as_slice()
-    );
-    assert_eq!(rt;
-        listed(rt.alloc(), &cache, Frame(3))?.as_slice(),
-        [].as_slice()
-    );
+    assert_eq!(rt; cache.of_frame(Frame(5)), [first, second].as_slice());
+    assert_eq!(rt; cache.of_frame(Frame(4)), [other].as_slice());
+    assert_eq!(rt; cache.of_frame(Frame(u32::MAX)), [high].as_slice());
+    assert_eq!(rt; cache.of_frame(Frame(3)), [].as_slice());
     assert_eq!(rt; unload(&rt, &mut cache, first, 5), Vpn(1));
-    assert_eq!(rt;
-        listed(rt.alloc(), &cache, Frame(5))?.as_slice(),
-        [second].as_slice()
-    );
+    assert_eq!(rt; cache.of_frame(Frame(5)), [second].as_slice());
     assert_eq!(rt; (cache.len(), cache.victim(&[])), (3, Some(high)));
     Ok(())
 }
@@ -121,10 +101,7 @@ fn a_row_is_locked_and_changed(rt: HostRuntime) -> Result<(), Fail> {
     value.modified = true;
     assert!(rt; cache.get(ident).is_some());
     assert!(rt; !cache.replace(ident, value).modified);
-    assert_eq!(rt;
-        listed(rt.alloc(), &cache, Frame(2))?.as_slice(),
-        [ident].as_slice()
-    );
+    assert_eq!(rt; cache.of_frame(Frame(2)), [ident].as_slice());
     assert!(rt; cache.get(ident).is_some());
     assert!(rt; cache.is_locked(ident));
     assert_eq!(rt; cache.take(ident), value);

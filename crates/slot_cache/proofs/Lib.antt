@@ -1,4 +1,3 @@
 pub mod IndexLemmas
 pub mod NameLemmas
-pub mod PadLemmas
 pub mod SlotLemmas

@@ -93,3 +93,8 @@ module _ {T : Type 0} (called : T → Name) where
   -- the identifier is that of the loaded descriptor of that name
   abbrev pub IsFoundAs : List (Option (Loaded T)) → Name → Ident → Type 0
   IsFoundAs cells name ident = (loaded : Loaded T) × (cell_at cells ident.slot ≡ Some loaded) × (loaded.ident ≡ ident) × (called loaded.value ≡ name)
+
+-- the numbers below n, in order
+pub record IsCounted (numbers : List (ℕ × Unit {0})) (n : ℕ) : Type 0 where
+  pub len : length numbers ≡ n
+  pub each : (k : ℕ) (d : ℕ × Unit {0}) → k < n → (slice_index_or numbers k d).0 ≡ k
