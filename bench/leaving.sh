@@ -7,6 +7,9 @@
 # Two of the kernel's spaces have the rows in turn, so that those of the one stand between those of the other in the order
 # of identifiers.
 #
+# Before a row is loaded, it is sought among all children of its space, so loading 65,536 rows takes minutes that are in no
+# figure.
+#
 # Makes a program in a temporary folder, with the helper and its proofs that the tests of writeback_order use, and
 # lets rt prove and build it there.
 set -euo pipefail
