@@ -10,10 +10,12 @@ use Rattle.phys_groups.specs.Memory.{page_at, with_page}
 use Rattle.rv32_exec.specs.declared.statuses.Access.{Access}
 use Rattle.rv32_exec.specs.declared.statuses.Access.TheVariants.{Fetch, Read, Write}
 use Rattle.rv32_exec.specs.Pages.{Page, put_bytes, put_in_frame, mark, mark_page}
+use Rattle.rv32_exec.specs.Changes.{Change, Marked, Put, changed}
+use Rattle.rv32_exec.proofs.StepChanges.{changed_by}
+use Rattle.flat_state.proofs.StepKeeps.{changed_by_keeps}
 use Rattle.flat_state.specs.Pages.{page_of, with_pages, is_in, with_marks, with_marks_of}
 use Rattle.flat_laws.specs.Rights.{StayOrAgree}
 use Rattle.flat_laws.proofs.PageBytes.{length-page_at, page_byte, length-with_page, with_page_here, with_page_elsewhere}
-use Rattle.flat_laws.proofs.Changes.{Change, Marked, Put, changed, changed_by, changed_by_keeps}
 
 -- a page that stands in the frame of its row, and is as long as the page that is in memory
 record IsPageOf (memory : List ℕ) (row : Row) (p : Page) : Type 0 where

@@ -13,6 +13,7 @@ use Rattle.rv32_exec.specs.declared.steps.Stepped.{Stepped}
 use Rattle.rv32_exec.specs.declared.steps.Stepped.TheVariants.{Next, Call, Stop, Miss}
 use Rattle.rv32_exec.specs.Steps.{After}
 use Rattle.rv32_exec.specs.Actions.{action_of}
+use Rattle.rv32_exec.proofs.StepChanges.{changed_by}
 use Rattle.flat_state.specs.declared.records.FlatThread.{FlatThread}
 use Rattle.flat_state.specs.declared.records.Signal.{Signal}
 use Rattle.flat_state.specs.State.{FlatState, is_ready}
@@ -21,8 +22,8 @@ use Rattle.flat_state.specs.Pages.{page_of, pages_of, with_pages, with_marks, is
 use Rattle.flat_state.specs.Signals.{next_action, signal_of, next_signal, receivers_for, full_among, is_runnable, delivered}
 use Rattle.flat_state.specs.Step.{outcome, went_on, stepped_so, stepped, step_if, step_of, after_step}
 use Rattle.flat_laws.specs.Rights.{MayWrite, AgreeWhereReadable, AgreeButMemory, AgreeFor, WrittenAlike, AgreeAfter, AgreeAfterBoth}
-use Rattle.flat_laws.proofs.Changes.{changed_by, all_changed-map, bytes_stay}
-use Rattle.flat_laws.proofs.StepsAlike.{Alike, fetched_agrees, steps_alike}
+use Rattle.flat_laws.proofs.Changes.{all_changed-map, bytes_stay}
+use Rattle.flat_laws.proofs.StepsAlike.{Alike, fetched_agrees, pages_alike}
 use Rattle.flat_laws.proofs.MemoryAfter.{length-with_pages, byte_stays, bytes_alike, marks_alike}
 
 -- memory after a step is as before, or has the pages written back
@@ -43,7 +44,7 @@ byte_without_right s n t place off =
       | inr written ↦
           let rights : List (Bool × Bool) = rights_of s t.space in
           let rows : List Row = filter (is_in t.space) s.rows in
-          let step = steps_alike rights rows s.memory s.memory (agrees_with_itself rights s.memory) t.context in
+          let step = pages_alike rights rows s.memory s.memory (agrees_with_itself rights s.memory) t.context in
           ap (λ memory. get_or memory place 0) written
           ∙ ap (λ ps. get_or (with_pages s.memory ps) place 0) (step.here ∙ all_changed-map step.changes (page_of rights s.memory) rows)
           ∙ byte_stays step.changes rights s.memory place
@@ -73,7 +74,7 @@ size_stays s n t =
       | inr written ↦
           let rights : List (Bool × Bool) = rights_of s t.space in
           let rows : List Row = filter (is_in t.space) s.rows in
-          let step = steps_alike rights rows s.memory s.memory (agrees_with_itself rights s.memory) t.context in
+          let step = pages_alike rights rows s.memory s.memory (agrees_with_itself rights s.memory) t.context in
           ap length written
           ∙ ap (λ ps. length (with_pages s.memory ps)) (step.here ∙ all_changed-map step.changes (page_of rights s.memory) rows)
           ∙ length-with_pages step.changes rights s.memory rows s.memory refl
@@ -114,7 +115,7 @@ module _ (s : FlatState) (n : ℕ) (t : FlatThread) (memory : List ℕ) (agree :
   v = with_memory s memory
 
   one_step : Alike (rights_of s t.space) (pages_of s t.space) (pages_of v t.space) (outcome s t) (outcome v t)
-  one_step = steps_alike (rights_of s t.space) rows s.memory memory agree t.context
+  one_step = pages_alike (rights_of s t.space) rows s.memory memory agree t.context
 
   one_action : next_action t.context (pages_of s t.space) ≡ next_action t.context (pages_of v t.space)
   unfolding next_action

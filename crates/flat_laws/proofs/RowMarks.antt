@@ -91,7 +91,7 @@ module _ (s : FlatState) (t : FlatThread) where
   atomic_through rd va op operand hit is divides =
       let reads : data_access (actions.Atomic rd va op operand) ≡ Some (record { access = Read; va = va }) = rw divides refl in
       let read : data_row s t ≡ row_through (reached s Read t.space va) = its_access action ∙ ap (row_of_access s t) (ap access_of is ∙ reads) in
-      let there : is_some (row_through (reached s Write t.space va)) ≡ true = sym (through_row Write va) ∙ atomic_writes t.context (pages_of s t.space) rd va op operand is divides hit in
+      let there : is_some (row_through (reached s Write t.space va)) ≡ true = sym (through_row Write va) ∙ atomic_writes t.context (pages_of s t.space) hit rd va op operand is divides in
       one_row Write Read va _ _ refl refl there (ap is_some (sym read) ∙ accesses_through (actions.Atomic rd va op operand) (record { access = Read; va = va }) hit is reads) ∙ sym read
 
   module _ (formed : IsWellFormed s) (hit : faults s t ≡ false) where

@@ -1,33 +1,28 @@
 -- A step over the pages of two memories that agree wherever the rights let read: it makes the same of both.
-use Rattle.std.proofs.Common.{◌≡◌, ℕ, ◌+◌, ◌-◌, ◌*◌, ◌/◌, ◌%◌, ◌<◌, min, Bool, true, false, ◌&&◌, ◌||◌, List, [], ◌∷◌, map, Option, Some, None, is_some, refl, ap, sym, ◌∙◌, subst, arith, ext_get_or}
+use Rattle.std.proofs.Common.{◌≡◌, ℕ, ◌+◌, ◌-◌, ◌*◌, ◌/◌, ◌%◌, ◌<◌, min, Bool, true, false, ◌&&◌, ◌||◌, List, [], ◌∷◌, map, Option, Some, None, refl, ap, sym, ◌∙◌, subst, arith, ext_get_or}
 use Rattle.std.specs.Prelude.{if◌then◌else◌, ◌==◌}
 use Rattle.std.specs.List.{find}
 use Rattle.std.specs.Option.{option_map}
+use Rattle.std.proofs.lemmas.Option.{same_Some}
 use Rattle.cache_ident.specs.declared.names.Frame.{Frame}
 use Rattle.phys_groups.specs.declared.rows.Row.{Row}
 use Rattle.phys_groups.specs.Memory.{page_at}
 use Rattle.phys_groups.specs.Translation.{right_on, implies, is_fit}
-use Rattle.rv32_isa.specs.declared.forms.Instr.{Instr}
-use Rattle.rv32_isa.specs.Table.{instruction_of}
-use Rattle.rv32_ma.specs.declared.atomics.AmoOp.{AmoOp}
-use Rattle.rv32_ma.specs.Atomics.{amo_of}
 use Rattle.rv32_exec.specs.declared.contexts.Context.{Context}
 use Rattle.rv32_exec.specs.declared.statuses.Access.{Access}
 use Rattle.rv32_exec.specs.declared.statuses.Access.TheVariants.{Fetch, Read, Write}
-use Rattle.rv32_exec.specs.declared.statuses.Reason.{Reason}
 use Rattle.rv32_exec.specs.declared.spaces.Width.{Width}
 use Rattle.rv32_exec.specs.declared.spaces.Width.TheVariants.{Word}
-use Rattle.rv32_exec.specs.declared.actions.Action.{Action}
-use Rattle.rv32_exec.specs.declared.actions.Action.TheVariants as actions
-use Rattle.rv32_exec.specs.Pages.{Page, size_of, where_allowed, translation, translates, number_at, read_through, fetched, loaded, stored_through, stored, touched_at}
-use Rattle.rv32_exec.specs.Actions.{action_of}
-use Rattle.rv32_exec.specs.Steps.{After, missed, ended, after_jump, load_found, store_found, write_found, read_found, after_action, after_decoding, after_fetch, after_step}
+use Rattle.rv32_exec.specs.Pages.{Page, where_allowed, translation, number_at, read_through, fetched, loaded}
+use Rattle.rv32_exec.specs.Changes.{Change, Marked, Put, all_changed}
+use Rattle.rv32_exec.specs.Steps.{After, after_step}
+use Rattle.rv32_exec.proofs.StepChanges.{IsPut, AreMade, steps_alike}
 use Rattle.flat_state.specs.Pages.{page_of}
 use Rattle.flat_laws.specs.Rights.{AgreeWhereReadable}
 use Rattle.phys_groups.proofs.PageBytes.{get_or-page_at}
 use Rattle.flat_laws.proofs.PageBytes.{length-page_at}
-use Rattle.flat_laws.proofs.Members.{find-map, is_some-option_map}
-use Rattle.flat_laws.proofs.Changes.{Change, Marked, Put, all_changed, AreAllowed}
+use Rattle.flat_laws.proofs.Members.{find-map}
+use Rattle.flat_laws.proofs.Changes.{AreAllowed}
 
 -- a flag of a row that is fit has the right that it asks for
 fetch_right : (x r on rest : Bool) → (x && (implies (r || x) on && rest)) ≡ true → on ≡ true
@@ -83,32 +78,24 @@ unfolding translation
 translation_is rights rows memory va access =
     ap (where_allowed access) (find-map (λ p. p.number == va / 4096) (λ r. r.vpn.0 == va / 4096) (page_of rights memory) (λ r. refl) rows) ∙ page_allowed rights memory access (find (λ r. r.vpn.0 == va / 4096) rows)
 
-translates_is : (rights : List (Bool × Bool)) (rows : List Row) (memory : List ℕ) (va : ℕ) (access : Access) → translates (pages rights rows memory) va access ≡ is_some (row_for rights rows va access)
-unfolding translates
-translates_is rights rows memory va access = ap is_some (translation_is rights rows memory va access) ∙ is_some-option_map (page_of rights memory) (row_for rights rows va access)
-
--- a store is a change of the row's frame, if there is a row
-abbrev with_put : Option Row → ℕ → ℕ → ℕ → List Change → List Change
-with_put None count at value cs = cs
-with_put (Some row) count at value cs = Put row.frame.0 count at value ∷ cs
-
-stored_is : (rights : List (Bool × Bool)) (rows : List Row) (memory : List ℕ) (va : ℕ) (width : Width) (value : ℕ) (cs : List Change) → all_changed cs (stored (pages rights rows memory) va width value) ≡ all_changed (with_put (row_for rights rows va Write) (size_of width) (va % 4096) value cs) (pages rights rows memory)
-unfolding stored
-stored_is rights rows memory va width value cs =
-    ap (λ p. all_changed cs (stored_through p (pages rights rows memory) va width value)) (translation_is rights rows memory va Write) ∙ by_row (row_for rights rows va Write)
+-- what a store puts goes to a frame whose group has its write bit
+put_allowed : (rights : List (Bool × Bool)) (rows : List Row) (memory : List ℕ) (frame count at : ℕ) → IsPut (pages rights rows memory) frame count at → (right_on rights (frame / 128)).1 ≡ true
+put_allowed rights rows memory frame count at put =
+    by_row (find (λ r. r.vpn.0 == put.va / 4096) rows) (sym (translation_is rights rows memory put.va Write) ∙ put.there)
   where
-    by_row : (r : Option Row) → all_changed cs (stored_through (option_map (page_of rights memory) r) (pages rights rows memory) va width value) ≡ all_changed (with_put r (size_of width) (va % 4096) value cs) (pages rights rows memory)
-    by_row None = refl
-    by_row (Some row) = refl
+    by_row : (found : Option Row) → option_map (page_of rights memory) (row_allowed rights Write found) ≡ Some put.page → (right_on rights (frame / 128)).1 ≡ true
+    by_row None e = absurd (cc)
+    by_row (Some row) e =
+        by_test (row.flags.w && is_fit rights row) (store_right row.flags.w (implies (row.flags.r || row.flags.x) (right_on rights (row.frame.0 / 128)).0) (right_on rights (row.frame.0 / 128)).1) e
+      where
+        by_test : (b : Bool) → (b ≡ true → (right_on rights (row.frame.0 / 128)).1 ≡ true) → option_map (page_of rights memory) (if b then Some row else None) ≡ Some put.page → (right_on rights (frame / 128)).1 ≡ true
+        by_test true on e = subst (λ f. (right_on rights (f / 128)).1 ≡ true) (ap (λ (p : Page). p.frame) (same_Some _ _ e) ∙ sym put.frame_is) (on refl)
+        by_test false on e = absurd (cc)
 
-put_allowed : (rights : List (Bool × Bool)) (found : Option Row) (count at value : ℕ) (cs : List Change) → AreAllowed rights cs → AreAllowed rights (with_put (row_allowed rights Write found) count at value cs)
-put_allowed rights None count at value cs allowed = allowed
-put_allowed rights (Some row) count at value cs allowed =
-    by_test (row.flags.w && is_fit rights row) (store_right row.flags.w (implies (row.flags.r || row.flags.x) (right_on rights (row.frame.0 / 128)).0) (right_on rights (row.frame.0 / 128)).1)
-  where
-    by_test : (b : Bool) → (b ≡ true → (right_on rights (row.frame.0 / 128)).1 ≡ true) → AreAllowed rights (with_put (if b then Some row else None) count at value cs)
-    by_test true on = (on refl, allowed)
-    by_test false on = allowed
+all_allowed : (rights : List (Bool × Bool)) (rows : List Row) (memory : List ℕ) (cs : List Change) → AreMade (pages rights rows memory) cs → AreAllowed rights cs
+all_allowed rights rows memory [] made = tt
+all_allowed rights rows memory (Marked number access ∷ cs) made = all_allowed rights rows memory cs made.1
+all_allowed rights rows memory (Put frame count at value ∷ cs) made = (put_allowed rights rows memory frame count at made.0, all_allowed rights rows memory cs made.1)
 
 -- What a step makes of two lists of pages: one context, one answer, and the same changes, which the rights allow.
 pub record Alike (rights : List (Bool × Bool)) (ps qs : List Page) (a b : After) : Type 0 where
@@ -118,30 +105,6 @@ pub record Alike (rights : List (Bool × Bool)) (ps qs : List Page) (a b : After
   pub here : a.pages ≡ all_changed changes ps
   pub there : b.pages ≡ all_changed changes qs
   pub allowed : AreAllowed rights changes
-
-choice : (rights : List (Bool × Bool)) (ps qs : List Page) (b : Bool) (x y v w : After) → Alike rights ps qs x v → Alike rights ps qs y w → Alike rights ps qs (if b then x else y) (if b then v else w)
-choice rights ps qs true x y v w h k = h
-choice rights ps qs false x y v w h k = k
-
-alike_missed : (rights : List (Bool × Bool)) (ps qs : List Page) (c : Context) (va : ℕ) (access : Access) → Alike rights ps qs (missed c ps va access) (missed c qs va access)
-alike_missed rights ps qs c va access = record { context = refl; answer = refl; changes = []; here = refl; there = refl; allowed = tt }
-
-alike_ended : (rights : List (Bool × Bool)) (ps qs : List Page) (c : Context) (reason : Reason) → Alike rights ps qs (ended c ps reason) (ended c qs reason)
-unfolding touched_at
-alike_ended rights ps qs c reason = record { context = refl; answer = refl; changes = Marked (c.pc / 4096) Fetch ∷ []; here = refl; there = refl; allowed = tt }
-
-alike_jump : (rights : List (Bool × Bool)) (ps qs : List Page) (c : Context) (rd target : ℕ) → Alike rights ps qs (after_jump c ps rd target) (after_jump c qs rd target)
-unfolding touched_at
-alike_jump rights ps qs c rd target =
-    choice rights ps qs (target % 4 == 0) _ _ _ _
-    (record { context = refl; answer = refl; changes = Marked (c.pc / 4096) Fetch ∷ []; here = refl; there = refl; allowed = tt })
-    (alike_ended rights ps qs c _)
-
-alike_load : (rights : List (Bool × Bool)) (ps qs : List Page) (c : Context) (rd va : ℕ) (width : Width) (signed : Bool) (found : Option ℕ) → Alike rights ps qs (load_found c ps rd va width signed found) (load_found c qs rd va width signed found)
-unfolding touched_at
-alike_load rights ps qs c rd va width signed None = alike_missed rights ps qs c va Read
-alike_load rights ps qs c rd va width signed (Some n) =
-    record { context = refl; answer = refl; changes = Marked (c.pc / 4096) Fetch ∷ Marked (va / 4096) Read ∷ []; here = refl; there = refl; allowed = tt }
 
 module _ (rights : List (Bool × Bool)) (rows : List Row) (m v : List ℕ) (agree : AgreeWhereReadable rights m v) where
   -- the pages of a group that may be read are the same
@@ -179,90 +142,15 @@ module _ (rights : List (Bool × Bool)) (rows : List Row) (m v : List ℕ) (agre
   loaded_agrees : (va : ℕ) (width : Width) → loaded (pages rights rows m) va width ≡ loaded (pages rights rows v) va width
   loaded_agrees va width = read_is Read m va width ∙ load_agrees width (va % 4096) (find (λ r. r.vpn.0 == va / 4096) rows) ∙ sym (read_is Read v va width)
 
-  translates_agrees : (va : ℕ) (access : Access) → translates (pages rights rows m) va access ≡ translates (pages rights rows v) va access
-  translates_agrees va access = translates_is rights rows m va access ∙ sym (translates_is rights rows v va access)
-
-  abbrev Same : After → After → Type 0
-  Same a b = Alike rights (pages rights rows m) (pages rights rows v) a b
-
-  put_marks_allowed : (va count at value : ℕ) (cs : List Change) → AreAllowed rights cs → AreAllowed rights (with_put (row_for rights rows va Write) count at value cs)
-  put_marks_allowed va count at value cs allowed = put_allowed rights (find (λ r. r.vpn.0 == va / 4096) rows) count at value cs allowed
-
-  alike_store : (c : Context) (va : ℕ) (width : Width) (value : ℕ) (found : Bool) → Same (store_found c (pages rights rows m) va width value found) (store_found c (pages rights rows v) va width value found)
-  unfolding touched_at
-  alike_store c va width value found =
-      choice rights _ _ found _ _ _ _
-      (let marks : List Change = Marked (c.pc / 4096) Fetch ∷ Marked (va / 4096) Write ∷ [] in
-      record {
-        context = refl;
-        answer = refl;
-        changes = with_put (row_for rights rows va Write) (size_of width) (va % 4096) value marks;
-        here = stored_is rights rows m va width value marks;
-        there = stored_is rights rows v va width value marks;
-        allowed = put_marks_allowed va (size_of width) (va % 4096) value marks tt;
-      })
-      (alike_missed rights _ _ c va Write)
-
-  alike_write : (c : Context) (rd va : ℕ) (op : AmoOp) (operand old : ℕ) (found : Bool) → Same (write_found c (pages rights rows m) rd va op operand old found) (write_found c (pages rights rows v) rd va op operand old found)
-  unfolding touched_at
-  alike_write c rd va op operand old found =
-      choice rights _ _ found _ _ _ _
-      (let marks : List Change = Marked (c.pc / 4096) Fetch ∷ Marked (va / 4096) Read ∷ Marked (va / 4096) Write ∷ [] in
-      record {
-        context = refl;
-        answer = refl;
-        changes = with_put (row_for rights rows va Write) 4 (va % 4096) (amo_of op old operand) marks;
-        here = stored_is rights rows m va Word (amo_of op old operand) marks;
-        there = stored_is rights rows v va Word (amo_of op old operand) marks;
-        allowed = put_marks_allowed va 4 (va % 4096) (amo_of op old operand) marks tt;
-      })
-      (alike_missed rights _ _ c va Write)
-
-  alike_read : (c : Context) (rd va : ℕ) (op : AmoOp) (operand : ℕ) (found : Option ℕ) → Same (read_found c (pages rights rows m) rd va op operand found) (read_found c (pages rights rows v) rd va op operand found)
-  alike_read c rd va op operand None = alike_missed rights _ _ c va Read
-  alike_read c rd va op operand (Some old) =
-      subst (λ found. Same (write_found c (pages rights rows m) rd va op operand old (translates (pages rights rows m) va Write)) (write_found c (pages rights rows v) rd va op operand old found))
-      (translates_agrees va Write)
-      (alike_write c rd va op operand old (translates (pages rights rows m) va Write))
-
-  alike_action : (a : Action) (c : Context) → Same (after_action a c (pages rights rows m)) (after_action a c (pages rights rows v))
-  unfolding after_action touched_at
-  alike_action (actions.Set rd value) c = record { context = refl; answer = refl; changes = Marked (c.pc / 4096) Fetch ∷ []; here = refl; there = refl; allowed = tt }
-  alike_action actions.Pass c = record { context = refl; answer = refl; changes = Marked (c.pc / 4096) Fetch ∷ []; here = refl; there = refl; allowed = tt }
-  alike_action (actions.Jump rd target) c = alike_jump rights _ _ c rd target
-  alike_action (actions.Load rd va width signed) c =
-      choice rights _ _ (va % size_of width == 0) _ _ _ _
-      (subst (λ found. Same (load_found c (pages rights rows m) rd va width signed (loaded (pages rights rows m) va width)) (load_found c (pages rights rows v) rd va width signed found))
-      (loaded_agrees va width)
-      (alike_load rights _ _ c rd va width signed (loaded (pages rights rows m) va width)))
-      (alike_ended rights _ _ c _)
-  alike_action (actions.Store va width value) c =
-      choice rights _ _ (va % size_of width == 0) _ _ _ _
-      (subst (λ found. Same (store_found c (pages rights rows m) va width value (translates (pages rights rows m) va Write)) (store_found c (pages rights rows v) va width value found))
-      (translates_agrees va Write)
-      (alike_store c va width value (translates (pages rights rows m) va Write)))
-      (alike_ended rights _ _ c _)
-  alike_action (actions.Atomic rd va op operand) c =
-      choice rights _ _ (va % 4 == 0) _ _ _ _
-      (subst (λ found. Same (read_found c (pages rights rows m) rd va op operand (loaded (pages rights rows m) va Word)) (read_found c (pages rights rows v) rd va op operand found))
-      (loaded_agrees va Word)
-      (alike_read c rd va op operand (loaded (pages rights rows m) va Word)))
-      (alike_ended rights _ _ c _)
-  alike_action actions.Call c = record { context = refl; answer = refl; changes = Marked (c.pc / 4096) Fetch ∷ []; here = refl; there = refl; allowed = tt }
-  alike_action actions.Break c = alike_ended rights _ _ c _
-
-  alike_decoding : (c : Context) (word : ℕ) (found : Option Instr) → Same (after_decoding c (pages rights rows m) word found) (after_decoding c (pages rights rows v) word found)
-  alike_decoding c word None = alike_ended rights _ _ c _
-  alike_decoding c word (Some i) = alike_action (action_of i c) c
-
-  alike_fetch : (c : Context) (found : Option ℕ) → Same (after_fetch c (pages rights rows m) found) (after_fetch c (pages rights rows v) found)
-  alike_fetch c None = alike_missed rights _ _ c c.pc Fetch
-  alike_fetch c (Some word) = alike_decoding c word (instruction_of word)
+  stores_agree : (va : ℕ) → option_map (λ p. p.frame) (translation (pages rights rows m) va Write) ≡ option_map (λ p. p.frame) (translation (pages rights rows v) va Write)
+  stores_agree va = ap (option_map (λ p. p.frame)) (translation_is rights rows m va Write) ∙ by_row (row_for rights rows va Write) ∙ sym (ap (option_map (λ p. p.frame)) (translation_is rights rows v va Write))
+    where
+      by_row : (found : Option Row) → option_map (λ p. p.frame) (option_map (page_of rights m) found) ≡ option_map (λ p. p.frame) (option_map (page_of rights v) found)
+      by_row None = refl
+      by_row (Some row) = refl
 
   -- the step makes the same of both
-  pub steps_alike : (c : Context) → Same (after_step c (pages rights rows m)) (after_step c (pages rights rows v))
-  unfolding after_step
-  steps_alike c =
-      subst (λ found. Same (after_fetch c (pages rights rows m) (fetched (pages rights rows m) c.pc)) (after_fetch c (pages rights rows v) found))
-      (fetched_agrees c.pc)
-      (alike_fetch c (fetched (pages rights rows m) c.pc))
+  pub pages_alike : (c : Context) → Alike rights (pages rights rows m) (pages rights rows v) (after_step c (pages rights rows m)) (after_step c (pages rights rows v))
+  pages_alike c =
+      let step = steps_alike c (pages rights rows m) (pages rights rows v) (record { fetches = fetched_agrees; loads = loaded_agrees; stores = stores_agree }) in
+      record { context = step.context; answer = step.answer; changes = step.changes; here = step.here; there = step.there; allowed = all_allowed rights rows m step.changes step.each }

@@ -87,7 +87,7 @@ translates-stored ps at width value va access = by_page (translation ps at Write
     by_page None = refl
     by_page (Some p) = translates-map (put_in_frame p.frame (size_of width) (at % 4096) value) (put_keeps p.frame (size_of width) (at % 4096) value) ps va access
 
-is_some-option_map : {A B : Type 0} (f : A → B) (r : Option A) → is_some (option_map f r) ≡ is_some r
+pub is_some-option_map : {A B : Type 0} (f : A → B) (r : Option A) → is_some (option_map f r) ≡ is_some r
 is_some-option_map f None = refl
 is_some-option_map f (Some p) = refl
 
