@@ -5,10 +5,10 @@ ghost use Rattle.std.specs.Option.{option_map};
 ghost use Rattle.rv32_isa.specs.Table.{LiesFrom, IsValid, word_of};
 ghost use Rattle.rv32_asm.specs.declared.fault.AsmFault.TheVariants.{NoMemory};
 ghost use Rattle.rv32_asm.specs.Fields.{where_in};
-ghost use Rattle.rv32_asm.specs.Aims.{IsAim, least, greatest, aimed as aimed_lem, reaching};
-ghost use Rattle.rv32_asm.specs.Line.{line_of, code_of as code_of_lem, IsEven, IsTarget, target_view};
+ghost use Rattle.rv32_asm.specs.Aims.{IsAim, least, greatest, aimed, reaching};
+ghost use Rattle.rv32_asm.specs.Line.{line_of, code_of, IsEven, IsTarget, target_view};
 ghost use Rattle.rv32_asm.specs.Labels.{marks_of};
-ghost use Rattle.rv32_asm.specs.Block.{Answers, Exactly, spelt, start, behind, distance as distance_lem, word_or_far, to_target as to_target_lem, code_word, first_or_twice, line_words, words_from, with_front, block as block_lem};
+ghost use Rattle.rv32_asm.specs.Block.{Answers, Exactly, spelt, start, behind, distance, word_or_far, to_target, code_word, first_or_twice, line_words, words_from, with_front, block};
 
 use crate::fault::AsmFault;
 use crate::forms::Aim;
@@ -25,7 +25,7 @@ fn aimed(aim: Aim, imm: i32) -> Instr
     requires even { IsEven imm }
     requires low { least aim ≤ℤ imm }
     requires high { imm ≤ℤ greatest aim }
-    ensures is { result ≡ aimed_lem aim imm }
+    ensures is { result ≡ aimed aim imm }
     ensures valid { IsValid result }
 {
     match aim {
@@ -81,7 +81,7 @@ fn reach(aim: Aim, distance: i128) -> Option<u32>
 
 // How many bytes it is from one word to another.
 fn distance(here: u64, there: u64) -> i128
-    ensures is { result ≡ distance_lem here there }
+    ensures is { result ≡ distance here there }
     ensures even { IsEven result }
 {
     4 * i128::from(there) - 4 * i128::from(here)
@@ -106,7 +106,7 @@ fn to_target(
 ) -> Result<u32, AsmFault>
     requires sound { IsAim aim }
     requires even { IsTarget target }
-    ensures { Exactly (λ w. w) result (to_target_lem (marks_of labels.now) at aim (target_view target.entry)) }
+    ensures { Exactly (λ w. w) result (to_target (marks_of labels.now) at aim (target_view target.entry)) }
 {
     match target {
         Target::Distance(bytes) => over(at, aim, i128::from(bytes)),
@@ -119,7 +119,7 @@ fn to_target(
 
 // The word of a line of code.
 fn code(labels: &BTreeMap<&[u8], Mark>, at: Mark, line: &[u8]) -> Result<u32, AsmFault>
-    ensures { Exactly (λ w. w) result (code_word (marks_of labels.now) at (code_of_lem line.now)) }
+    ensures { Exactly (λ w. w) result (code_word (marks_of labels.now) at (code_of line.now)) }
 {
     match code_of(line) {
         None => Err(AsmFault::BadLine { line: at.line }),
@@ -203,11 +203,11 @@ fn words(
 /// Each line ends with a line feed, which the last may lack. There are no blank lines and no comments, and a
 /// tab is no space. A line of code takes one word, a label none. It goes through the text twice: once for the
 /// labels, and once for the words; each label costs the logarithm of their number.
-pub fn assemble(alloc: Global, block: &str, room: u32) -> Result<Vec<u32>, AsmFault>
+pub fn assemble(alloc: Global, text: &str, room: u32) -> Result<Vec<u32>, AsmFault>
     // The words that the block means, or its first fault, unless memory runs out.
-    ensures { Answers (λ v. v.items) result (block_lem room block.now) }
+    ensures { Answers (λ v. v.items) result (block room text.now) }
 {
-    let bytes = block.as_bytes();
+    let bytes = text.as_bytes();
     let labels = labels(alloc, bytes)?;
     words(alloc, bytes, &labels, room)
 }

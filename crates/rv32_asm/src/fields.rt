@@ -4,7 +4,7 @@ ghost use Rattle.std.specs.Prelude.{◌≡◌, ◌<◌, ◌==◌, length, IfSome
 ghost use Rattle.std.specs.List.{position, list_all};
 ghost use Rattle.std.specs.Str.{bytes_eq};
 ghost use Rattle.rv32_isa.specs.Table.{LiesFrom};
-ghost use Rattle.rv32_asm.specs.Fields.{Gives, cut as cut_lem, after, trim_front as trim_front_lem, trim_back as trim_back_lem, trim as trim_lem, digit as digit_lem, digits_from as digits_from_lem, digits as digits_lem, number as number_lem, immediate as immediate_lem, immediate_in as immediate_in_lem, short_number as short_number_lem, lettered as lettered_lem, numbered as numbered_lem, register as register_lem, bracketed as bracketed_lem, is_letter as is_letter_lem, is_name_byte as is_name_byte_lem, is_name as is_name_lem};
+ghost use Rattle.rv32_asm.specs.Fields.{Gives, cut, after, trim_front, trim_back, trim, digit, digits_from, digits, number, immediate, immediate_in, short_number, lettered, numbered, register, bracketed, is_letter, is_name_byte, is_name};
 
 fn place(bytes: &[u8], at: u8) -> Option<usize>
     ensures is { result ≡ position (λ b. b == at) bytes.now }
@@ -16,7 +16,7 @@ fn place(bytes: &[u8], at: u8) -> Option<usize>
 /// What stands before the first such byte, and what follows it.
 #[tactic(auto, unfolding(crate::specs::Fields::cut))]
 pub(crate) fn cut(bytes: &[u8], at: u8) -> Option<(&[u8], &[u8])>
-    ensures { Gives (λ x. (x.0.now, x.1.now)) result (cut_lem at bytes.now) }
+    ensures { Gives (λ x. (x.0.now, x.1.now)) result (cut at bytes.now) }
 {
     match place(bytes, at) {
         None => None,
@@ -44,7 +44,7 @@ pub(crate) fn is(bytes: &[u8], text: &[u8]) -> bool
 
 #[tactic(auto, unfolding(crate::specs::Fields::trim_front))]
 fn trim_front(bytes: &[u8]) -> &[u8]
-    ensures { result.now ≡ trim_front_lem bytes.now }
+    ensures { result.now ≡ trim_front bytes.now }
 {
     let mut rest = bytes;
     while let [b' ', more @ ..] = rest {
@@ -55,7 +55,7 @@ fn trim_front(bytes: &[u8]) -> &[u8]
 
 #[tactic(auto, unfolding(crate::specs::Fields::trim_front))]
 fn trim_back(bytes: &[u8]) -> &[u8]
-    ensures { result.now ≡ trim_back_lem bytes.now }
+    ensures { result.now ≡ trim_back bytes.now }
 {
     let mut rest = bytes;
     while let [more @ .., b' '] = rest {
@@ -66,14 +66,14 @@ fn trim_back(bytes: &[u8]) -> &[u8]
 
 /// The bytes without the spaces at both ends.
 pub(crate) fn trim(bytes: &[u8]) -> &[u8]
-    ensures { result.now ≡ trim_lem bytes.now }
+    ensures { result.now ≡ trim bytes.now }
 {
     trim_back(trim_front(bytes))
 }
 
 #[tactic(auto, unfolding(crate::specs::Fields::digit))]
 fn digit(base: u32, byte: u8) -> Option<u32>
-    ensures is { result ≡ digit_lem base byte }
+    ensures is { result ≡ digit base byte }
     ensures below { IfSome result (λ d. d < base) }
 {
     let value = match byte {
@@ -89,7 +89,7 @@ fn digit(base: u32, byte: u8) -> Option<u32>
 // The number that the digits write, none where it needs more than 32 bits.
 #[tactic(auto, unfolding(crate::specs::Fields::digits_from))]
 fn digits_from(base: u32, bytes: &[u8]) -> Option<u32>
-    ensures { result ≡ digits_from_lem base 0 bytes.now }
+    ensures { result ≡ digits_from base 0 bytes.now }
 {
     let mut number: u32 = 0;
     let mut rest = bytes;
@@ -107,7 +107,7 @@ fn digits_from(base: u32, bytes: &[u8]) -> Option<u32>
 // One digit up to `most` of them.
 #[tactic(auto, unfolding(crate::specs::Fields::digits))]
 fn digits(base: u32, most: usize, bytes: &[u8]) -> Option<u32>
-    ensures { result ≡ digits_lem base most bytes.now }
+    ensures { result ≡ digits base most bytes.now }
 {
     if bytes.is_empty() || bytes.len() > most {
         return None;
@@ -118,7 +118,7 @@ fn digits(base: u32, most: usize, bytes: &[u8]) -> Option<u32>
 /// A number of 32 bits, decimal or behind `0x` hexadecimal.
 #[tactic(auto, unfolding(crate::specs::Fields::number))]
 pub(crate) fn number(bytes: &[u8]) -> Option<u32>
-    ensures { result ≡ number_lem bytes.now }
+    ensures { result ≡ number bytes.now }
 {
     match skip(bytes, b"0x") {
         Some(hexadecimal) => digits(16, 8, hexadecimal),
@@ -129,7 +129,7 @@ pub(crate) fn number(bytes: &[u8]) -> Option<u32>
 /// A number with or without a minus.
 #[tactic(auto, unfolding(crate::specs::Fields::immediate))]
 pub(crate) fn immediate(bytes: &[u8]) -> Option<i64>
-    ensures { result ≡ immediate_lem bytes.now }
+    ensures { result ≡ immediate bytes.now }
 {
     match skip(bytes, b"-") {
         Some(minus) => Some(-i64::from(number(minus)?)),
@@ -140,7 +140,7 @@ pub(crate) fn immediate(bytes: &[u8]) -> Option<i64>
 /// An immediate in that range.
 #[tactic(auto, unfolding(crate::specs::Fields::immediate_in))]
 pub(crate) fn immediate_in(least: i32, greatest: i32, bytes: &[u8]) -> Option<i32>
-    ensures is { result ≡ immediate_in_lem least greatest bytes.now }
+    ensures is { result ≡ immediate_in least greatest bytes.now }
     ensures range { IfSome result (LiesFrom least greatest) }
 {
     let number = immediate(bytes)?;
@@ -153,7 +153,7 @@ pub(crate) fn immediate_in(least: i32, greatest: i32, bytes: &[u8]) -> Option<i3
 // A number of one digit, or of two without a leading zero.
 #[tactic(auto, unfolding(crate::specs::Fields::short_number))]
 fn short_number(bytes: &[u8]) -> Option<u32>
-    ensures is { result ≡ short_number_lem bytes.now }
+    ensures is { result ≡ short_number bytes.now }
     ensures small { IfSome result (λ n. n < 100) }
 {
     match bytes {
@@ -172,7 +172,7 @@ fn short_number(bytes: &[u8]) -> Option<u32>
 #[tactic(auto, unfolding(crate::specs::Fields::lettered))]
 fn lettered(letter: u8, number: u32) -> Option<u32>
     requires { number < 100 }
-    ensures is { result ≡ lettered_lem letter number }
+    ensures is { result ≡ lettered letter number }
     ensures range { IfSome result (λ r. r < 32) }
 {
     if letter == b'x' && number < 32 {
@@ -194,7 +194,7 @@ fn lettered(letter: u8, number: u32) -> Option<u32>
 
 #[tactic(auto, unfolding(crate::specs::Fields::numbered))]
 fn numbered(bytes: &[u8]) -> Option<u32>
-    ensures is { result ≡ numbered_lem bytes.now }
+    ensures is { result ≡ numbered bytes.now }
     ensures range { IfSome result (λ r. r < 32) }
 {
     match bytes {
@@ -209,7 +209,7 @@ fn numbered(bytes: &[u8]) -> Option<u32>
 /// The number of a register, by any of its names.
 #[tactic(auto, unfolding(crate::specs::Fields::register))]
 pub(crate) fn register(bytes: &[u8]) -> Option<u32>
-    ensures is { result ≡ register_lem bytes.now }
+    ensures is { result ≡ register bytes.now }
     ensures range { IfSome result (λ r. r < 32) }
 {
     if is(bytes, b"zero") {
@@ -232,7 +232,7 @@ pub(crate) fn register(bytes: &[u8]) -> Option<u32>
 /// What stands before a register in brackets at the end, and that register.
 #[tactic(auto, unfolding(crate::specs::Fields::bracketed))]
 pub(crate) fn bracketed(bytes: &[u8]) -> Option<(&[u8], u32)>
-    ensures is { Gives (λ x. (x.0.now, x.1)) result (bracketed_lem bytes.now) }
+    ensures is { Gives (λ x. (x.0.now, x.1)) result (bracketed bytes.now) }
     ensures range { IfSome result (λ x. x.1 < 32) }
 {
     let (front, rest) = cut(bytes, b'(')?;
@@ -245,19 +245,19 @@ pub(crate) fn bracketed(bytes: &[u8]) -> Option<(&[u8], u32)>
 }
 
 fn is_letter(byte: u8) -> bool
-    ensures { result ≡ is_letter_lem byte }
+    ensures { result ≡ is_letter byte }
 {
     matches!(byte, b'a'..=b'z' | b'A'..=b'Z' | b'_')
 }
 
 fn is_name_byte(byte: u8) -> bool
-    ensures { result ≡ is_name_byte_lem byte }
+    ensures { result ≡ is_name_byte byte }
 {
     is_letter(byte) || matches!(byte, b'0'..=b'9')
 }
 
 fn are_name_bytes(bytes: &[u8]) -> bool
-    ensures { result ≡ list_all is_name_byte_lem bytes.now }
+    ensures { result ≡ list_all is_name_byte bytes.now }
 {
     bytes.iter().all(|byte| is_name_byte(*byte))
 }
@@ -265,7 +265,7 @@ fn are_name_bytes(bytes: &[u8]) -> bool
 /// Whether the bytes are a letter or `_`, and then letters, digits and `_`.
 #[tactic(auto, unfolding(crate::specs::Fields::is_name))]
 pub(crate) fn is_name(bytes: &[u8]) -> bool
-    ensures { result ≡ is_name_lem bytes.now }
+    ensures { result ≡ is_name bytes.now }
 {
     match bytes {
         [] => false,

@@ -3,7 +3,7 @@
 ghost use Rattle.std.specs.Prelude.{◌≡◌, pos, negsuc, IfSome};
 ghost use Rattle.rv32_isa.specs.Table.{IsRegister, LiesFrom, IsValid};
 ghost use Rattle.rv32_asm.specs.Aims.{IsAim};
-ghost use Rattle.rv32_asm.specs.Forms.{upper as upper_lem, load as load_lem, store as store_lem, immediate_form as immediate_form_lem, shift as shift_lem, fence as fence_lem, register_form as register_form_lem, product as product_lem, atomic as atomic_lem, branch as branch_lem, ordering as ordering_lem, atomic_named as atomic_named_lem, immediate_at, shift_at, fence_at, with_immediate as with_immediate_lem, of_two as of_two_lem, of_three as of_three_lem};
+ghost use Rattle.rv32_asm.specs.Forms.{upper, load, store, immediate_form, shift, fence, register_form, product, atomic, branch, ordering, atomic_named, immediate_at, shift_at, fence_at, with_immediate, of_two, of_three};
 
 use crate::fields::{bracketed, cut, immediate_in, is, register};
 use rv32_isa::Instr;
@@ -25,7 +25,7 @@ pub(crate) enum Aim {
 pub(crate) fn upper(name: &[u8], rd: u32, imm: i32) -> Option<Instr>
     requires rd { IsRegister rd }
     requires range { LiesFrom (pos 0) (pos 1048575) imm }
-    ensures is { result ≡ upper_lem name.now rd imm }
+    ensures is { result ≡ upper name.now rd imm }
     ensures valid { IfSome result IsValid }
 {
     if is(name, b"lui") {
@@ -43,7 +43,7 @@ pub(crate) fn load(name: &[u8], rd: u32, rs1: u32, imm: i32) -> Option<Instr>
     requires rd { IsRegister rd }
     requires rs1 { IsRegister rs1 }
     requires range { LiesFrom (negsuc 2047) (pos 2047) imm }
-    ensures is { result ≡ load_lem name.now rd rs1 imm }
+    ensures is { result ≡ load name.now rd rs1 imm }
     ensures valid { IfSome result IsValid }
 {
     if is(name, b"jalr") {
@@ -69,7 +69,7 @@ pub(crate) fn store(name: &[u8], rs2: u32, rs1: u32, imm: i32) -> Option<Instr>
     requires rs2 { IsRegister rs2 }
     requires rs1 { IsRegister rs1 }
     requires range { LiesFrom (negsuc 2047) (pos 2047) imm }
-    ensures is { result ≡ store_lem name.now rs2 rs1 imm }
+    ensures is { result ≡ store name.now rs2 rs1 imm }
     ensures valid { IfSome result IsValid }
 {
     if is(name, b"sb") {
@@ -89,7 +89,7 @@ pub(crate) fn immediate_form(name: &[u8], rd: u32, rs1: u32, imm: i32) -> Option
     requires rd { IsRegister rd }
     requires rs1 { IsRegister rs1 }
     requires range { LiesFrom (negsuc 2047) (pos 2047) imm }
-    ensures is { result ≡ immediate_form_lem name.now rd rs1 imm }
+    ensures is { result ≡ immediate_form name.now rd rs1 imm }
     ensures valid { IfSome result IsValid }
 {
     if is(name, b"addi") {
@@ -115,7 +115,7 @@ pub(crate) fn shift(name: &[u8], rd: u32, rs1: u32, imm: i32) -> Option<Instr>
     requires rd { IsRegister rd }
     requires rs1 { IsRegister rs1 }
     requires range { LiesFrom (pos 0) (pos 31) imm }
-    ensures is { result ≡ shift_lem name.now rd rs1 imm }
+    ensures is { result ≡ shift name.now rd rs1 imm }
     ensures valid { IfSome result IsValid }
 {
     if is(name, b"slli") {
@@ -135,7 +135,7 @@ pub(crate) fn fence(name: &[u8], rd: u32, rs1: u32, imm: i32) -> Option<Instr>
     requires rd { IsRegister rd }
     requires rs1 { IsRegister rs1 }
     requires range { LiesFrom (pos 0) (pos 4095) imm }
-    ensures is { result ≡ fence_lem name.now rd rs1 imm }
+    ensures is { result ≡ fence name.now rd rs1 imm }
     ensures valid { IfSome result IsValid }
 {
     if is(name, b"fence") {
@@ -151,7 +151,7 @@ pub(crate) fn register_form(name: &[u8], rd: u32, rs1: u32, rs2: u32) -> Option<
     requires rd { IsRegister rd }
     requires rs1 { IsRegister rs1 }
     requires rs2 { IsRegister rs2 }
-    ensures is { result ≡ register_form_lem name.now rd rs1 rs2 }
+    ensures is { result ≡ register_form name.now rd rs1 rs2 }
     ensures valid { IfSome result IsValid }
 {
     if is(name, b"add") {
@@ -185,7 +185,7 @@ pub(crate) fn product(name: &[u8], rd: u32, rs1: u32, rs2: u32) -> Option<Instr>
     requires rd { IsRegister rd }
     requires rs1 { IsRegister rs1 }
     requires rs2 { IsRegister rs2 }
-    ensures is { result ≡ product_lem name.now rd rs1 rs2 }
+    ensures is { result ≡ product name.now rd rs1 rs2 }
     ensures valid { IfSome result IsValid }
 {
     if is(name, b"mul") {
@@ -215,7 +215,7 @@ pub(crate) fn atomic(name: &[u8], rd: u32, rs1: u32, rs2: u32, aq: bool, rl: boo
     requires rd { IsRegister rd }
     requires rs1 { IsRegister rs1 }
     requires rs2 { IsRegister rs2 }
-    ensures is { result ≡ atomic_lem name.now rd rs1 rs2 aq rl }
+    ensures is { result ≡ atomic name.now rd rs1 rs2 aq rl }
     ensures valid { IfSome result IsValid }
 {
     if is(name, b"amoadd") {
@@ -300,7 +300,7 @@ pub(crate) fn atomic(name: &[u8], rd: u32, rs1: u32, rs2: u32, aq: bool, rl: boo
 pub(crate) fn branch(name: &[u8], rs1: u32, rs2: u32) -> Option<Aim>
     requires rs1 { IsRegister rs1 }
     requires rs2 { IsRegister rs2 }
-    ensures is { result ≡ branch_lem name.now rs1 rs2 }
+    ensures is { result ≡ branch name.now rs1 rs2 }
     ensures valid { IfSome result IsAim }
 {
     if is(name, b"beq") {
@@ -323,7 +323,7 @@ pub(crate) fn branch(name: &[u8], rs1: u32, rs2: u32) -> Option<Aim>
 // What follows the point of an atomic mnemonic: whether it acquires, and whether it releases.
 #[tactic(auto, unfolding(crate::specs::Forms::ordering))]
 fn ordering(name: &[u8]) -> Option<(bool, bool)>
-    ensures { result ≡ ordering_lem name.now }
+    ensures { result ≡ ordering name.now }
 {
     if is(name, b"w") {
         Some((false, false))
@@ -343,7 +343,7 @@ fn atomic_named(name: &[u8], rd: u32, rs1: u32, rs2: u32) -> Option<Instr>
     requires rd { IsRegister rd }
     requires rs1 { IsRegister rs1 }
     requires rs2 { IsRegister rs2 }
-    ensures is { result ≡ atomic_named_lem name.now rd rs1 rs2 }
+    ensures is { result ≡ atomic_named name.now rd rs1 rs2 }
     ensures valid { IfSome result IsValid }
 {
     let (operation, suffix) = cut(name, b'.')?;
@@ -354,7 +354,7 @@ fn atomic_named(name: &[u8], rd: u32, rs1: u32, rs2: u32) -> Option<Instr>
 /// An instruction of two operands, neither of which is a target.
 #[tactic(auto, unfolding(crate::specs::Forms::of_two))]
 pub(crate) fn of_two(name: &[u8], a: &[u8], b: &[u8]) -> Option<Instr>
-    ensures is { result ≡ of_two_lem name.now a.now b.now }
+    ensures is { result ≡ of_two name.now a.now b.now }
     ensures valid { IfSome result IsValid }
 {
     let first = register(a)?;
@@ -407,7 +407,7 @@ fn fence_of(name: &[u8], rd: u32, rs1: u32, bytes: &[u8]) -> Option<Instr>
 fn with_immediate(name: &[u8], rd: u32, rs1: u32, bytes: &[u8]) -> Option<Instr>
     requires rd { IsRegister rd }
     requires rs1 { IsRegister rs1 }
-    ensures is { result ≡ with_immediate_lem name.now rd rs1 bytes.now }
+    ensures is { result ≡ with_immediate name.now rd rs1 bytes.now }
     ensures valid { IfSome result IsValid }
 {
     match immediate_of(name, rd, rs1, bytes) {
@@ -424,7 +424,7 @@ fn with_immediate(name: &[u8], rd: u32, rs1: u32, bytes: &[u8]) -> Option<Instr>
 pub(crate) fn of_three(name: &[u8], x: u32, y: u32, c: &[u8]) -> Option<Instr>
     requires x { IsRegister x }
     requires y { IsRegister y }
-    ensures is { result ≡ of_three_lem name.now x y c.now }
+    ensures is { result ≡ of_three name.now x y c.now }
     ensures valid { IfSome result IsValid }
 {
     if let Some(z) = register(c) {

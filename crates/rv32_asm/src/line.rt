@@ -2,7 +2,7 @@
 
 ghost use Rattle.std.specs.Prelude.{◌≡◌, IfSome};
 ghost use Rattle.rv32_asm.specs.Fields.{Gives};
-ghost use Rattle.rv32_asm.specs.Line.{target_view, statement_view, IsTarget, IsStatement, target_at as target_lem, of_one as of_one_lem, pair as pair_lem, triple as triple_lem, operation as operation_lem, name_and_rest as name_and_rest_lem, code_of as code_lem, label_of};
+ghost use Rattle.rv32_asm.specs.Line.{target_view, statement_view, IsTarget, IsStatement, target_at, of_one, pair, triple, operation, name_and_rest, code_of, label_of};
 
 use crate::fields::{cut, immediate, is, is_name, number, register, trim};
 use crate::forms::{Aim, branch, of_three, of_two};
@@ -25,7 +25,7 @@ pub(crate) enum Statement<'a> {
 
 #[tactic(auto, unfolding(crate::specs::Line::target_at))]
 fn target_at(bytes: &[u8]) -> Option<Target<'_>>
-    ensures is { Gives target_view result (target_lem bytes.now) }
+    ensures is { Gives target_view result (target_at bytes.now) }
     ensures sound { IfSome result IsTarget }
 {
     if is_name(bytes) {
@@ -42,7 +42,7 @@ fn target_at(bytes: &[u8]) -> Option<Target<'_>>
 // A line without a comma.
 #[tactic(auto, unfolding(crate::specs::Line::of_one, rv32_isa::specs::Table::IsValid))]
 fn of_one(name: &[u8], rest: &[u8]) -> Option<u32>
-    ensures { result ≡ of_one_lem name.now rest.now }
+    ensures { result ≡ of_one name.now rest.now }
 {
     if is(name, b"ecall") {
         if rest.is_empty() {
@@ -65,7 +65,7 @@ fn of_one(name: &[u8], rest: &[u8]) -> Option<u32>
 
 #[tactic(auto, unfolding(crate::specs::Line::pair))]
 fn pair<'a>(name: &[u8], a: &[u8], b: &'a [u8]) -> Option<Statement<'a>>
-    ensures is { Gives statement_view result (pair_lem name.now a.now b.now) }
+    ensures is { Gives statement_view result (pair name.now a.now b.now) }
     ensures sound { IfSome result IsStatement }
 {
     if is(name, b"jal") {
@@ -80,7 +80,7 @@ fn pair<'a>(name: &[u8], a: &[u8], b: &'a [u8]) -> Option<Statement<'a>>
 
 #[tactic(auto, unfolding(crate::specs::Line::triple))]
 fn triple<'a>(name: &[u8], a: &[u8], b: &[u8], c: &'a [u8]) -> Option<Statement<'a>>
-    ensures is { Gives statement_view result (triple_lem name.now a.now b.now c.now) }
+    ensures is { Gives statement_view result (triple name.now a.now b.now c.now) }
     ensures sound { IfSome result IsStatement }
 {
     let x = register(a)?;
@@ -99,7 +99,7 @@ fn triple<'a>(name: &[u8], a: &[u8], b: &[u8], c: &'a [u8]) -> Option<Statement<
 
 #[tactic(auto, unfolding(crate::specs::Line::operation))]
 fn operation<'a>(name: &[u8], rest: &'a [u8]) -> Option<Statement<'a>>
-    ensures is { Gives statement_view result (operation_lem name.now rest.now) }
+    ensures is { Gives statement_view result (operation name.now rest.now) }
     ensures sound { IfSome result IsStatement }
 {
     match cut(rest, b',') {
@@ -116,7 +116,7 @@ fn operation<'a>(name: &[u8], rest: &'a [u8]) -> Option<Statement<'a>>
 
 #[tactic(auto, unfolding(crate::specs::Line::name_and_rest))]
 fn name_and_rest(bytes: &[u8]) -> (&[u8], &[u8])
-    ensures { (result.0.now, result.1.now) ≡ name_and_rest_lem bytes.now }
+    ensures { (result.0.now, result.1.now) ≡ name_and_rest bytes.now }
 {
     match cut(bytes, b' ') {
         Some((name, rest)) => (name, trim(rest)),
@@ -127,7 +127,7 @@ fn name_and_rest(bytes: &[u8]) -> (&[u8], &[u8])
 /// What a line says that is no label.
 #[tactic(auto, unfolding(crate::specs::Line::code_of))]
 pub(crate) fn code_of(line: &[u8]) -> Option<Statement<'_>>
-    ensures is { Gives statement_view result (code_lem line.now) }
+    ensures is { Gives statement_view result (code_of line.now) }
     ensures sound { IfSome result IsStatement }
 {
     let (name, rest) = name_and_rest(trim(line));

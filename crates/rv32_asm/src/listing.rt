@@ -2,8 +2,8 @@
 
 ghost use Rattle.std.specs.Prelude.{◌≡◌, ◌++◌, ◌∷◌, [], ◌<◌, length, OnOk, IfOk, Ok, codes};
 ghost use Rattle.std.specs.Fmt.{decimal, signed_decimal};
-ghost use Rattle.rv32_asm.specs.Block.{block as block_lem};
-ghost use Rattle.rv32_asm.specs.Listing.{register_text, based_text, upper_text, memory_text, immediate_text, registers_text, ordering_text, atomic_text, instruction_text, glyph as glyph_lem, hexadecimal as hexadecimal_lem, line_text, ended, listing};
+ghost use Rattle.rv32_asm.specs.Block.{block};
+ghost use Rattle.rv32_asm.specs.Listing.{register_text, based_text, upper_text, memory_text, immediate_text, registers_text, ordering_text, atomic_text, instruction_text, glyph, hexadecimal, line_text, ended, listing};
 
 use crate::NoMemory;
 use itoa::Buffer;
@@ -364,7 +364,7 @@ fn instruction(out: &mut Vec<u8>, instr: Instr) -> Result<(), AllocError>
 
 fn glyph(digit: u32) -> u8
     requires { digit < 16 }
-    ensures { result ≡ glyph_lem digit }
+    ensures { result ≡ glyph digit }
 {
     if digit < 10 {
         b'0' + digit as u8
@@ -375,7 +375,7 @@ fn glyph(digit: u32) -> u8
 
 // Eight hexadecimal digits.
 fn hexadecimal(word: u32) -> [u8; 8]
-    ensures { result ≡ hexadecimal_lem word }
+    ensures { result ≡ hexadecimal word }
 {
     [
         glyph((word >> 28) % 16),
@@ -429,7 +429,7 @@ fn lines(alloc: Global, words: &[u32]) -> Result<Vec<u8>, NoMemory>
 pub fn list(alloc: Global, words: &[u32]) -> Result<Vec<u8>, NoMemory>
     ensures text { IfOk result (λ v. v.items ≡ listing words.now) }
     // The lines assemble to the words.
-    ensures again { IfOk result (λ v. block_lem (length words.now) v.items ≡ Ok words.now) }
+    ensures again { IfOk result (λ v. block (length words.now) v.items ≡ Ok words.now) }
 {
     lines(alloc, words)
 }

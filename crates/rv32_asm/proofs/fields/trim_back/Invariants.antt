@@ -1,9 +1,9 @@
 use Rattle.std.proofs.Common.{◌≡◌, length}
-use Rattle.rv32_asm.specs.Fields.{trim_back as trim_back_lem}
+use Rattle.rv32_asm.specs.Fields.{trim_back}
 use Rattle.rv32_asm.proofs.fields.trim_back.Given as goal
 
 abbrev pub invariant-loop-rest : goal.invariant-loop-rest
-invariant-loop-rest l = trim_back_lem l.rest ≡ trim_back_lem l.fn.bytes
+invariant-loop-rest l = trim_back l.rest ≡ trim_back l.fn.bytes
 
 abbrev pub decreases-loop-rest : goal.decreases-loop-rest
 decreases-loop-rest l = length l.rest

@@ -1,9 +1,9 @@
 use Rattle.std.proofs.Common.{◌≡◌, length}
-use Rattle.rv32_asm.specs.Fields.{trim_front as trim_front_lem}
+use Rattle.rv32_asm.specs.Fields.{trim_front}
 use Rattle.rv32_asm.proofs.fields.trim_front.Given as goal
 
 abbrev pub invariant-loop-rest : goal.invariant-loop-rest
-invariant-loop-rest l = trim_front_lem l.rest ≡ trim_front_lem l.fn.bytes
+invariant-loop-rest l = trim_front l.rest ≡ trim_front l.fn.bytes
 
 abbrev pub decreases-loop-rest : goal.decreases-loop-rest
 decreases-loop-rest l = length l.rest
