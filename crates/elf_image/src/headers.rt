@@ -3,7 +3,7 @@
 ghost use Rattle.std.specs.Prelude.{◌≡◌, ◌+◌, ◌*◌, ◌^◌, ◌<◌, ◌≤◌, IsTrue, IfOk, length};
 ghost use Rattle.std.specs.List.{list_all, list_any};
 ghost use Rattle.phys_groups.specs.Memory.{half_at, word_at};
-ghost use Rattle.elf_image.specs.Elf.{e_phoff, e_phnum, is_static as is_static_lem, lies_in as lies_in_lem, header_at, headers as headers_lem, is_load as is_load_lem, is_sized as is_sized_lem, are_sized as are_sized_lem, wants_loader as wants_loader_lem};
+ghost use Rattle.elf_image.specs.Elf.{e_phoff, e_phnum, is_static, lies_in, header_at, headers, is_load, is_sized, are_sized, wants_loader};
 
 use std::alloc::{AllocError, Global};
 
@@ -45,7 +45,7 @@ pub(crate) fn word(bytes: &[u8], at: usize) -> u32
 /// Whether the bytes begin with the header of a static executable for 32-bit RISC-V, whose program headers have
 /// 32 bytes each.
 pub(crate) fn is_static(bytes: &[u8]) -> bool
-    ensures { result ≡ is_static_lem bytes.now }
+    ensures { result ≡ is_static bytes.now }
 {
     bytes.len() >= FILE_HEADER_BYTES
         && bytes.starts_with(&IDENTIFICATION)
@@ -57,7 +57,7 @@ pub(crate) fn is_static(bytes: &[u8]) -> bool
 
 // Whether a range of bytes ends where the bytes do, or before. A range without a byte passes no end.
 fn lies_in(bytes: &[u8], from: u32, size: u32) -> bool
-    ensures { result ≡ lies_in_lem bytes.now from size }
+    ensures { result ≡ lies_in bytes.now from size }
 {
     size == 0 || u64::from(from) + u64::from(size) <= bytes.len() as u64
 }
@@ -90,7 +90,7 @@ fn header(bytes: &[u8], at: usize) -> ProgramHeader
 /// Whether all program headers lie in the bytes.
 pub(crate) fn has_table(bytes: &[u8]) -> bool
     requires { 52 ≤ length bytes.now }
-    ensures { result ≡ lies_in_lem bytes.now (e_phoff bytes.now) (32 * e_phnum bytes.now) }
+    ensures { result ≡ lies_in bytes.now (e_phoff bytes.now) (32 * e_phnum bytes.now) }
 {
     lies_in(bytes, word(bytes, 28), 32 * u32::from(half(bytes, 44)))
 }
@@ -99,8 +99,8 @@ pub(crate) fn has_table(bytes: &[u8]) -> bool
 #[tactic(auto, unfolding(crate::specs::Elf::first_headers))]
 pub(crate) fn headers(alloc: Global, bytes: &[u8]) -> Result<Vec<ProgramHeader>, AllocError>
     requires header { 52 ≤ length bytes.now }
-    requires table { IsTrue (lies_in_lem bytes.now (e_phoff bytes.now) (32 * e_phnum bytes.now)) }
-    ensures found { IfOk result (λ v. v.items ≡ headers_lem bytes.now) }
+    requires table { IsTrue (lies_in bytes.now (e_phoff bytes.now) (32 * e_phnum bytes.now)) }
+    ensures found { IfOk result (λ v. v.items ≡ headers bytes.now) }
     ensures few { IfOk result (λ v. length v.items < 2 ^ 16) }
 {
     let from = word(bytes, 28) as usize;
@@ -114,14 +114,14 @@ pub(crate) fn headers(alloc: Global, bytes: &[u8]) -> Result<Vec<ProgramHeader>,
 
 /// Whether the header is of a part that is loaded.
 pub(crate) fn is_load(header: &ProgramHeader) -> bool
-    ensures { result ≡ is_load_lem header.now }
+    ensures { result ≡ is_load header.now }
 {
     header.p_type == PT_LOAD
 }
 
 // Whether what is loaded lies in the file, is no longer there than in memory, and ends with the address space.
 fn is_sized(bytes: &[u8], header: &ProgramHeader) -> bool
-    ensures { result ≡ is_sized_lem bytes.now header.now }
+    ensures { result ≡ is_sized bytes.now header.now }
 {
     lies_in(bytes, header.p_offset, header.p_filesz)
         && header.p_filesz <= header.p_memsz
@@ -130,7 +130,7 @@ fn is_sized(bytes: &[u8], header: &ProgramHeader) -> bool
 
 /// Whether each header of a part that is loaded has ranges that pass no end.
 pub(crate) fn are_sized(bytes: &[u8], headers: &[ProgramHeader]) -> bool
-    ensures { result ≡ are_sized_lem bytes.now headers.now }
+    ensures { result ≡ are_sized bytes.now headers.now }
 {
     headers
         .iter()
@@ -138,14 +138,14 @@ pub(crate) fn are_sized(bytes: &[u8], headers: &[ProgramHeader]) -> bool
 }
 
 fn wants_loader(header: &ProgramHeader) -> bool
-    ensures { result ≡ wants_loader_lem header.now }
+    ensures { result ≡ wants_loader header.now }
 {
     header.p_type == PT_DYNAMIC || header.p_type == PT_INTERP
 }
 
 /// Whether some header asks for a loader at run time.
 pub(crate) fn want_loader(headers: &[ProgramHeader]) -> bool
-    ensures { result ≡ list_any wants_loader_lem headers.now }
+    ensures { result ≡ list_any wants_loader headers.now }
 {
     headers.iter().any(wants_loader)
 }

@@ -2,7 +2,7 @@
 
 ghost use Rattle.std.specs.Prelude.{◌≡◌, ◌==◌, ◌<◌, ◌≤◌, ◌^◌, IfOk, IfErr, length, slice_get};
 ghost use Rattle.std.specs.List.{list_all, sum_by, AllByRecursion};
-ghost use Rattle.elf_image.specs.Elf.{Executable, IsExecutable, IsFault, LiesIn, is_part as is_part_lem, part_of as part_of_lem, parts_of, allows_something as allows_something_lem, are_loadable as are_loadable_lem, flags_of as flags_of_lem};
+ghost use Rattle.elf_image.specs.Elf.{Executable, IsExecutable, IsFault, LiesIn, is_part, part_of, parts_of, allows_something, are_loadable, flags_of};
 
 use crate::fault::ElfFault;
 use crate::headers::{
@@ -76,7 +76,7 @@ impl Image {
 
 // The lowest three bits say what a part allows: run, write and read.
 fn flags_of(bits: u32) -> Flags
-    ensures { result ≡ flags_of_lem bits }
+    ensures { result ≡ flags_of bits }
 {
     Flags {
         r: bits / 4 % 2 == 1,
@@ -87,13 +87,13 @@ fn flags_of(bits: u32) -> Flags
 }
 
 fn is_part(header: &ProgramHeader) -> bool
-    ensures { result ≡ is_part_lem header.now }
+    ensures { result ≡ is_part header.now }
 {
     is_load(header) && header.p_memsz > 0
 }
 
 fn part_of(header: &ProgramHeader) -> Part
-    ensures { result ≡ part_of_lem header.now }
+    ensures { result ≡ part_of header.now }
 {
     Part {
         vaddr: header.p_vaddr,
@@ -124,13 +124,13 @@ fn total(parts: &[Part]) -> u64
 }
 
 fn allows_something(part: &Part) -> bool
-    ensures { result ≡ allows_something_lem part.now }
+    ensures { result ≡ allows_something part.now }
 {
     part.flags.r || part.flags.w || part.flags.x
 }
 
 fn all_allow_something(parts: &[Part]) -> bool
-    ensures { result ≡ list_all allows_something_lem parts.now }
+    ensures { result ≡ list_all allows_something parts.now }
 {
     parts.iter().all(allows_something)
 }
@@ -138,7 +138,7 @@ fn all_allow_something(parts: &[Part]) -> bool
 // Whether each part allows something, and all of them fit in memory.
 fn are_loadable(parts: &[Part]) -> bool
     requires { length parts.now < 2 ^ 16 }
-    ensures { result ≡ are_loadable_lem parts.now }
+    ensures { result ≡ are_loadable parts.now }
 {
     all_allow_something(parts) && total(parts) <= MOST_BYTES
 }
