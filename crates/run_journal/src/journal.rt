@@ -1,7 +1,7 @@
 //! A list of entries that only grows.
 
 ghost use Rattle.std.specs.Prelude.{◌≡◌, ◌<◌, ◌+◌, ◌^◌, ◌∷◌, ◌++◌, [], ◌≤◌, ◌↔◌, IsTrue, IsOk, OnOk, OnErr, IfOk, length, slice_get};
-ghost use Rattle.run_journal.specs.Entries.{erase as erase_lem};
+ghost use Rattle.run_journal.specs.Entries.{erase};
 
 use crate::entries::{Entry, push_events};
 use cache_ident::NoMemory;
@@ -100,7 +100,7 @@ impl Journal {
     /// The events that the machine with unlimited tables sees: what is left once the caches' own entries are taken
     /// out. It costs a pass over the entries, and time and memory for each step.
     pub fn erase(&self) -> Result<Vec<Event>, NoMemory>
-        ensures { IfOk result (λ events. events.items ≡ erase_lem self.now.entries) }
+        ensures { IfOk result (λ events. events.items ≡ erase self.now.entries) }
     {
         let mut events = Vec::new(self.alloc);
         for entry in &self.entries {

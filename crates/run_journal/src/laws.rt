@@ -15,7 +15,7 @@ ghost use Rattle.flat_state.specs.Events.{after_events, flat};
 ghost use Rattle.cache_ident.specs.Residents.{Resident};
 ghost use Rattle.run_journal.specs.declared.entries.Entry.{Entry as EntryLem};
 ghost use Rattle.run_journal.specs.declared.entries.Entry.TheVariants as entries;
-ghost use Rattle.run_journal.specs.Entries.{erase as erase_lem, steps_in};
+ghost use Rattle.run_journal.specs.Entries.{erase, steps_in};
 ghost use Rattle.run_journal.specs.Told.{residents, residents_from, is_load, is_seal, Anything, told, told_from};
 ghost use Rattle.run_journal.specs.Standing.{StandsAs, standing_of, standing_from};
 ghost use Rattle.run_journal.specs.Groups.{node_of, ArePairsOf, departures};
@@ -24,8 +24,8 @@ ghost use Rattle.run_journal.specs.Points.{KeepsAll, opening};
 
 /// What a longer journal tells is what the entries behind tell beyond the shorter one.
 pub fn a_longer_journal_tells_more()
-    ensures events { (j es : List EntryLem) → erase_lem (j ++ es) ≡ erase_lem j ++ erase_lem es }
-    ensures state { (j es : List EntryLem) → flat (erase_lem (j ++ es)) ≡ after_events (flat (erase_lem j)) (erase_lem es) }
+    ensures events { (j es : List EntryLem) → erase (j ++ es) ≡ erase j ++ erase es }
+    ensures state { (j es : List EntryLem) → flat (erase (j ++ es)) ≡ after_events (flat (erase j)) (erase es) }
     ensures steps { (j es : List EntryLem) → steps_in (j ++ es) ≡ steps_in j + steps_in es }
     ensures residents { (j es : List EntryLem) → residents (j ++ es) ≡ residents_from (residents j) es }
     ensures standing { (j es : List EntryLem) (ident : IdentLem) → standing_of (j ++ es) ident ≡ standing_from (length j) ident (standing_of j ident) es }
@@ -34,7 +34,7 @@ pub fn a_longer_journal_tells_more()
 
 /// What a journal tells, entry by entry, is what is said of it as a list.
 pub fn what_is_told_is_so()
-    ensures state { (j : List EntryLem) → (told j).state ≡ flat (erase_lem j) }
+    ensures state { (j : List EntryLem) → (told j).state ≡ flat (erase j) }
     ensures residents { (j : List EntryLem) → (told j).residents ≡ residents j }
     ensures loads { (j : List EntryLem) → (told j).loads ≡ count_by is_load j }
     ensures sealed { (j : List EntryLem) → (told j).sealed ≡ list_any is_seal j }
@@ -94,7 +94,7 @@ pub fn what_is_resident_is_whole()
     ensures idents { (j : List EntryLem) (a b : Resident) → IsLegal j → Contains (residents j) a → Contains (residents j) b → a.ident ≡ b.ident → a ≡ b }
     ensures names { (j : List EntryLem) (a b : Resident) → IsLegal j → Contains (residents j) a → Contains (residents j) b → a.name ≡ b.name → a ≡ b }
     ensures slots { (j : List EntryLem) (a b : Resident) → IsLegal j → Contains (residents j) a → Contains (residents j) b → a.ident.kind ≡ b.ident.kind → a.ident.slot ≡ b.ident.slot → a ≡ b }
-    ensures good { (j : List EntryLem) (r : Resident) → IsLegal j → Contains (residents j) r → StaysGood (flat (erase_lem j)) (residents j) r }
+    ensures good { (j : List EntryLem) (r : Resident) → IsLegal j → Contains (residents j) r → StaysGood (flat (erase j)) (residents j) r }
 {}
 
 /// A journal is legal, and begins with the declarations and the seal, exactly where each place keeps each rule by its
