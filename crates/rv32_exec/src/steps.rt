@@ -27,7 +27,7 @@ pub enum Stepped {
 /// Takes one step.
 ///
 /// A few comparisons and the accesses of the instruction; no memory.
-#[inline(always)]
+#[inline]
 pub fn step<S: Space>(context: &mut Context, space: &mut S) -> Stepped
     requires { context.old.pc % 4 ≡ 0 }
     ensures aligned { context.new.pc % 4 ≡ 0 }
@@ -39,7 +39,7 @@ pub fn step<S: Space>(context: &mut Context, space: &mut S) -> Stepped
 }
 
 /// Fetches the word at pc, and does the instruction that it is.
-#[inline(always)]
+#[inline]
 #[tactic(auto, using(crate::proofs::Translations::translations), unfolding(crate::specs::Steps::after_step))]
 fn fetch<S: Space>(context: &mut Context, space: &mut S) -> Stepped
     requires { context.old.pc % 4 ≡ 0 }
