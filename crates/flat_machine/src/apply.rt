@@ -15,7 +15,7 @@ use phys_groups::{Flags, Memory, Rights, Row};
 use rv32_exec::{Context, Output, Status};
 
 // The registers of a new thread.
-fn new_context(pc: u32, a0: u32, a1: u32) -> Context
+pub(crate) fn new_context(pc: u32, a0: u32, a1: u32) -> Context
     ensures { result ≡ record { regs = new_registers a0 a1; pc = pc } }
 {
     let mut regs = [0; 32];

@@ -53,7 +53,7 @@ impl Changes for Flat {
 }
 
 // Puts the low bytes of a number at a place.
-fn store_in(memory: &mut Memory, at: u32, width: Width, value: u32)
+pub(crate) fn store_in(memory: &mut Memory, at: u32, width: Width, value: u32)
     requires within { at + size_of width ≤ length memory.old }
     requires aligned { at % size_of width ≡ 0 }
     ensures { memory.new ≡ put_bytes (size_of width) memory.old at value }
@@ -66,7 +66,7 @@ fn store_in(memory: &mut Memory, at: u32, width: Width, value: u32)
 }
 
 // Appends an address to the thread's queue, unless the thread has ended.
-fn give_to(thread: &mut FlatThread, va: u32)
+pub(crate) fn give_to(thread: &mut FlatThread, va: u32)
     requires { is_ended thread.old.status ≡ false → length thread.old.queue.items < 64 }
     ensures { thread.new ≡ with_address va thread.old }
 {
@@ -74,14 +74,14 @@ fn give_to(thread: &mut FlatThread, va: u32)
 }
 
 // The thread goes on with an answer in a0.
-fn answer_to(thread: &mut FlatThread, value: u32)
+pub(crate) fn answer_to(thread: &mut FlatThread, value: u32)
     ensures { thread.new ≡ answered thread.old value }
 {
     flat_thread::answer(&mut thread.context, &mut thread.status, value);
 }
 
 // Does what a call does to its thread alone, and answers what the call brings about.
-fn carry_out_of(thread: &mut FlatThread) -> Result<Effect, NoMemory>
+pub(crate) fn carry_out_of(thread: &mut FlatThread) -> Result<Effect, NoMemory>
     requires { is_completable thread.old ≡ true }
     ensures effect { IfOk result (λ effect. effect ≡ (call_of thread.old).effect) }
     ensures ok { OnOk result (thread.new ≡ own_part thread.old) }

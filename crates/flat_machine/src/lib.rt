@@ -8,7 +8,11 @@ mod changes;
 mod flat;
 #[cfg(test)]
 mod plain;
+#[cfg(test)]
+mod plain_changes;
 mod records;
+#[cfg(test)]
+mod tests;
 
 pub use cache_ident::NoMemory;
 pub use flat::Flat;

@@ -1,34 +1,31 @@
-//! The machine's tables in another form, and the rules over both.
-//!
-//! Here rows stand in a plain vector and are sought one after another. Whatever a rule answers over these tables it must
-//! answer over `Flat`'s.
+//! The machine's tables in another form, for tests: rows stand in a plain vector and are sought one after another.
+//! Whatever a rule does over these tables it must do over `Flat`'s.
 
-ghost use Rattle.std.specs.Prelude.{◌≡◌, ◌≤◌, IfOk, filter, count_by};
+ghost use Rattle.std.specs.Prelude.{◌≡◌, ◌≤◌, filter, count_by};
 ghost use Rattle.std.specs.Option.{option_copied};
 ghost use Rattle.phys_groups.specs.Translation.{is_row_of, row_of};
 ghost use Rattle.signal_pages.specs.Signals.{is_signal_row_of};
+ghost use Rattle.flat_state.specs.State.{nothing_declared};
 
-use crate::NoMemory;
-use crate::flat::Flat;
 use arrayvec::ArrayVec;
-use cache_ident::{Caps, Frame, KernelNo, Name, SpaceNo, ThreadNo, Vpn};
-use flat_rules::{Records, admit, is_fit, next_step, parents, settled};
-use flat_state::{Decl, Event, FlatKernel, FlatThread, Machine};
-use phys_groups::{Flags, Memory, Rights, Row};
+use cache_ident::{Caps, Frame, KernelNo, SpaceNo, ThreadNo, Vpn};
+use flat_rules::Records;
+use flat_state::{FlatKernel, FlatThread, Machine};
+use phys_groups::{Memory, Rights, Row};
 use rv32_exec::{Context, Status};
 use std::alloc::Global;
 use std::marker::Model;
-use std::test::Fail;
 
 #[derive(Drop)]
-struct Plain {
-    machine: Option<Machine>,
-    memory: Memory,
-    kernels: Vec<FlatKernel>,
-    granted: Caps,
-    spaces: Vec<KernelNo>,
-    rows: Vec<Row>,
-    threads: Vec<FlatThread>,
+pub(crate) struct Plain {
+    pub(crate) alloc: Global,
+    pub(crate) machine: Option<Machine>,
+    pub(crate) memory: Memory,
+    pub(crate) kernels: Vec<FlatKernel>,
+    pub(crate) granted: Caps,
+    pub(crate) spaces: Vec<KernelNo>,
+    pub(crate) rows: Vec<Row>,
+    pub(crate) threads: Vec<FlatThread>,
 }
 
 impl Model for Plain {
@@ -44,43 +41,23 @@ impl Model for Plain {
 }
 
 impl Plain {
-    // The same machine, in these tables.
-    fn of(alloc: Global, flat: Flat) -> Result<Plain, NoMemory>
-        ensures { IfOk result (λ plain. plain ≡ flat) }
+    pub(crate) fn new(alloc: Global) -> Plain
+        ensures { result ≡ nothing_declared }
     {
-        let rows = rows_of(alloc, &flat)?;
-        let Flat {
-            machine,
-            memory,
-            kernels,
-            granted,
-            spaces,
-            threads,
-            ..
-        } = flat;
-        Ok(Plain {
-            machine,
-            memory,
-            kernels,
-            granted,
-            spaces,
-            rows,
-            threads,
-        })
+        Plain {
+            alloc,
+            machine: None,
+            memory: Memory::empty(alloc),
+            kernels: Vec::new(alloc),
+            granted: Caps::default(),
+            spaces: Vec::new(alloc),
+            rows: Vec::new(alloc),
+            threads: Vec::new(alloc),
+        }
     }
 }
 
-fn rows_of(alloc: Global, flat: &Flat) -> Result<Vec<Row>, NoMemory>
-    ensures { IfOk result (λ rows. rows.items ≡ flat.now.rows) }
-{
-    let mut rows = Vec::new(alloc);
-    for row in flat.rows() {
-        rows.push(*row)?;
-    }
-    Ok(rows)
-}
-
-fn is_row(row: &Row, space: SpaceNo, vpn: Vpn) -> bool
+pub(crate) fn is_row(row: &Row, space: SpaceNo, vpn: Vpn) -> bool
     ensures { result ≡ is_row_of space vpn.0 row.now }
 {
     row.space == space && row.vpn == vpn
@@ -93,7 +70,7 @@ fn is_signal_row(row: &Row, frame: Frame) -> bool
 }
 
 #[tactic(auto, using(crate::proofs::PlainLaws::sought))]
-fn row_in(rows: &[Row], space: SpaceNo, vpn: Vpn) -> Option<&Row>
+pub(crate) fn row_in(rows: &[Row], space: SpaceNo, vpn: Vpn) -> Option<&Row>
     ensures { option_copied result ≡ row_of rows.now space vpn.0 }
 {
     for row in rows {
@@ -193,135 +170,4 @@ impl Records for Plain {
     fn queued_of(thread: &FlatThread) -> u32 {
         thread.queue.len() as u32
     }
-}
-
-// A row of space 0, with the frame of its page.
-fn map(vpn: u32, flags: Flags, receiver: Option<ThreadNo>) -> Decl {
-    Decl::Map {
-        space: SpaceNo(0),
-        vpn: Vpn(vpn),
-        frame: Frame(vpn % 2),
-        flags,
-        receiver,
-    }
-}
-
-const NONE: Flags = Flags {
-    r: false,
-    w: false,
-    x: false,
-    m: false,
-};
-
-// Two threads that store a word at 0x103c, where the second receives, and then call.
-fn declared(alloc: Global) -> Result<Flat, NoMemory> {
-    let machine = Machine {
-        groups: 1,
-        caps: Caps {
-            kernels: 16,
-            spaces: 64,
-            threads: 256,
-            mappings: 65_536,
-        },
-    };
-    let limits = Caps {
-        kernels: 1,
-        ..Caps::default()
-    };
-    let thread = |no: u32| Decl::Thread {
-        no: ThreadNo(no),
-        space: SpaceNo(0),
-        pc: 0,
-        priority: 0,
-        a0: 0x103c,
-        a1: 0,
-    };
-    let word = |offset: u32, value: u32| Decl::Word {
-        frame: Frame(0),
-        offset,
-        value,
-    };
-    let decls = [
-        Decl::Machine { machine },
-        Decl::Kernel {
-            no: KernelNo(0),
-            limits,
-        },
-        Decl::Right {
-            kernel: KernelNo(0),
-            group: 0,
-            read: true,
-            write: true,
-        },
-        Decl::Space {
-            no: SpaceNo(0),
-            kernel: KernelNo(0),
-        },
-        thread(0),
-        thread(1),
-        map(0, Flags { x: true, ..NONE }, None),
-        map(
-            1,
-            Flags {
-                w: true,
-                m: true,
-                ..NONE
-            },
-            None,
-        ),
-        map(3, Flags { r: true, ..NONE }, Some(ThreadNo(1))),
-        word(0, 0x00b5_2023), // sw a1, 0(a0)
-        word(4, 0x0000_0073), // ecall
-    ];
-    let mut flat = Flat::new(alloc);
-    for decl in decls {
-        flat.apply(&Event::Declare(decl))?;
-    }
-    Ok(flat)
-}
-
-// The machine after so many steps of each thread.
-fn stepped(alloc: Global, steps: u32) -> Result<Flat, NoMemory> {
-    let mut flat = declared(alloc)?;
-    for _ in 0..steps {
-        flat.apply(&Event::Step(ThreadNo(0)))?;
-        flat.apply(&Event::Step(ThreadNo(1)))?;
-    }
-    Ok(flat)
-}
-
-#[test]
-fn rules_answer_alike(rt: HostRuntime) -> Result<(), Fail> {
-    for steps in 0..4 {
-        let flat = stepped(rt.alloc(), steps)?;
-        let plain = Plain::of(rt.alloc(), stepped(rt.alloc(), steps)?)?;
-        for no in 0..3 {
-            let no = ThreadNo(no);
-            assert_eq!(rt;
-                next_step(&plain, no),
-                flat.next_step(no),
-                "after {steps} steps"
-            );
-            assert_eq!(rt;
-                parents(&plain, Name::Thread(no)).as_slice(),
-                flat.parents(Name::Thread(no)).as_slice()
-            );
-        }
-        for vpn in 0..4 {
-            let row = Name::Mapping(SpaceNo(0), Vpn(vpn));
-            let again = map(vpn, Flags { r: true, ..NONE }, Some(ThreadNo(vpn)));
-            assert_eq!(rt;
-                parents(&plain, row).as_slice(),
-                flat.parents(row).as_slice()
-            );
-            assert_eq!(rt; is_fit(&plain, SpaceNo(0), Vpn(vpn)), vpn != 2);
-            assert_eq!(rt; admit(&plain, &again), flat.admit(&again), "of page {vpn}");
-        }
-        assert_eq!(rt;
-            settled(&plain, 4, 4),
-            flat.settled(4, 4),
-            "after {steps} steps"
-        );
-    }
-    Ok(())
 }
