@@ -7,6 +7,8 @@ mod apply;
 mod changes;
 mod flat;
 #[cfg(test)]
+mod mmu_tests;
+#[cfg(test)]
 mod plain;
 #[cfg(test)]
 mod plain_changes;
