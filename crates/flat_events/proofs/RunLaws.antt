@@ -1,5 +1,5 @@
 -- What one step in the pages of a space leaves of the state.
-use Rattle.std.proofs.Common.{◌≡◌, ℕ, ◌*◌, ◌%◌, ◌<◌, Bool, true, false, ◌&&◌, cond, List, length, map, Option, Some, None, refl, sym, ◌∙◌, ap, ap₂, subst, inl, inr, arith}
+use Rattle.std.proofs.Common.{◌≡◌, ℕ, ◌*◌, ◌%◌, ◌<◌, Bool, true, false, ◌&&◌, cond, List, length, map, Option, Some, None, refl, sym, ◌∙◌, ap, ap₂, inl, inr, arith}
 use Rattle.std.specs.List.{slice_get, slice_set}
 use Rattle.std.specs.Option.{IfSome}
 use Rattle.std.proofs.lemmas.Bool.{and_parts, cases_Bool}

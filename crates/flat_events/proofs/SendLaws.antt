@@ -1,17 +1,16 @@
 -- How receivers get their addresses one after another.
-use Rattle.std.proofs.Common.{◌≡◌, ℕ, zero, suc, ◌+◌, ◌<◌, false, List, [], ◌∷◌, ◌++◌, length, map, drop, Option, Some, None, refl, sym, ◌∙◌, ap, subst, inl, inr, arith, length-append}
+use Rattle.std.proofs.Common.{◌≡◌, ℕ, zero, suc, ◌+◌, ◌<◌, false, List, [], ◌∷◌, length, map, drop, Option, Some, None, refl, sym, ◌∙◌, ap, subst, arith}
 use Rattle.std.specs.List.{slice_get}
-use Rattle.std.proofs.lemmas.Bool.{cases_Bool}
 use Rattle.std.proofs.lemmas.List.{length-set}
 use Rattle.cache_ident.specs.declared.names.KernelNo.{KernelNo}
 use Rattle.cache_ident.specs.declared.names.ThreadNo.{ThreadNo}
 use Rattle.cache_ident.specs.declared.names.Vpn.{Vpn}
 use Rattle.signal_pages.specs.Signals.{address_of}
 use Rattle.flat_state.specs.declared.records.FlatThread.{FlatThread}
-use Rattle.flat_state.specs.State.{FlatState, is_ended, with_thread}
+use Rattle.flat_state.specs.State.{is_ended}
 use Rattle.flat_state.specs.Signals.{HasRoom, sent, sent_to, with_address}
-use Rattle.flat_state.specs.WellFormed.{AreThreads, IsWellFormed}
-use Rattle.flat_state.proofs.FormedParts.{IsRoomFor, room_from, room_here, sent_one, thread_formed, times_in-here}
+use Rattle.flat_state.specs.WellFormed.{AreThreads}
+use Rattle.flat_state.proofs.FormedParts.{IsRoomFor, room_from, room_here, sent_one, times_in-here}
 
 -- the first i receivers have their addresses, and the others have room for theirs
 pub record IsSending (spaces : List KernelNo) (offset : ℕ) (before now : List FlatThread) (receivers : List (ThreadNo × Vpn)) (i : ℕ) : Type 0 where

@@ -1,6 +1,6 @@
 //! What an event makes of the machine.
 
-ghost use Rattle.std.specs.Prelude.{◌≡◌, None, OnOk, OnErr, unwrap_or};
+ghost use Rattle.std.specs.Prelude.{◌≡◌, None, OnOk, OnErr};
 ghost use Rattle.flat_state.specs.declared.events.Decl.TheVariants as decls;
 ghost use Rattle.flat_state.specs.Declaration.{broken_rule, declared, new_registers};
 ghost use Rattle.flat_state.specs.Events.{applied};

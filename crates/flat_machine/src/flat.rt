@@ -38,8 +38,6 @@ pub struct Flat {
 impl Model for Flat {
     ghost use Rattle.std.specs.Prelude.{◌≡◌};
     ghost use Rattle.flat_state.specs.State.{FlatState};
-    ghost use Rattle.flat_state.specs.Declaration.{locks_granted};
-    ghost use Rattle.flat_state.specs.WellFormed.{IsWellFormed};
     ghost use Rattle.flat_machine.specs.Readings.{IsSound};
 
     ghost Value = { FlatState };

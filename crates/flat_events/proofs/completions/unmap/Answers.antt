@@ -1,7 +1,6 @@
 use Rattle.std.proofs.Common.{◌≡◌, false, sym, ◌∙◌}
 use Rattle.std.specs.Prelude.{is_some}
 use Rattle.phys_groups.specs.Translation.{row_of}
-use Rattle.flat_state.specs.State.{FlatState}
 use Rattle.flat_events.proofs.CallParts.{unmapped_none}
 use Rattle.flat_events.proofs.completions.unmap.Goals as goal
 
