@@ -1,6 +1,6 @@
 //! The pairs of parent and child, in order of parent.
 
-ghost use Rattle.std.specs.Prelude.{◌≡◌, ◌≢◌, ◌+◌, ◌*◌, ◌<◌, ◌≤◌, length, [], ◌∷◌, remove, Contains, IfOk, IfSome, IfNone};
+ghost use Rattle.std.specs.Prelude.{◌≡◌, ◌*◌, ◌<◌, ◌≤◌, length, [], ◌∷◌, remove, Contains, IfOk, IfSome, IfNone};
 ghost use Rattle.sorted_list.specs.Sorted.{IsAdded, IsTakenOut};
 ghost use Rattle.depend_lists.specs.Pairs.{children_of, count_of, parent_count, place_of, without, HasOneClass, IsAloneAt, IsChild, IsChildPair, IsProper, IsWithin};
 
