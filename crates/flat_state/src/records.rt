@@ -26,42 +26,6 @@ pub struct FlatThread {
     pub output: Output,
 }
 
-impl FlatThread {
-    ghost use Rattle.std.specs.Prelude.{◌≡◌};
-    ghost use Rattle.flat_state.specs.State.{is_ended as is_ended_def, is_ready as is_ready_def};
-    ghost use Rattle.flat_state.specs.Call.{is_completable as is_completable_def, waits as waits_def};
-
-    /// Whether the thread takes steps.
-    pub fn is_ready(&self) -> bool
-        ensures { result ≡ is_ready_def self.now.status }
-    {
-        matches!(self.status, Status::Ready)
-    }
-
-    /// Whether the thread has ended.
-    pub fn is_ended(&self) -> bool
-        ensures { result ≡ is_ended_def self.now.status }
-    {
-        matches!(self.status, Status::Ended(_))
-    }
-
-    /// Whether the thread waits for a signal: it is in call 3, and its queue is empty.
-    pub fn waits(&self) -> bool
-        ensures { result ≡ waits_def self.now }
-    {
-        matches!(self.status, Status::Trapped)
-            && self.context.regs[17] == 3
-            && self.queue.is_empty()
-    }
-
-    /// Whether the call that the thread is in can be completed.
-    pub fn is_completable(&self) -> bool
-        ensures { result ≡ is_completable_def self.now }
-    {
-        matches!(self.status, Status::Trapped) && !self.waits()
-    }
-}
-
 /// Whether a run is over.
 #[derive(Clone, Copy, PartialEq, Eq, Debug)]
 pub enum Settled {
@@ -100,56 +64,4 @@ pub struct Signal {
 pub struct DataAccess {
     pub access: Access,
     pub va: u32,
-}
-
-#[cfg(test)]
-mod tests {
-    use super::*;
-    use rv32_exec::Reason;
-    use std::alloc::Global;
-
-    // A thread that does that, with this number in a7 and maybe a signal in its queue.
-    fn thread(alloc: Global, status: Status, call: u32, signalled: bool) -> FlatThread {
-        let mut context = Context {
-            regs: [0; 32],
-            pc: 0,
-        };
-        context.regs[17] = call;
-        let mut queue = ArrayVec::new();
-        if signalled {
-            queue.push(60);
-        }
-        FlatThread {
-            no: ThreadNo(0),
-            space: SpaceNo(0),
-            context,
-            status,
-            priority: 0,
-            queue,
-            output: Output::new(alloc),
-        }
-    }
-
-    #[test]
-    fn call_3_alone_waits(rt: HostRuntime) {
-        let ended = Status::Ended(Reason::Breakpoint);
-        let cases = [
-            (Status::Trapped, 3, false, true, false),
-            (Status::Trapped, 3, true, false, true),
-            (Status::Trapped, 2, false, false, true),
-            (Status::Ready, 3, false, false, false),
-            (ended, 3, false, false, false),
-        ];
-        for (status, call, signalled, waits, completable) in cases {
-            let thread = thread(rt.alloc(), status, call, signalled);
-            assert_eq!(rt; thread.waits(), waits, "{status:?} in call {call}");
-            assert_eq!(rt;
-                thread.is_completable(),
-                completable,
-                "{status:?} in call {call}"
-            );
-            assert_eq!(rt; thread.is_ready(), status == Status::Ready);
-            assert_eq!(rt; thread.is_ended(), status == ended);
-        }
-    }
 }

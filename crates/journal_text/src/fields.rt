@@ -2,7 +2,7 @@
 //! stands there in its one form is left to the comparison with the line of the entry that was read.
 
 ghost use Rattle.std.specs.Prelude.{◌≡◌, ◌<◌, ◌^◌, ◌*◌, ◌+◌};
-ghost use Rattle.journal_text.specs.Reading.{Gives, after, number_from as number_from_lem, longer as longer_lem, number_at, small_at, field_at, caps_at, mark_at, rights_at, flags_at, receiver_at, word_at, kind_at, ident_at, mapping_at, name_at, cause_at, cpu_at};
+ghost use Rattle.journal_text.specs.Reading.{Gives, after, number_from, longer, number_at, small_at, field_at, caps_at, mark_at, rights_at, flags_at, receiver_at, word_at, kind_at, ident_at, mapping_at, name_at, cause_at, cpu_at};
 
 use cache_ident::{Caps, Cause, Ident, KernelNo, Kind, Name, SpaceNo, ThreadNo, Vpn};
 use phys_groups::Flags;
@@ -32,7 +32,7 @@ pub(crate) fn number(bytes: &[u8]) -> Option<(u64, &[u8])>
 // The number with a digit behind it, where it has 64 bits.
 fn longer(number: u64, digit: u8) -> Option<u64>
     requires { digit < 10 }
-    ensures { Gives (λ x. x) result (longer_lem number digit) }
+    ensures { Gives (λ x. x) result (longer number digit) }
 {
     number.checked_mul(10)?.checked_add(u64::from(digit))
 }

@@ -1,7 +1,7 @@
 //! The entry whose line stands at the front of the bytes.
 
 ghost use Rattle.std.specs.Prelude.{◌≡◌};
-ghost use Rattle.journal_text.specs.Reading.{Gives, machine_at, kernel_at, right_at, space_at, thread_at, map_at, word_decl_at, decl_at, loaded_at, back_at, lock_at, ran_at, thread_line_at, other_at, entry_at as entry_at_lem};
+ghost use Rattle.journal_text.specs.Reading.{Gives, machine_at, kernel_at, right_at, space_at, thread_at, map_at, word_decl_at, decl_at, loaded_at, back_at, lock_at, ran_at, thread_line_at, other_at, entry_at};
 
 use crate::fields::{caps, cause, cpu, field, flags, ident, name, receiver, rights, skip, word};
 use cache_ident::{Frame, Ident, KernelNo, SpaceNo, ThreadNo, Vpn};
@@ -228,7 +228,7 @@ fn other(bytes: &[u8]) -> Option<Entry>
 /// The one entry whose line may stand at the front of the bytes.
 #[tactic(auto, unfolding(crate::specs::Reading::entry_at))]
 pub(crate) fn entry_at(bytes: &[u8]) -> Option<Entry>
-    ensures { Gives (λ x. x) result (entry_at_lem bytes.now) }
+    ensures { Gives (λ x. x) result (entry_at bytes.now) }
 {
     if let Some(entry) = other(bytes) {
         return Some(entry);

@@ -3,8 +3,8 @@
 ghost use Rattle.std.specs.Prelude.{◌≡◌, ◌++◌, List, IfOk, IfErr, MatchResult, MatchOption, Some};
 ghost use Rattle.run_journal.specs.declared.entries.Entry.{Entry as EntryLem};
 ghost use Rattle.journal_text.specs.declared.fault.JournalFault.TheVariants.{NoMemory as NoMemoryLem};
-ghost use Rattle.journal_text.specs.Lines.{line as line_lem, journal_text};
-ghost use Rattle.journal_text.specs.Reading.{entry_at as entry_at_lem};
+ghost use Rattle.journal_text.specs.Lines.{line, journal_text};
+ghost use Rattle.journal_text.specs.Reading.{entry_at};
 ghost use Rattle.journal_text.specs.Ranges.{AreInRange, BeginsWithNoLine, IsFault};
 
 use crate::fault::JournalFault;
@@ -49,7 +49,7 @@ struct EntryLine<'a> {
 
 // The line at the front, where it is that of an entry. `scratch` is room for it.
 fn line_at<'a>(scratch: &mut Vec<u8>, bytes: &'a [u8]) -> Result<Option<EntryLine<'a>>, NoMemory>
-    ensures { IfOk result (λ found. MatchOption found (BeginsWithNoLine bytes.now) (λ line. (bytes.now ≡ line_lem line.entry ++ line.rest.now) × (entry_at_lem bytes.now ≡ Some line.entry))) }
+    ensures { IfOk result (λ found. MatchOption found (BeginsWithNoLine bytes.now) (λ first. (bytes.now ≡ line first.entry ++ first.rest.now) × (entry_at bytes.now ≡ Some first.entry))) }
 {
     let Some(entry) = entry_at(bytes) else {
         return Ok(None);

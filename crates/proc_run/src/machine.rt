@@ -12,7 +12,7 @@ ghost use Rattle.proc_run.specs.declared.outcome.RunStatus.{RunStatus as RunStat
 ghost use Rattle.proc_run.specs.declared.outcome.Kept.TheVariants.{Nothing};
 ghost use Rattle.proc_run.specs.declared.machine.NoText.TheVariants.{NoMemory as NoMemoryLem};
 ghost use Rattle.proc_run.specs.Outcomes.{IsDue, OnWritten, OnWriteFault, OnReadFault, OnNothingDue, UnlessReadFault, UnlessWriteFault, IsRan, IsRanOrNoMemory, IsRefusal, most_bytes, usage_line, too_long_line, unbuilt_line};
-ghost use Rattle.proc_run.specs.Dues.{OnFailed, UnlessFailed, IsDueFor, IsDueOf, status_of as status_of_lem};
+ghost use Rattle.proc_run.specs.Dues.{OnFailed, UnlessFailed, IsDueFor, IsDueOf, status_of};
 
 use crate::outcome::{Kept, Outcome, RunStatus};
 use crate::report::report;
@@ -56,7 +56,7 @@ impl From<AllocError> for NoText {
 
 fn status_of(settled: Settled) -> RunStatus
     requires { settled ≢ Settled.Running }
-    ensures { result ≡ status_of_lem settled }
+    ensures { result ≡ status_of settled }
 {
     match settled {
         Settled::Done => RunStatus::Done,

@@ -1,7 +1,7 @@
 //! How the whole run came out.
 
 ghost use Rattle.std.specs.Prelude.{◌≡◌};
-ghost use Rattle.proc_run.specs.Outcomes.{exit_status as exit_status_lem};
+ghost use Rattle.proc_run.specs.Outcomes.{exit_status};
 
 use run_journal::Journal;
 
@@ -31,7 +31,7 @@ pub enum RunStatus {
 impl RunStatus {
     /// The status with which the program ends.
     pub fn exit_status(self) -> u8
-        ensures { result ≡ exit_status_lem self }
+        ensures { result ≡ exit_status self }
     {
         match self {
             RunStatus::Done => 0,

@@ -2,7 +2,7 @@
 
 ghost use Rattle.std.specs.Prelude.{◌≡◌, ◌<◌, ◌^◌, ◌++◌, OnOk, IfOk, length};
 ghost use Rattle.std.specs.List.{flat_map};
-ghost use Rattle.report_text.specs.Reports.{line_of_thread, lines_of_spaces, report as report_lem};
+ghost use Rattle.report_text.specs.Reports.{line_of_thread, lines_of_spaces, report};
 ghost use Rattle.proc_run.specs.Counts.{with_row, AreCounts};
 
 use cache_ident::{SpaceNo, ThreadNo};
@@ -72,7 +72,7 @@ fn put_threads(lines: &mut ReportLines, flat: &Flat) -> Result<(), NoMemory>
 /// The report of a machine, whose run is settled so after so many steps. It goes once over the rows and once over
 /// the threads.
 pub fn report(alloc: Global, flat: &Flat, settled: Settled, steps: u64) -> Result<Vec<u8>, NoMemory>
-    ensures { IfOk result (λ text. text.items ≡ report_lem flat.now settled steps) }
+    ensures { IfOk result (λ text. text.items ≡ report flat.now settled steps) }
 {
     let mut lines = ReportLines::new(alloc, settled, steps)?;
     put_spaces(&mut lines, alloc, flat)?;

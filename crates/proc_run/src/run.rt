@@ -3,14 +3,14 @@
 ghost use Rattle.std.specs.Prelude.{◌≡◌, ◌≢◌, ◌<◌, ◌≤◌, ◌+◌, ◌*◌, ◌++◌, true, false, IfSome, IfNone, OnOk, IfOk, length, map, slice_get};
 ghost use Rattle.std.specs.List.{list_any};
 ghost use Rattle.flat_state.specs.State.{nothing_declared};
-ghost use Rattle.flat_state.specs.Signals.{is_runnable as is_runnable_lem};
-ghost use Rattle.flat_state.specs.Call.{is_completable as is_completable_lem};
+ghost use Rattle.flat_state.specs.Signals.{is_runnable};
+ghost use Rattle.flat_state.specs.Call.{is_completable};
 ghost use Rattle.flat_state.specs.Events.{AllFit, after_declarations};
 ghost use Rattle.flat_state.specs.NextSteps.{next_step};
 ghost use Rattle.flat_state.specs.Settling.{settled_of};
 ghost use Rattle.run_journal.specs.declared.entries.Entry.TheVariants.{Declared};
 ghost use Rattle.proc_run.specs.Fitting.{is_faulty, TakesSteps, after_steps};
-ghost use Rattle.proc_run.specs.Running.{stands_so, may_step, goes_on as goes_on_lem, trapped_count, Extends, IsRun};
+ghost use Rattle.proc_run.specs.Running.{stands_so, may_step, goes_on, trapped_count, Extends, IsRun};
 
 use cache_ident::ThreadNo;
 use flat_machine::{Decl, Event, Flat, NoMemory, Settled};
@@ -30,10 +30,10 @@ pub struct Finished {
 }
 
 fn is_completable(flat: &Flat, no: ThreadNo) -> bool
-    ensures { result ≡ stands_so is_completable_lem (slice_get flat.now.threads no.0) }
+    ensures { result ≡ stands_so is_completable (slice_get flat.now.threads no.0) }
 {
     match flat.thread(no) {
-        Some(thread) => thread.is_completable(),
+        Some(thread) => flat_rules::is_completable::<Flat>(thread),
         None => false,
     }
 }
@@ -49,7 +49,7 @@ fn is_runnable(flat: &Flat, no: ThreadNo) -> bool
 
 // Whether the thread can take a step that doesn't fault.
 fn goes_on(flat: &Flat, no: ThreadNo) -> bool
-    ensures { result ≡ goes_on_lem (next_step flat.now no.0) }
+    ensures { result ≡ goes_on (next_step flat.now no.0) }
 {
     match flat.next_step(no) {
         Some(next) => next.runnable && !next.faults,
@@ -59,8 +59,8 @@ fn goes_on(flat: &Flat, no: ThreadNo) -> bool
 
 // The first thread whose call can be completed.
 fn first_completable(flat: &Flat) -> Option<ThreadNo>
-    ensures some { IfSome result (λ no. stands_so is_completable_lem (slice_get flat.now.threads no.0) ≡ true) }
-    ensures none { IfNone result (list_any is_completable_lem flat.now.threads ≡ false) }
+    ensures some { IfSome result (λ no. stands_so is_completable (slice_get flat.now.threads no.0) ≡ true) }
+    ensures none { IfNone result (list_any is_completable flat.now.threads ≡ false) }
 {
     let count = flat.threads();
     for no in 0..count {
@@ -74,7 +74,7 @@ fn first_completable(flat: &Flat) -> Option<ThreadNo>
 // The first thread that is runnable.
 fn first_runnable(flat: &Flat) -> Option<ThreadNo>
     ensures some { IfSome result (λ no. may_step (next_step flat.now no.0) ≡ true) }
-    ensures none { IfNone result (list_any (is_runnable_lem flat.now) flat.now.threads ≡ false) }
+    ensures none { IfNone result (list_any (is_runnable flat.now) flat.now.threads ≡ false) }
 {
     let count = flat.threads();
     for no in 0..count {
@@ -103,7 +103,7 @@ fn run_ahead(flat: &mut Flat, no: ThreadNo, most: u32) -> Result<u32, NoMemory>
 
 // Completes the call of a thread.
 fn complete(flat: &mut Flat, journal: &mut Journal, no: ThreadNo) -> Result<(), NoMemory>
-    requires { stands_so is_completable_lem (slice_get flat.old.threads no.0) ≡ true }
+    requires { stands_so is_completable (slice_get flat.old.threads no.0) ≡ true }
     ensures extends { OnOk result (Extends flat.old journal.old.entries flat.new journal.new.entries 0) }
     ensures trapped { OnOk result (trapped_count flat.new + 1 ≤ trapped_count flat.old) }
 {

@@ -3,7 +3,7 @@
 ghost use Rattle.std.specs.Prelude.{◌≡◌, ◌≢◌, ◌++◌, IfOk, OnOk, OnErr};
 ghost use Rattle.std.specs.String.{string_bytes};
 ghost use Rattle.flat_state.specs.declared.records.Settled.TheVariants.{Running};
-ghost use Rattle.report_text.specs.Reports.{heading, count_text as count_text_lem, counts_text, number_line as number_line_lem, thread_text, output_text, summary_text, settled_text as settled_text_lem};
+ghost use Rattle.report_text.specs.Reports.{heading, count_text, counts_text, number_line, thread_text, output_text, summary_text, settled_text};
 
 use crate::words::{settled_text, state_text};
 use cache_ident::{SpaceNo, ThreadNo};
@@ -91,7 +91,7 @@ impl ReportLines {
 // How many rows there are of something, and which.
 #[tactic(auto, unfolding(crate::specs::Reports::count_text))]
 fn count_text(alloc: Global, what: &str, count: u64) -> Result<String, AllocError>
-    ensures { IfOk result (λ text. string_bytes text ≡ count_text_lem what.now count) }
+    ensures { IfOk result (λ text. string_bytes text ≡ count_text what.now count) }
 {
     format!(in alloc; " {what} {count}")
 }
@@ -143,7 +143,7 @@ fn put_output(lines: &mut Vec<u8>, output: &[u8]) -> Result<(), AllocError>
 }
 
 fn number_line(alloc: Global, what: &str, number: u64) -> Result<String, AllocError>
-    ensures { IfOk result (λ line. string_bytes line ≡ number_line_lem what.now number) }
+    ensures { IfOk result (λ line. string_bytes line ≡ number_line what.now number) }
 {
     format!(in alloc; "{what} {number}\n")
 }
@@ -176,7 +176,7 @@ pub fn summary(
     bytes: u64,
 ) -> Result<Vec<u8>, AllocError>
     requires { status ≢ Running }
-    ensures { IfOk result (λ v. v.items ≡ summary_text seed (settled_text_lem status) steps threads bytes) }
+    ensures { IfOk result (λ v. v.items ≡ summary_text seed (settled_text status) steps threads bytes) }
 {
     let lines = summary_lines(alloc, seed, settled_text(status), steps, threads, bytes)?;
     Vec::from_slice(alloc, lines.as_bytes())

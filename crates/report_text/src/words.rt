@@ -2,14 +2,14 @@
 
 ghost use Rattle.std.specs.Prelude.{◌≡◌, IfOk};
 ghost use Rattle.std.specs.String.{string_bytes};
-ghost use Rattle.report_text.specs.Reports.{word_text as word_text_lem, settled_text as settled_text_lem, kind_text as kind_text_lem, access_text as access_text_lem, misaligned_text as misaligned_text_lem, reason_text as reason_text_lem, state_text as state_text_lem};
+ghost use Rattle.report_text.specs.Reports.{word_text, settled_text, kind_text, access_text, misaligned_text, reason_text, state_text};
 
 use flat_state::Settled;
 use rv32_exec::{Access, FaultKind, Misaligned, Reason, Status};
 use std::alloc::{AllocError, Global};
 
 pub(crate) fn settled_text(settled: Settled) -> &'static str
-    ensures { result.now ≡ settled_text_lem settled }
+    ensures { result.now ≡ settled_text settled }
 {
     match settled {
         Settled::Done => "done",
@@ -20,7 +20,7 @@ pub(crate) fn settled_text(settled: Settled) -> &'static str
 }
 
 fn kind_text(kind: FaultKind) -> &'static str
-    ensures { result.now ≡ kind_text_lem kind }
+    ensures { result.now ≡ kind_text kind }
 {
     match kind {
         FaultKind::Page => "page",
@@ -30,7 +30,7 @@ fn kind_text(kind: FaultKind) -> &'static str
 }
 
 fn access_text(access: Access) -> &'static str
-    ensures { result.now ≡ access_text_lem access }
+    ensures { result.now ≡ access_text access }
 {
     match access {
         Access::Fetch => "fetch",
@@ -40,7 +40,7 @@ fn access_text(access: Access) -> &'static str
 }
 
 fn misaligned_text(what: Misaligned) -> &'static str
-    ensures { result.now ≡ misaligned_text_lem what }
+    ensures { result.now ≡ misaligned_text what }
 {
     match what {
         Misaligned::Jump => "jump",
@@ -51,14 +51,14 @@ fn misaligned_text(what: Misaligned) -> &'static str
 
 // A word or an address in hexadecimal.
 fn word_text(alloc: Global, word: u32) -> Result<String, AllocError>
-    ensures { IfOk result (λ text. string_bytes text ≡ word_text_lem word) }
+    ensures { IfOk result (λ text. string_bytes text ≡ word_text word) }
 {
     let digits = hex::encode(alloc, word.to_be_bytes())?;
     format!(in alloc; "0x{digits}")
 }
 
 fn reason_text(alloc: Global, reason: Reason) -> Result<String, AllocError>
-    ensures { IfOk result (λ text. string_bytes text ≡ reason_text_lem reason) }
+    ensures { IfOk result (λ text. string_bytes text ≡ reason_text reason) }
 {
     match reason {
         Reason::Exited { code } => format!(in alloc; "exit {code}"),
@@ -84,7 +84,7 @@ fn reason_text(alloc: Global, reason: Reason) -> Result<String, AllocError>
 
 /// Where a thread stands, and in which call where it is in one.
 pub(crate) fn state_text(alloc: Global, status: Status, call: u32) -> Result<String, AllocError>
-    ensures { IfOk result (λ text. string_bytes text ≡ state_text_lem status call) }
+    ensures { IfOk result (λ text. string_bytes text ≡ state_text status call) }
 {
     match status {
         Status::Ready => String::from_str(alloc, "ready"),

@@ -2,14 +2,14 @@
 
 ghost use Rattle.std.specs.Prelude.{◌≡◌, IfOk};
 ghost use Rattle.std.specs.String.{string_bytes};
-ghost use Rattle.scenario_gen.specs.Generated.{registers as registers_lem, right_line as right_line_lem, space_line as space_line_lem, thread_line as thread_line_lem, map_line as map_line_lem};
+ghost use Rattle.scenario_gen.specs.Generated.{registers, right_line, space_line, thread_line, map_line};
 
 use std::alloc::{AllocError, Global};
 
 /// That a kernel may read and write a group.
 #[tactic(auto, unfolding(crate::specs::Generated::right_line))]
 pub(crate) fn right_line(alloc: Global, kernel: u32, group: u32) -> Result<String, AllocError>
-    ensures { IfOk result (λ line. string_bytes line ≡ right_line_lem kernel group) }
+    ensures { IfOk result (λ line. string_bytes line ≡ right_line kernel group) }
 {
     format!(in alloc; "right {kernel} {group} rw\n")
 }
@@ -17,7 +17,7 @@ pub(crate) fn right_line(alloc: Global, kernel: u32, group: u32) -> Result<Strin
 /// A space of a kernel.
 #[tactic(auto, unfolding(crate::specs::Generated::space_line))]
 pub(crate) fn space_line(alloc: Global, space: u32, kernel: u32) -> Result<String, AllocError>
-    ensures { IfOk result (λ line. string_bytes line ≡ space_line_lem space kernel) }
+    ensures { IfOk result (λ line. string_bytes line ≡ space_line space kernel) }
 {
     format!(in alloc; "space {space} {kernel}\n")
 }
@@ -35,14 +35,14 @@ pub(crate) struct Thread {
 
 #[tactic(auto, unfolding(crate::specs::Generated::registers))]
 fn registers(alloc: Global, a0: u32, a1: u32) -> Result<String, AllocError>
-    ensures { IfOk result (λ text. string_bytes text ≡ registers_lem a0 a1) }
+    ensures { IfOk result (λ text. string_bytes text ≡ registers a0 a1) }
 {
     format!(in alloc; " a0 {a0} a1 {a1}\n")
 }
 
 #[tactic(auto, unfolding(crate::specs::Generated::thread_line))]
 pub(crate) fn thread_line(alloc: Global, t: Thread) -> Result<String, AllocError>
-    ensures { IfOk result (λ line. string_bytes line ≡ thread_line_lem t.thread t.space t.pc t.priority t.a0 t.a1) }
+    ensures { IfOk result (λ line. string_bytes line ≡ thread_line t.thread t.space t.pc t.priority t.a0 t.a1) }
 {
     let Thread {
         thread,
@@ -65,7 +65,7 @@ pub(crate) fn map_line(
     frame: u32,
     flags: &str,
 ) -> Result<String, AllocError>
-    ensures { IfOk result (λ line. string_bytes line ≡ map_line_lem space page frame flags.now) }
+    ensures { IfOk result (λ line. string_bytes line ≡ map_line space page frame flags.now) }
 {
     format!(in alloc; "map {space} {page} {frame} {flags}\n")
 }

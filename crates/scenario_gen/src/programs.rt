@@ -2,12 +2,12 @@
 //! offsets 0, 36, 92 and 148.
 
 ghost use Rattle.std.specs.Prelude.{◌≡◌};
-ghost use Rattle.scenario_gen.specs.Generated.{sender as sender_lem, middle as middle_lem, last as last_lem, worker as worker_lem};
+ghost use Rattle.scenario_gen.specs.Generated.{sender, middle, last, worker};
 
 /// Puts numbers into a page of messages, one a slot, and signals each.
 #[tactic(auto, unfolding(crate::specs::Generated::sender))]
 pub(crate) fn sender() -> &'static str
-    ensures { result.now ≡ sender_lem }
+    ensures { result.now ≡ sender }
 {
     "\
 lui t0, 17
@@ -26,7 +26,7 @@ ecall
 /// Takes a message for each signal, adds a number to it and passes it on.
 #[tactic(auto, unfolding(crate::specs::Generated::middle))]
 pub(crate) fn middle() -> &'static str
-    ensures { result.now ≡ middle_lem }
+    ensures { result.now ≡ middle }
 {
     "\
 add t2, a0, zero
@@ -50,7 +50,7 @@ ecall
 /// Takes a message for each signal, and puts out the sum.
 #[tactic(auto, unfolding(crate::specs::Generated::last))]
 pub(crate) fn last() -> &'static str
-    ensures { result.now ≡ last_lem }
+    ensures { result.now ≡ last }
 {
     "\
 add t2, a0, zero
@@ -74,7 +74,7 @@ ecall
 /// Adds a number to a word of each of 48 pages, in rounds, and puts out the sum of what it wrote.
 #[tactic(auto, unfolding(crate::specs::Generated::worker))]
 pub(crate) fn worker() -> &'static str
-    ensures { result.now ≡ worker_lem }
+    ensures { result.now ≡ worker }
 {
     "\
 lui t2, 1

@@ -2,7 +2,7 @@
 
 ghost use Rattle.std.specs.Prelude.{◌≡◌, ◌+◌, ◌<◌, ◌++◌, IfOk, OnOk};
 ghost use Rattle.std.specs.String.{string_bytes};
-ghost use Rattle.scenario_gen.specs.Generated.{for_each, rights, space as space_lem, program_of as program_of_lem, operand_of as operand_of_lem, threads, inbox, outbox, page, rows, stages, ending, programs, text};
+ghost use Rattle.scenario_gen.specs.Generated.{for_each, rights, space, program_of, operand_of, threads, inbox, outbox, page, rows, stages, ending, programs, text};
 
 use crate::lines::{Thread, map_line, right_line, space_line, thread_line};
 use crate::programs::{last, middle, sender, worker};
@@ -40,7 +40,7 @@ fn put_all_rights(out: &mut String, alloc: Global) -> Result<(), AllocError>
 
 #[tactic(auto, unfolding(crate::specs::Generated::for_each))]
 fn put_spaces(out: &mut String, alloc: Global) -> Result<(), AllocError>
-    ensures { OnOk result (string_bytes out.new ≡ string_bytes out.old ++ for_each space_lem 12) }
+    ensures { OnOk result (string_bytes out.new ≡ string_bytes out.old ++ for_each space 12) }
 {
     for space in 0..SPACES {
         out.push_str(&space_line(alloc, space, space % 4)?)?;
@@ -50,7 +50,7 @@ fn put_spaces(out: &mut String, alloc: Global) -> Result<(), AllocError>
 
 // The offset of a stage's program.
 fn program_of(stage: u32) -> u32
-    ensures { result ≡ program_of_lem stage }
+    ensures { result ≡ program_of stage }
 {
     match stage {
         0 => 0,
@@ -62,7 +62,7 @@ fn program_of(stage: u32) -> u32
 // What a stage has in a1 at first.
 fn operand_of(seed: u32, space: u32) -> u32
     requires { space < 12 }
-    ensures { result ≡ operand_of_lem seed space }
+    ensures { result ≡ operand_of seed space }
 {
     match space % 4 {
         0 => seed % 1000 + 100 * (space / 4),
