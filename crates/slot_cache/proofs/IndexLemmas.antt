@@ -1,100 +1,72 @@
--- What a search finds in a rising list, and what an edit at that place leaves.
-use Rattle.std.proofs.Common.{◌≡◌, ℕ, ◌+◌, ◌-◌, ◌<◌, ◌≤◌, List, length, get_or, Contains, Result, Ok, Err, IfOk, IfErr, sym, ◌∙◌, ap, subst, inl, inr, refl, arith}
+-- What a search finds in a list whose keys rise, and what an edit leaves.
+use Rattle.std.proofs.Common.{◌≡◌, ℕ, ◌+◌, ◌-◌, ◌<◌, ◌≤◌, Bool, true, false, List, length, get_or, All, AllPairs, Contains, Option, None, Some, sym, ◌∙◌, ap, subst, inl, inr, refl, arith}
 use Rattle.std.specs.declared.cmp.Ordering.{Ordering}
 use Rattle.std.specs.declared.cmp.Ordering.TheVariants.{Less, Equal, Greater}
 use Rattle.std.specs.Cmp.{IsTotalOrder}
 use Rattle.std.specs.List.{insert, remove}
-use Rattle.std.specs.List.Sorted.{IsSearchInRange, IsBinarySearchResult, IsNonDecreasingBy}
-use Rattle.std.specs.Ordering.{ordering_index, ordering_reverse}
-use Rattle.std.proofs.lemmas.Bool.{cases_lt, cases_eq}
-use Rattle.std.proofs.lemmas.Cmp.{tied_itself, alike_right}
+use Rattle.std.specs.Ordering.{eq_by_cmp, is_eq, ordering_then}
+use Rattle.std.specs.Prelude.{slice_get, IfNone, IfSome}
+use Rattle.std.proofs.lemmas.Bool.{cases_lt, cases_eq, false≢true}
+use Rattle.std.proofs.lemmas.Cmp.{tied_back, tied_itself}
 use Rattle.std.proofs.lemmas.List.{get_or_default}
 use Rattle.std.proofs.lemmas.List.Edits.{length-insert, get_or-insert_below, get_or-insert_at, get_or-insert_above, length-remove, get_or-remove_below, get_or-remove_above}
-use Rattle.slot_cache.specs.Index.{IsRising, IsFoundAt, IsGapFor, IsInserted, IsRemoved}
+use Rattle.std.proofs.lemmas.List.Quantifiers.{all_pairs_remove}
+use Rattle.sorted_list.specs.Sorted.{by_parts, values_under}
+use Rattle.sorted_list.proofs.RisingLemmas.{AllPairs-insert}
+use Rattle.sorted_list.proofs.SortedLemmas.{first_passes, none_passes}
+use Rattle.slot_cache.specs.Index.{IsRising, IsKeyOf, IsInserted, IsRemoved}
 
--- the three answers of a comparison are apart
+-- the answers of a comparison are apart
 pub less≢equal : (o : Ordering) → o ≡ Less → o ≡ Equal → ⊥
 less≢equal o less equal = cc
 
-pub greater≢equal : (o : Ordering) → o ≡ Greater → o ≡ Equal → ⊥
-greater≢equal o greater equal = cc
+-- two comparisons in a row tie only where the first does
+then_equal : (o next : Ordering) → ordering_then o next ≡ Equal → o ≡ Equal
+then_equal Less next equal = absurd (cc)
+then_equal Equal next equal = refl
+then_equal Greater next equal = absurd (cc)
 
--- an answer the other way round
-reversed : (a b : Ordering) → a ≡ ordering_reverse b → b ≡ Greater → a ≡ Less
-reversed a b turned greater = turned ∙ ap ordering_reverse greater
+-- and are less only where the first is, or ties
+then_less : (o next : Ordering) → ordering_then o next ≡ Less → (o ≡ Equal → ⊥) → o ≡ Less
+then_less Less next less apart = refl
+then_less Equal next less apart = absurd (apart refl)
+then_less Greater next less apart = absurd (cc)
 
-module _ {K : Type 0} (cmp : K → K → Ordering) (o : IsTotalOrder cmp) where
-  -- what is below another one compares no higher
-  index_rises : (a b key : K) → cmp a b ≡ Less → ordering_index (cmp a key) ≤ ordering_index (cmp b key)
-  index_rises a b key less = from (cmp b key) refl
-    where
-      from : (answer : Ordering) → cmp b key ≡ answer → ordering_index (cmp a key) ≤ ordering_index (cmp b key)
-      from Less e = rw (o.trans a b key less e, e) (omega arith)
-      from Equal e = rw (e, sym (alike_right o b key a e) ∙ less) (omega arith)
-      from Greater e = rw e (at_most_two (cmp a key))
-        where
-          at_most_two : (answer : Ordering) → ordering_index answer ≤ ordering_index Greater
-          at_most_two Less = omega arith
-          at_most_two Equal = omega arith
-          at_most_two Greater = omega arith
+is_equal : (o : Ordering) → is_eq o ≡ true → o ≡ Equal
+is_equal Less ties = absurd (cc)
+is_equal Equal ties = refl
+is_equal Greater ties = absurd (cc)
+
+not_equal : (o : Ordering) → is_eq o ≡ false → o ≡ Equal → ⊥
+not_equal o apart equal = false≢true (sym apart ∙ ap is_eq equal)
+
+module _ {K V : Type 0} (cmp : K → K → Ordering) (same : K → K → Bool) (ties : (a b : K) → same a b ≡ eq_by_cmp cmp a b) (xs : List (K × V)) (key : K) where
+  -- what is found under a key, and what isn't
+  pub found_key : (r : Option V) → r ≡ slice_get (values_under same xs key) 0 → IfSome r (IsKeyOf cmp xs key)
+  found_key None is = tt
+  found_key (Some v) is =
+      let first = first_passes (λ entry. same entry.0 key) xs v (sym is) in
+      (first.0, first.1, is_equal (cmp first.0.0 key) (sym (ties first.0.0 key) ∙ first.2), first.3)
+
+  pub absent_key_of : (r : Option V) → r ≡ slice_get (values_under same xs key) 0 → IfNone r (All (λ place. cmp place.0 key ≡ Equal → ⊥) xs)
+  absent_key_of None is = λ k d within. not_equal (cmp (get_or xs k d).0 key) (sym (ties (get_or xs k d).0 key) ∙ none_passes (λ entry. same entry.0 key) xs (sym is) k d within)
+  absent_key_of (Some v) is = tt
 
 module _ {K V : Type 0} (cmp : K → K → Ordering) (o : IsTotalOrder cmp) where
-  -- the comparisons with a key rise along the list, as a binary search asks
-  comparisons_rise : (xs : List (K × V)) (key : K) → IsRising cmp xs → IsNonDecreasingBy (λ place. ordering_index (cmp place.0 key)) xs
-  comparisons_rise xs key rising i j d le lt = elim (cases_lt i j) [
-    | inl below ↦ index_rises cmp o _ _ key (rising i j d below lt)
-    | inr above ↦ let same : i ≡ j = omega arith in rw same (omega arith)
-  ]
+  -- an entry whose key isn't there isn't there
+  pub absent_entry : (second : V → V → Ordering) (xs : List (K × V)) (key : K) (v : V) → All (λ place. cmp place.0 key ≡ Equal → ⊥) xs → All (λ place. by_parts cmp second place (key, v) ≡ Equal → ⊥) xs
+  absent_entry second xs key v absent k d within equal = absent k d within (then_equal (cmp (get_or xs k d).0 key) (second (get_or xs k d).1 v) equal)
 
-  -- a binary search ends at the key, or at the gap for it
-  pub searched : (xs : List (K × V)) (key : K) → IsRising cmp xs → (r : Result ℕ ℕ) → IsSearchInRange r (length xs) → IsBinarySearchResult (λ place. cmp place.0 key) xs r → record { found : IfOk r (IsFoundAt cmp xs key); absent : IfErr r (IsGapFor cmp xs key) }
-  searched xs key rising (Ok at) within equal = record { found = record { within = within; has_key = equal }; absent = tt }
-  searched xs key rising (Err at) within parted = record {
-    found = tt;
-    absent = record {
-      within = within;
-      below = λ k d lt. (parted (comparisons_rise xs key rising)).0 k d (omega arith) lt;
-      above = λ k d le lt. (parted (comparisons_rise xs key rising)).1 k d le lt;
-    };
-  }
-
-  -- a new key in its gap keeps the order
-  pub rising-insert : (xs : List (K × V)) (key : K) (v : V) (at : ℕ) → IsRising cmp xs → IsGapFor cmp xs key at → IsRising cmp (insert xs at (key, v))
-  rising-insert xs key v at rising gap i j d lt in_range =
+  -- and with it the keys still rise
+  pub rising_with : (second : V → V → Ordering) (xs : List (K × V)) (key : K) (v : V) (at : ℕ) → at ≤ length xs → IsRising cmp xs → All (λ place. cmp place.0 key ≡ Equal → ⊥) xs → AllPairs (λ a b. by_parts cmp second a b ≡ Less) (insert xs at (key, v)) → IsRising cmp (insert xs at (key, v))
+  rising_with second xs key v at within rising absent pairs i j d lt inside =
+      let apart = AllPairs-insert (λ a b. cmp a.0 b.0 ≡ Equal → ⊥) xs at (key, v) within (λ i j d lt inside. less≢equal _ (rising i j d lt inside)) (λ k d below. absent k d (omega (arith, below, within))) (λ k d above inside equal. absent k d inside (tied_back o key (get_or xs k d).0 equal)) in
       let new = insert xs at (key, v) in
-      let place = λ (x : K × V). x.0 in
-      let length_new = length-insert xs at (key, v) gap.within in
-      let below : (k : ℕ) → k < at → (get_or new k d).0 ≡ (get_or xs k d).0 = λ k below. ap place (get_or-insert_below xs at (key, v) d k below gap.within) in
-      let here : (k : ℕ) → k ≡ at → (get_or new k d).0 ≡ key = λ k here. rw here (ap place (get_or-insert_at xs at (key, v) d gap.within)) in
-      let above : (k : ℕ) → at < k → (get_or new k d).0 ≡ (get_or xs (k - 1) d).0 = λ k above. subst (λ q. (get_or new q d).0 ≡ (get_or xs (k - 1) d).0) {x = k - 1 + 1} (omega arith) (ap place (get_or-insert_above xs at (key, v) d (k - 1) (omega arith) gap.within)) in
-      let after : (k : ℕ) → at ≤ k → k < length xs → cmp key (get_or xs k d).0 ≡ Less = λ k le lt. reversed _ _ (o.antisymm key (get_or xs k d).0) (gap.above k d le lt) in
-      elim (cases_lt i at) [
-        | inl i_below ↦ elim (cases_lt j at) [
-          | inl j_below ↦ rw (below i i_below, below j j_below) (rising i j d lt (omega arith))
-          | inr j_not ↦ elim (cases_eq j at) [
-            | inl j_here ↦ rw (below i i_below, here j j_here) (gap.below i d i_below)
-            | inr j_other ↦ rw (below i i_below, above j (omega arith)) (rising i (j - 1) d (omega arith) (omega arith))
-          ]
-        ]
-        | inr i_not ↦ elim (cases_eq i at) [
-          | inl i_here ↦ rw (here i i_here, above j (omega arith)) (after (j - 1) (omega arith) (omega arith))
-          | inr i_other ↦ rw (above i (omega arith), above j (omega arith)) (rising (i - 1) (j - 1) d (omega arith) (omega arith))
-        ]
-      ]
+      then_less (cmp (get_or new i d).0 (get_or new j d).0) (second (get_or new i d).1 (get_or new j d).1) (pairs i j d lt inside) (apart i j d lt inside)
 
-  -- the place that a search finds is that of the key in the list
-  same_place : (xs : List (K × V)) (x : K × V) (at k : ℕ) → IsRising cmp xs → IsFoundAt cmp xs x.0 at → k < length xs → get_or xs k x ≡ x → at ≡ k
-  same_place xs x at k rising found within there = elim (cases_lt at k) [
-    | inl below ↦ absurd (less≢equal _ (rw (ap (λ (p : K × V). p.0) there) at (rising at k x below within)) (found.has_key x))
-    | inr not_below ↦ elim (cases_lt k at) [
-      | inl above ↦ absurd (less≢equal _ (rw (ap (λ (p : K × V). p.0) there) at (rising k at x above found.within)) (o.antisymm _ _ ∙ ap ordering_reverse (found.has_key x)))
-      | inr not_above ↦ omega arith
-    ]
-  ]
-
-  -- so it holds all of the place
-  pub found_place : (xs : List (K × V)) (x : K × V) (at : ℕ) → IsRising cmp xs → IsFoundAt cmp xs x.0 at → Contains xs x → get_or xs at x ≡ x
-  found_place xs x at rising found there = rw (same_place xs x at there.0 rising found there.1 there.2) there.2
+  -- as they do without one
+  pub rising_without : (xs : List (K × V)) (at : ℕ) → at < length xs → IsRising cmp xs → IsRising cmp (remove xs at)
+  rising_without xs at within rising = all_pairs_remove (λ a b. cmp a.0 b.0 ≡ Less) xs at within rising
 
   -- a list that rises has each place once
   pub once : (xs : List (K × V)) (x : K × V) (i j : ℕ) → IsRising cmp xs → i < j → j < length xs → get_or xs i x ≡ x → get_or xs j x ≡ x → ⊥

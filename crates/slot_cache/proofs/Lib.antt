@@ -1,3 +1,4 @@
 pub mod IndexLemmas
 pub mod NameLemmas
+pub mod PadLemmas
 pub mod SlotLemmas

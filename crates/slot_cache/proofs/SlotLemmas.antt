@@ -1,5 +1,5 @@
 -- What an edit of the cells leaves in their indexes.
-use Rattle.std.proofs.Common.{◌≡◌, ◌≢◌, ◌⊎◌, ℕ, zero, suc, ◌+◌, ◌<◌, ◌≤◌, cond, List, [], length, get_or, set, Contains, Option, Some, None, unwrap_or, is_some, IsSome, count_by, replicate, vec_len, vec_capacity, ◌^◌, sym, ◌∙◌, ap, subst, inl, inr, refl, arith}
+use Rattle.std.proofs.Common.{◌≡◌, ◌≢◌, ◌⊎◌, ℕ, zero, suc, ◌+◌, ◌<◌, ◌≤◌, cond, List, [], length, get_or, set, Contains, Option, Some, None, unwrap_or, is_some, IsSome, count_by, replicate, All, sym, ◌∙◌, ap, subst, inl, inr, refl, arith}
 use Rattle.std.specs.declared.cmp.Ordering.{Ordering}
 use Rattle.std.specs.declared.cmp.Ordering.TheVariants.{Less, Equal}
 use Rattle.std.specs.Ordering.{nat_cmp}
@@ -10,16 +10,15 @@ use Rattle.std.proofs.lemmas.List.{get_or-set_same, get_or-set_other, get_or-rep
 use Rattle.std.proofs.lemmas.List.Sums.{sum_by-set}
 use Rattle.std.proofs.lemmas.List.Elements.{Contains-get_or}
 use Rattle.std.specs.Option.{IfNone}
-use Rattle.std.specs.declared.alloc.Global.{Global}
-use Rattle.std.specs.Prelude.{Vec}
+use Rattle.sorted_list.specs.Sorted.{Sorted}
 use Rattle.cache_ident.specs.declared.idents.Ident.{Ident}
 use Rattle.cache_ident.specs.declared.idents.Kind.{Kind}
 use Rattle.slot_cache.specs.declared.loaded.Loaded.{Loaded}
 use Rattle.cache_ident.specs.declared.names.Name.{Name}
 use Rattle.cache_ident.specs.contracts.names.NameOrd.TheImpl as name
-use Rattle.slot_cache.specs.Index.{IsRising, IsFoundAt, IsGapFor, IsInserted, IsRemoved}
-use Rattle.slot_cache.proofs.IndexLemmas.{less≢equal, greater≢equal}
-use Rattle.slot_cache.specs.Cells.{cell_at, IsCounted, MayGo, MayNotGo, IsFull, IsLowestFree, IsVictim, NoneMayGo}
+use Rattle.slot_cache.specs.Index.{IsRising, IsKeyOf, IsInserted, IsRemoved}
+use Rattle.slot_cache.proofs.IndexLemmas.{less≢equal}
+use Rattle.slot_cache.specs.Cells.{cell_at, MayGo, MayNotGo, IsFull, IsLowestFree, IsVictim, NoneMayGo}
 use Rattle.slot_cache.specs.Table.{IsKeyed, IsFree, Lists, IsPlaced, IsProper, IsSound, Table}
 
 -- what two equal options hold is equal
@@ -315,56 +314,45 @@ if_none None P p = p
 if_none (Some x) P p = tt
 
 module _ {T K : Type 0} (cmp : K → K → Ordering) (key : Loaded T → K) (cells : List (Option (Loaded T))) (places : List (K × ℕ)) (lists : Lists cmp (IsKeyed key cells) places) where
-  -- a key that has a gap in its index is that of nothing loaded
-  pub absent_from_gap : ((a : K) → cmp a a ≡ Equal) → (k : K) (i : ℕ) → IsGapFor cmp places k i → (slot : ℕ) (e : Loaded T) → cell_at cells slot ≡ Some e → key e ≡ k → ⊥
-  absent_from_gap itself k i gap slot e there same =
+  -- a key that isn't in its index is that of nothing loaded
+  pub absent_from_index : ((a : K) → cmp a a ≡ Equal) → (k : K) → All (λ place. cmp place.0 k ≡ Equal → ⊥) places → (slot : ℕ) (e : Loaded T) → cell_at cells slot ≡ Some e → key e ≡ k → ⊥
+  absent_from_index itself k absent slot e there same =
       let place : K × ℕ = (k, slot) in
       let listed = lists.complete place (e, there, same) in
       let first : (get_or places listed.0 place).0 ≡ k = ap (λ (p : K × ℕ). p.0) listed.2 in
-      elim (cases_lt listed.0 i) [
-        | inl before ↦ less≢equal _ (rw first at (gap.below listed.0 place before)) (itself k)
-        | inr not_before ↦ greater≢equal _ (rw first at (gap.above listed.0 place not_before listed.1)) (itself k)
-      ]
+      absent listed.0 place listed.1 (ap (λ j. cmp j k) first ∙ itself k)
 
-  -- a key that is found is that of what stands at its slot
-  pub found_at_place : ((a b : K) → cmp a b ≡ Equal → a ≡ b) → (k : K) (at : ℕ) (place : K × ℕ) → IsFoundAt cmp places k at → place ≡ get_or places at place → IsKeyed key cells (k, place.1)
-  found_at_place one k at place found read =
-      let was = lists.sound place (at, found.within, sym read) in
-      (was.0, was.1, was.2 ∙ ap (λ (p : K × ℕ). p.0) read ∙ one _ _ (found.has_key place))
+  -- a slot that is found under a key holds what has the key
+  pub found_in_index : ((a b : K) → cmp a b ≡ Equal → a ≡ b) → (k : K) (slot : ℕ) → IsKeyOf cmp places k slot → IsKeyed key cells (k, slot)
+  found_in_index one k slot found =
+      let was = lists.sound found.0 found.1 in
+      (was.0, ap (cell_at cells) (sym found.3) ∙ was.1, was.2 ∙ one found.0.0 k found.2)
 
 -- what stands at a slot is changed and keeps identifier and name
-pub sound-changed : {T : Type 0} (called : T → Name) (kind : Kind) (cells : List (Option (Loaded T))) (by_serial : Vec (ℕ × ℕ) Global) (by_name : Vec (Name × ℕ) Global) (free : Vec (ℕ × Unit {0}) Global) (slot : ℕ) (e new : Loaded T) → cell_at cells slot ≡ Some e → new.ident ≡ e.ident → called new.value ≡ called e.value → IsSound called kind cells by_serial by_name free → IsSound called kind (set cells slot (Some new)) by_serial by_name free
+pub sound-changed : {T : Type 0} (called : T → Name) (kind : Kind) (cells : List (Option (Loaded T))) (by_serial : Sorted ℕ ℕ) (by_name : Sorted Name ℕ) (free : Sorted ℕ (Unit {0})) (slot : ℕ) (e new : Loaded T) → cell_at cells slot ≡ Some e → new.ident ≡ e.ident → called new.value ≡ called e.value → IsSound called kind cells by_serial by_name free → IsSound called kind (set cells slot (Some new)) by_serial by_name free
 sound-changed {T} called kind cells by_serial by_name free slot e new some same_ident same_name sound =
     let n = length-set cells slot (Some new) in
     let count = count-same cells slot e new some in
     let place = sound.placed slot e some in
     record {
-      few = rw n sound.few;
       placed = placed-put kind cells slot new (cell_within cells slot e some) (ap (λ (i : Ident). i.slot) same_ident ∙ place.0) (ap (λ (i : Ident). i.kind) same_ident ∙ place.1) sound.placed;
-      serials = keyed-same nat_cmp (λ (x : Loaded T). x.ident.serial) cells slot e new by_serial.items some (ap (λ (i : Ident). i.serial) same_ident) sound.serials;
-      names = keyed-same (name.ghosts).cmp (λ (x : Loaded T). called x.value) cells slot e new by_name.items some same_name sound.names;
-      gaps = free-same cells slot e new free.items some sound.gaps;
+      serials = keyed-same nat_cmp (λ (x : Loaded T). x.ident.serial) cells slot e new by_serial.entries some (ap (λ (i : Ident). i.serial) same_ident) sound.serials;
+      names = keyed-same (name.ghosts).cmp (λ (x : Loaded T). called x.value) cells slot e new by_name.entries some same_name sound.names;
+      gaps = free-same cells slot e new free.entries some sound.gaps;
       serials_len = sound.serials_len ∙ sym count;
       names_len = sound.names_len ∙ sym count;
       gaps_len = rw (n, count) sound.gaps_len;
-      serials_room = rw n sound.serials_room;
-      names_room = rw n sound.names_room;
-      gaps_room = rw n sound.gaps_room;
     }
 
--- numbers in order compare as less
-less_of : (a b : ℕ) → a < b → nat_cmp a b ≡ Less
-less_of a b lt = grind (arith, nat_tests)
-
 -- of cells with nothing in them each holds nothing
-all_none : {T : Type 0} (n slot : ℕ) → cell_at {T = T} (replicate n None) slot ≡ None
+pub all_none : {T : Type 0} (n slot : ℕ) → cell_at {T = T} (replicate n None) slot ≡ None
 all_none {T} n slot = elim (cases_lt slot n) [
   | inl within ↦ get_or-replicate n slot None None within
   | inr past ↦ get_or_past (replicate n None) slot None (rw (length-replicate {A = Option (Loaded T)} n None) past)
 ]
 
 -- and none counts
-count-none : (T : Type 0) (n : ℕ) → count_by (is_some {T = Loaded T}) (replicate n None) ≡ 0
+pub count-none : (T : Type 0) (n : ℕ) → count_by (is_some {T = Loaded T}) (replicate n None) ≡ 0
 count-none T zero = refl
 count-none T (suc n) = count-none T n
 
@@ -372,32 +360,18 @@ count-none T (suc n) = count-none T n
 lists-nil : {K V : Type 0} (cmp : K → K → Ordering) (P : K × V → Type 0) → ((place : K × V) → P place → ⊥) → Lists cmp P []
 lists-nil cmp P none = record { rising = λ i j d lt within. absurd (omega (arith, within)); sound = λ place there. absurd (omega (arith, there.1)); complete = λ place it. absurd (none place it) }
 
--- slots of which all are free
-pub sound-new : {T : Type 0} (called : T → Name) (kind : Kind) (cap : ℕ) (by_serial : Vec (ℕ × ℕ) Global) (by_name : Vec (Name × ℕ) Global) (free : Vec (ℕ × Unit {0}) Global) → cap < 2 ^ 32 → by_serial.items ≡ [] → by_name.items ≡ [] → IsCounted free.items cap → vec_len by_serial ≡ 0 → vec_len by_name ≡ 0 → vec_len free ≡ cap → cap ≤ vec_capacity by_serial → cap ≤ vec_capacity by_name → cap ≤ vec_capacity free → IsSound called kind (replicate cap None) by_serial by_name free
-sound-new {T} called kind cap by_serial by_name free few no_serial no_name counted serials_len names_len gaps_len serials_room names_room gaps_room =
-    let n : length {A = Option (Loaded T)} (replicate cap None) ≡ cap = length-replicate cap None in
-    let count = count-none T cap in
-    let nothing : (slot : ℕ) (e : Loaded T) → cell_at (replicate cap None) slot ≡ Some e → ⊥ = λ slot e there. not_none (replicate cap None) slot e there (all_none cap slot) in
+-- slots of which none was ever used
+pub sound-new : {T : Type 0} (called : T → Name) (kind : Kind) (cells : List (Option (Loaded T))) (by_serial : Sorted ℕ ℕ) (by_name : Sorted Name ℕ) (free : Sorted ℕ (Unit {0})) → cells ≡ [] → by_serial.entries ≡ [] → by_name.entries ≡ [] → free.entries ≡ [] → IsSound called kind cells by_serial by_name free
+sound-new {T} called kind cells by_serial by_name free no_cell no_serial no_name no_free =
+    let nothing : (slot : ℕ) (e : Loaded T) → cell_at cells slot ≡ Some e → ⊥ = λ slot e there. absurd (omega (arith, cell_within cells slot e there, ap length no_cell)) in
     record {
-      few = rw n few;
       placed = λ slot e there. absurd (nothing slot e there);
-      serials = rw no_serial (lists-nil nat_cmp (IsKeyed (λ (x : Loaded T). x.ident.serial) (replicate cap None)) (λ place keyed. nothing place.1 keyed.0 keyed.1));
-      names = rw no_name (lists-nil (name.ghosts).cmp (IsKeyed (λ (x : Loaded T). called x.value) (replicate cap None)) (λ place keyed. nothing place.1 keyed.0 keyed.1));
-      gaps = record {
-        rising = λ i j d lt within. rw (counted.each i d (omega (arith, lt, within, counted.len)), counted.each j d (omega (arith, within, counted.len))) (less_of i j lt);
-        sound = λ place there.
-            let at : place.0 ≡ there.0 = ap (λ (p : ℕ × Unit {0}). p.0) (sym there.2) ∙ counted.each there.0 place (omega (arith, there.1, counted.len)) in
-            (omega (arith, at, there.1, counted.len, n), all_none cap place.0);
-        complete = λ place it.
-            let within : place.0 < length free.items = omega (arith, it.0, n, counted.len) in
-            (place.0, within, sym (pair_same place (get_or free.items place.0 place).0 tt (counted.each place.0 place (omega (arith, it.0, n))) refl));
-      };
-      serials_len = omega (arith, serials_len, count);
-      names_len = omega (arith, names_len, count);
-      gaps_len = omega (arith, gaps_len, count, n);
-      serials_room = omega (arith, serials_room, n);
-      names_room = omega (arith, names_room, n);
-      gaps_room = omega (arith, gaps_room, n);
+      serials = rw no_serial (lists-nil nat_cmp (IsKeyed (λ (x : Loaded T). x.ident.serial) cells) (λ place keyed. nothing place.1 keyed.0 keyed.1));
+      names = rw no_name (lists-nil (name.ghosts).cmp (IsKeyed (λ (x : Loaded T). called x.value) cells) (λ place keyed. nothing place.1 keyed.0 keyed.1));
+      gaps = rw no_free (lists-nil nat_cmp (IsFree cells) (λ place it. absurd (omega (arith, it.0, ap length no_cell))));
+      serials_len = rw (no_serial, no_cell) refl;
+      names_len = rw (no_name, no_cell) refl;
+      gaps_len = rw (no_free, no_cell) refl;
     }
 
 -- in an index a key stands with one slot
@@ -421,9 +395,9 @@ one_slot {T} {K} cmp itself key cells places lists i j a b at_i at_j same =
     ]
 
 -- what the invariant says to callers
-pub proper : {T : Type 0} (called : T → Name) (itself : (a : Name) → (name.ghosts).cmp a a ≡ Equal) (table : Table T) (by_serial : Vec (ℕ × ℕ) Global) (by_name : Vec (Name × ℕ) Global) (free : Vec (ℕ × Unit {0}) Global) → IsSound called table.kind table.cells by_serial by_name free → IsProper called table
+pub proper : {T : Type 0} (called : T → Name) (itself : (a : Name) → (name.ghosts).cmp a a ≡ Equal) (table : Table T) (by_serial : Sorted ℕ ℕ) (by_name : Sorted Name ℕ) (free : Sorted ℕ (Unit {0})) → IsSound called table.kind table.cells by_serial by_name free → IsProper called table
 proper {T} called itself table by_serial by_name free sound = record {
   placed = sound.placed;
-  one_serial = one_slot nat_cmp (tied_itself nat_cmp_total) (λ (x : Loaded T). x.ident.serial) table.cells by_serial.items sound.serials;
-  one_name = one_slot (name.ghosts).cmp itself (λ (x : Loaded T). called x.value) table.cells by_name.items sound.names;
+  one_serial = one_slot nat_cmp (tied_itself nat_cmp_total) (λ (x : Loaded T). x.ident.serial) table.cells by_serial.entries sound.serials;
+  one_name = one_slot (name.ghosts).cmp itself (λ (x : Loaded T). called x.value) table.cells by_name.entries sound.names;
 }

@@ -1,5 +1,5 @@
 -- What stands in the slots of a kind.
-use Rattle.std.specs.Prelude.{◌≡◌, ◌≢◌, ℕ, ◌<◌, ◌≤◌, Bool, false, List, length, slice_index_or, slice_set, Option, Some, None, option_map, IsSome, Contains}
+use Rattle.std.specs.Prelude.{◌≡◌, ◌≢◌, ℕ, ◌<◌, ◌≤◌, Bool, false, List, length, slice_index_or, slice_set, Option, Some, None, option_map, IsSome, Contains, filter_map}
 use Rattle.cache_ident.specs.declared.idents.Ident.{Ident}
 use Rattle.cache_ident.specs.declared.names.Name.{Name}
 use Rattle.slot_cache.specs.declared.loaded.Loaded.{Loaded}
@@ -21,6 +21,10 @@ module _ {T : Type 0} where
   abbrev pub changed : List (Option (Loaded T)) → ℕ → (Loaded T → Loaded T) → List (Option (Loaded T))
   changed cells slot change = slice_set cells slot (option_map change (cell_at cells slot))
 
+  -- what is loaded, in order of slot
+  abbrev pub loaded_in : List (Option (Loaded T)) → List (Loaded T)
+  loaded_in cells = filter_map (λ cell. cell) cells
+
   -- the same descriptor with another content
   abbrev pub with_value : T → Loaded T → Loaded T
   with_value value loaded = record { ident = loaded.ident; value = value; locked = loaded.locked }
@@ -40,6 +44,14 @@ module _ {T : Type 0} where
   -- what stands at the slot, if anything, has that lock
   abbrev pub LockIs : List (Option (Loaded T)) → ℕ → Bool → Type 0
   LockIs cells slot locked = (loaded : Loaded T) → cell_at cells slot ≡ Some loaded → loaded.locked ≡ locked
+
+  -- a call with the content gave that result, and what it left of the content stands in its place
+  pub record IsUpdated {R : Type 0} (call : T → R → T → Type 0) (old new : List (Option (Loaded T))) (ident : Ident) (result : R) : Type 0 where
+    pub value : T
+    pub was : IsContent old ident value
+    pub left : T
+    pub called : call value result left
+    pub is : new ≡ changed old ident.slot (with_value left)
 
   -- the slot is free, and each one below is taken
   pub record IsLowestFree (cells : List (Option (Loaded T))) (slot : ℕ) : Type 0 where
@@ -90,11 +102,10 @@ module _ {T : Type 0} (called : T → Name) where
   abbrev pub NameIs : List (Option (Loaded T)) → ℕ → Name → Type 0
   NameIs cells slot name = (loaded : Loaded T) → cell_at cells slot ≡ Some loaded → called loaded.value ≡ name
 
+  -- a call with what stands at the slot leaves its name
+  abbrev pub KeepsName : {R : Type 0} → (T → R → T → Type 0) → List (Option (Loaded T)) → ℕ → Type 0
+  KeepsName {R} call cells slot = (loaded : Loaded T) (result : R) (left : T) → cell_at cells slot ≡ Some loaded → call loaded.value result left → called left ≡ called loaded.value
+
   -- the identifier is that of the loaded descriptor of that name
   abbrev pub IsFoundAs : List (Option (Loaded T)) → Name → Ident → Type 0
   IsFoundAs cells name ident = (loaded : Loaded T) × (cell_at cells ident.slot ≡ Some loaded) × (loaded.ident ≡ ident) × (called loaded.value ≡ name)
-
--- the numbers below n, in order
-pub record IsCounted (numbers : List (ℕ × Unit {0})) (n : ℕ) : Type 0 where
-  pub len : length numbers ≡ n
-  pub each : (k : ℕ) (d : ℕ × Unit {0}) → k < n → (slice_index_or numbers k d).0 ≡ k

@@ -1,23 +1,16 @@
 -- Lists of keys with values in the order of the keys, and what an edit leaves.
-use Rattle.std.specs.Prelude.{◌≡◌, ◌≢◌, ℕ, ◌+◌, ◌<◌, ◌≤◌, ◌⊎◌, List, length, slice_index_or, Contains}
+use Rattle.std.specs.Prelude.{◌≡◌, ◌≢◌, ℕ, ◌+◌, ◌<◌, ◌⊎◌, List, length, slice_index_or, Contains}
 use Rattle.std.specs.declared.cmp.Ordering.{Ordering}
-use Rattle.std.specs.declared.cmp.Ordering.TheVariants.{Less, Equal, Greater}
+use Rattle.std.specs.declared.cmp.Ordering.TheVariants.{Less, Equal}
 
 module _ {K V : Type 0} (cmp : K → K → Ordering) where
   -- each key is below those after it
   abbrev pub IsRising : List (K × V) → Type 0
   IsRising places = (i j : ℕ) (d : K × V) → i < j → j < length places → cmp (slice_index_or places i d).0 (slice_index_or places j d).0 ≡ Less
 
-  -- the place i has the key
-  pub record IsFoundAt (places : List (K × V)) (key : K) (i : ℕ) : Type 0 where
-    pub within : i < length places
-    pub has_key : (d : K × V) → cmp (slice_index_or places i d).0 key ≡ Equal
-
-  -- the key would go at i: what is before it is below, and what is from it on is above
-  pub record IsGapFor (places : List (K × V)) (key : K) (i : ℕ) : Type 0 where
-    pub within : i ≤ length places
-    pub below : (k : ℕ) (d : K × V) → k < i → cmp (slice_index_or places k d).0 key ≡ Less
-    pub above : (k : ℕ) (d : K × V) → i ≤ k → k < length places → cmp (slice_index_or places k d).0 key ≡ Greater
+  -- the value stands under the key
+  abbrev pub IsKeyOf : List (K × V) → K → V → Type 0
+  IsKeyOf places key value = (place : K × V) × Contains places place × (cmp place.0 key ≡ Equal) × (place.1 ≡ value)
 
 -- the new list has x too, and nothing else that the old one hadn't
 pub record IsInserted {X : Type 0} (old new : List X) (x : X) : Type 0 where

@@ -1,11 +1,12 @@
 -- What a contract sees of slots, and what holds of their indexes.
-use Rattle.std.specs.Prelude.{◌≡◌, ℕ, ◌+◌, ◌<◌, ◌≤◌, ◌^◌, List, length, Option, Some, None, count_by, is_some, Contains, Vec, vec_len, vec_capacity}
+use Rattle.std.specs.Prelude.{◌≡◌, ℕ, ◌+◌, ◌-◌, ◌<◌, ◌≤◌, ◌^◌, List, ◌++◌, length, replicate, Option, Some, None, count_by, is_some, Contains, Vec, vec_capacity}
 use Rattle.std.specs.declared.cmp.Ordering.{Ordering}
 use Rattle.std.specs.Ordering.{nat_cmp}
 use Rattle.std.specs.declared.alloc.Global.{Global}
 use Rattle.cache_ident.specs.declared.idents.Kind.{Kind}
 use Rattle.cache_ident.specs.declared.names.Name.{Name}
 use Rattle.cache_ident.specs.contracts.names.NameOrd.TheImpl as name
+use Rattle.sorted_list.specs.Sorted.{Sorted}
 use Rattle.slot_cache.specs.declared.loaded.Loaded.{Loaded}
 use Rattle.slot_cache.specs.Index.{IsRising}
 use Rattle.slot_cache.specs.Cells.{cell_at}
@@ -39,16 +40,32 @@ pub record IsProper {T : Type 0} (called : T → Name) (table : Table T) : Type 
   pub one_serial : (i j : ℕ) (a b : Loaded T) → cell_at table.cells i ≡ Some a → cell_at table.cells j ≡ Some b → a.ident.serial ≡ b.ident.serial → i ≡ j
   pub one_name : (i j : ℕ) (a b : Loaded T) → cell_at table.cells i ≡ Some a → cell_at table.cells j ≡ Some b → called a.value ≡ called b.value → i ≡ j
 
--- the three lists list what is loaded by serial and by name, and what is free, and have room for all
-pub record IsSound {T : Type 0} (called : T → Name) (kind : Kind) (cells : List (Option (Loaded T))) (by_serial : Vec (ℕ × ℕ) Global) (by_name : Vec (Name × ℕ) Global) (free : Vec (ℕ × Unit {0}) Global) : Type 0 where
-  pub few : length cells < 2 ^ 32
+-- so many slots, of which those that were never used are not written
+unfoldable pub padded : {T : Type 0} → ℕ → List (Option (Loaded T)) → List (Option (Loaded T))
+padded cap cells = cells ++ replicate (cap - length cells) None
+
+-- cells with nothing in them were added where there was none for the slot, and no more
+pub record IsGrown {T : Type 0} (old new : List (Option (Loaded T))) (slot : ℕ) : Type 0 where
+  pub more : ℕ
+  pub is : new ≡ old ++ replicate more None
+  pub reaches : slot < length new
+  pub few : (cap : ℕ) → length old ≤ cap → slot < cap → length new ≤ cap
+
+-- the three lists list what is loaded by serial and by name, and what is free of the cells that are written
+pub record IsSound {T : Type 0} (called : T → Name) (kind : Kind) (cells : List (Option (Loaded T))) (by_serial : Sorted ℕ ℕ) (by_name : Sorted Name ℕ) (free : Sorted ℕ (Unit {0})) : Type 0 where
   pub placed : IsPlaced kind cells
-  pub serials : Lists nat_cmp (IsKeyed (λ loaded. loaded.ident.serial) cells) by_serial.items
-  pub names : Lists (name.ghosts).cmp (IsKeyed (λ loaded. called loaded.value) cells) by_name.items
-  pub gaps : Lists nat_cmp (IsFree cells) free.items
-  pub serials_len : vec_len by_serial ≡ count_by is_some cells
-  pub names_len : vec_len by_name ≡ count_by is_some cells
-  pub gaps_len : vec_len free + count_by is_some cells ≡ length cells
-  pub serials_room : length cells ≤ vec_capacity by_serial
-  pub names_room : length cells ≤ vec_capacity by_name
-  pub gaps_room : length cells ≤ vec_capacity free
+  pub serials : Lists nat_cmp (IsKeyed (λ loaded. loaded.ident.serial) cells) by_serial.entries
+  pub names : Lists (name.ghosts).cmp (IsKeyed (λ loaded. called loaded.value) cells) by_name.entries
+  pub gaps : Lists nat_cmp (IsFree cells) free.entries
+  pub serials_len : length by_serial.entries ≡ count_by is_some cells
+  pub names_len : length by_name.entries ≡ count_by is_some cells
+  pub gaps_len : length free.entries + count_by is_some cells ≡ length cells
+
+-- and there is room for all slots
+pub record IsRoomy {T : Type 0} (cap : ℕ) (cells : Vec (Option (Loaded T)) Global) (by_serial : Sorted ℕ ℕ) (by_name : Sorted Name ℕ) (free : Sorted ℕ (Unit {0})) : Type 0 where
+  pub small : cap < 2 ^ 32
+  pub few : length cells.items ≤ cap
+  pub cells_room : cap ≤ vec_capacity cells
+  pub serials_room : by_serial.room ≡ cap
+  pub names_room : by_name.room ≡ cap
+  pub gaps_room : free.room ≡ cap

@@ -1,49 +1,40 @@
-//! A list of values in the order of their keys, no key twice. Its room is made once.
+//! A sorted list in which no key stands twice.
 
-ghost use Rattle.std.specs.Prelude.{◌≡◌, ◌≢◌, ◌+◌, ◌<◌, ◌≤◌, Contains, All, IfOk, IfErr, vec_len, vec_capacity};
+ghost use Rattle.std.specs.Prelude.{◌≡◌, ◌≢◌, ◌+◌, ◌<◌, Contains, All, IfSome, IfNone, length};
 ghost use Rattle.std.specs.declared.cmp.Ordering.TheVariants.{Equal};
-ghost use Rattle.slot_cache.specs.Index.{IsRising, IsFoundAt, IsGapFor, IsInserted, IsRemoved};
+ghost use Rattle.slot_cache.specs.Index.{IsRising, IsKeyOf, IsInserted, IsRemoved};
 
-/// Where the key is, or where it would go.
-pub(crate) fn search<K: Ord + Copy, V>(index: &[(K, V)], key: &K) -> Result<usize, usize>
-    requires { IsRising K.cmp index.now }
-    ensures found { IfOk result (IsFoundAt K.cmp index.now key.now) }
-    ensures absent { IfErr result (IsGapFor K.cmp index.now key.now) }
+use sorted_list::SortedList;
+
+/// The value of the key.
+pub(crate) fn search<K: Ord + Copy, V: Ord + Copy>(index: &SortedList<K, V>, key: &K) -> Option<V>
+    ensures found { IfSome result (IsKeyOf K.cmp index.now.entries key.now) }
+    ensures absent { IfNone result (All (λ place. K.cmp place.0 key.now ≢ Equal) index.now.entries) }
 {
-    index.binary_search_by_key(key, |place| place.0)
+    index.find(key)
 }
 
 /// Puts the value at its key. There is room, so no memory is taken.
-pub(crate) fn insert<K: Ord + Copy, V: Drop>(index: &mut Vec<(K, V)>, key: K, value: V)
-    requires rising { IsRising K.cmp index.old.items }
-    requires absent { All (λ place. K.cmp place.0 key ≢ Equal) index.old.items }
-    requires room { vec_len index.old < vec_capacity index.old }
-    ensures rising { IsRising K.cmp index.new.items }
-    ensures inserted { IsInserted index.old.items index.new.items (key, value) }
-    ensures len { vec_len index.new ≡ vec_len index.old + 1 }
-    ensures capacity { vec_capacity index.old ≤ vec_capacity index.new }
+pub(crate) fn insert<K: Ord + Copy, V: Ord + Copy>(index: &mut SortedList<K, V>, key: K, value: V)
+    requires rising { IsRising K.cmp index.old.entries }
+    requires absent { All (λ place. K.cmp place.0 key ≢ Equal) index.old.entries }
+    requires room { length index.old.entries < index.old.room }
+    ensures rising { IsRising K.cmp index.new.entries }
+    ensures inserted { IsInserted index.old.entries index.new.entries (key, value) }
+    ensures len { length index.new.entries ≡ length index.old.entries + 1 }
+    ensures room { index.new.room ≡ index.old.room }
 {
-    match search(index, &key) {
-        Ok(_) => unreachable!(),
-        Err(at) => {
-            let _ = index.insert(at, (key, value));
-        }
-    }
+    index.insert(key, value);
 }
 
 /// Takes out a key with its value.
-pub(crate) fn remove<K: Ord + Copy, V: Drop>(index: &mut Vec<(K, V)>, place: (K, V))
-    requires rising { IsRising K.cmp index.old.items }
-    requires there { Contains index.old.items place }
-    ensures rising { IsRising K.cmp index.new.items }
-    ensures removed { IsRemoved index.old.items index.new.items place }
-    ensures len { vec_len index.new + 1 ≡ vec_len index.old }
-    ensures capacity { vec_capacity index.new ≡ vec_capacity index.old }
+pub(crate) fn remove<K: Ord + Copy, V: Ord + Copy>(index: &mut SortedList<K, V>, key: K, value: V)
+    requires rising { IsRising K.cmp index.old.entries }
+    requires there { Contains index.old.entries (key, value) }
+    ensures rising { IsRising K.cmp index.new.entries }
+    ensures removed { IsRemoved index.old.entries index.new.entries (key, value) }
+    ensures len { length index.new.entries + 1 ≡ length index.old.entries }
+    ensures room { index.new.room ≡ index.old.room }
 {
-    match search(index, &place.0) {
-        Ok(at) => {
-            let _ = index.remove(at);
-        }
-        Err(_) => unreachable!(),
-    }
+    index.remove(key, value);
 }

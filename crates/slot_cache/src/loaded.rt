@@ -1,13 +1,19 @@
 //! What a slot holds.
 
 ghost use Rattle.std.specs.Prelude.{◌≡◌};
+ghost use Rattle.cache_ident.specs.declared.idents.Kind.{Kind};
 ghost use Rattle.cache_ident.specs.declared.names.Name.{Name};
 
-use cache_ident::{Ident, Name};
+use cache_ident::{Ident, Kind, Name};
 
-/// A record that has a name. Equal names mean one descriptor.
+/// A record of one kind that has a name. Equal names mean one descriptor.
 pub trait Descriptor {
+    ghost KIND: { Kind };
+
     ghost called: { Self → Name };
+
+    /// The kind of all such records.
+    const KIND: Kind;
 
     /// The name under which it was declared.
     fn name(&self) -> Name

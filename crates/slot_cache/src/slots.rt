@@ -1,12 +1,16 @@
 //! The slots of one kind, with what is loaded in them.
 
-ghost use Rattle.std.specs.Prelude.{◌≡◌, ◌<◌, ◌≤◌, ◌↔◌, replicate, length, count_by, is_some, slice_set, slice_index_or, Contains, IfOk, IfSome, IfNone, IsTrue, vec_len, vec_capacity};
-ghost use Rattle.slot_cache.specs.Cells.{cell_at, changed, filled, just_loaded, with_lock, with_value, HasNoName, HasNoSerial, IsContent, IsFoundAs, IsFull, IsLoaded, IsLowestFree, IsVictim, LockIs, MayGo, MayNotGo, NameIs, NoneMayGo, IsCounted};
-ghost use Rattle.slot_cache.specs.Table.{IsProper};
+ghost use Rattle.std.specs.Prelude.{◌≡◌, ◌+◌, ◌<◌, ◌≤◌, ◌↔◌, replicate, length, count_by, is_some, slice_set, Contains, IfOk, IfSome, IfNone, IsTrue, vec_capacity};
+ghost use Rattle.std.specs.Fn.{FnOnceReturnsAtMut};
+ghost use Rattle.std.specs.Ordering.{nat_cmp};
+ghost use Rattle.slot_cache.specs.Cells.{cell_at, changed, filled, just_loaded, with_lock, with_value, HasNoName, HasNoSerial, IsContent, IsFoundAs, IsFull, IsLoaded, IsLowestFree, IsUpdated, IsVictim, KeepsName, loaded_in, LockIs, MayGo, MayNotGo, NameIs, NoneMayGo};
+ghost use Rattle.slot_cache.specs.Table.{IsFree, IsGrown, IsProper, Lists};
 
 use super::index;
+use super::iter::Iter;
 use super::loaded::{Descriptor, Loaded};
 use cache_ident::{Ident, Kind, Name, NoMemory};
+use sorted_list::SortedList;
 use std::alloc::Global;
 use std::marker::Model;
 use std::mem;
@@ -18,12 +22,14 @@ use std::mem;
 #[derive(Drop)]
 pub struct Slots<T: Descriptor> {
     kind: Kind,
+    cap: u32,
+    // The slots up to the last one that was ever used. Those behind are free, and not written yet.
     cells: Vec<Option<Loaded<T>>>,
     // The slots that hold something, in the order of serials and in that of names.
-    by_serial: Vec<(u64, u32)>,
-    by_name: Vec<(Name, u32)>,
-    // The other slots, in order.
-    free: Vec<(u32, ())>,
+    by_serial: SortedList<u64, u32>,
+    by_name: SortedList<Name, u32>,
+    // The other slots of `cells`.
+    free: SortedList<u32, ()>,
 }
 
 impl<T: Descriptor> Model for Slots<T> {
@@ -31,38 +37,51 @@ impl<T: Descriptor> Model for Slots<T> {
 
     ghost Value = { Table T };
 
-    ghost use Rattle.slot_cache.specs.Table.{IsSound};
+    ghost use Rattle.slot_cache.specs.Table.{padded, IsRoomy, IsSound};
 
-    ghost view = { λ slots. record { kind = slots.kind; cells = slots.cells.items } };
+    ghost view = { λ slots. record { kind = slots.kind; cells = padded slots.cap slots.cells.items } };
 
-    ghost invariant = { λ slots. IsSound T.called slots.kind slots.cells.items slots.by_serial slots.by_name slots.free };
+    ghost invariant = { λ slots. IsSound T.called slots.kind slots.cells.items slots.by_serial slots.by_name slots.free × IsRoomy slots.cap slots.cells slots.by_serial slots.by_name slots.free };
 }
 
 impl<T: Descriptor + Drop> Slots<T> {
-    /// As many free slots as `cap`, for descriptors of that kind.
+    /// As many free slots as `cap`, for descriptors of that kind. It writes none of them, so its time doesn't grow with
+    /// `cap`.
     pub fn new(alloc: Global, kind: Kind, cap: u32) -> Result<Slots<T>, NoMemory>
         ensures { IfOk result (λ slots. slots ≡ record { kind = kind; cells = replicate cap None }) }
     {
+        let room = cap as usize;
+        let cells = Vec::with_capacity(alloc, room)?;
+        let by_serial = SortedList::new(alloc, room)?;
+        let by_name = SortedList::new(alloc, room)?;
+        let free = SortedList::new(alloc, room)?;
         Ok(Slots {
             kind,
-            cells: empty_cells(alloc, cap)?,
-            by_serial: Vec::with_capacity(alloc, cap as usize)?,
-            by_name: Vec::with_capacity(alloc, cap as usize)?,
-            free: numbers(alloc, cap)?,
+            cap,
+            cells,
+            by_serial,
+            by_name,
+            free,
         })
     }
 
-    /// The lowest free slot; `None` where all are taken. Constant time.
+    /// The lowest free slot; `None` where all are taken. Its time is logarithmic in the free slots below the highest
+    /// that was ever used.
     pub fn free(&self) -> Option<u32>
         ensures lowest { IfSome result (IsLowestFree self.now.cells) }
         ensures full { IfNone result (IsFull self.now.cells) }
+        ensures proper { IsProper T.called self.now }
     {
-        let place = self.free.first()?;
-        Some(place.0)
+        let written = self.cells.len() as u32;
+        match self.free.get(0) {
+            Some((slot, ())) => Some(slot),
+            None if written < self.cap => Some(written),
+            None => None,
+        }
     }
 
-    /// Loads a descriptor, not locked, into the slot of its identifier. It takes no memory; its time is
-    /// a few searches in what is loaded, and moves of the indexes behind it.
+    /// Loads a descriptor, not locked, into the slot of its identifier. It takes no memory, and its time is logarithmic
+    /// in what is loaded; where slots below were never used, those are written first.
     pub fn put(&mut self, ident: Ident, value: T)
         requires kind { ident.kind ≡ self.old.kind }
         requires below { ident.slot < length self.old.cells }
@@ -73,7 +92,8 @@ impl<T: Descriptor + Drop> Slots<T> {
     {
         let slot = ident.slot;
         let name = value.name();
-        index::remove(&mut self.free, (slot, ()));
+        reach(&mut self.cells, &mut self.free, slot);
+        index::remove(&mut self.free, slot, ());
         index::insert(&mut self.by_serial, ident.serial, slot);
         index::insert(&mut self.by_name, name, slot);
         self.cells[slot as usize] = Some(Loaded {
@@ -94,8 +114,8 @@ impl<T: Descriptor + Drop> Slots<T> {
         match cell.take() {
             Some(loaded) => {
                 let Loaded { ident, value, .. } = loaded;
-                index::remove(&mut self.by_serial, (ident.serial, slot));
-                index::remove(&mut self.by_name, (value.name(), slot));
+                index::remove(&mut self.by_serial, ident.serial, slot);
+                index::remove(&mut self.by_name, value.name(), slot);
                 index::insert(&mut self.free, slot, ());
                 value
             }
@@ -107,11 +127,9 @@ impl<T: Descriptor + Drop> Slots<T> {
     pub fn get(&self, ident: Ident) -> Option<&T>
         ensures content { IfSome result (λ value. IsContent self.now.cells ident value.now) }
         ensures absent { IfNone result (IsLoaded self.now.cells ident → ⊥) }
+        ensures proper { IsProper T.called self.now }
     {
-        match self.cells.get(ident.slot as usize) {
-            Some(Some(loaded)) if loaded.ident == ident => Some(&loaded.value),
-            _ => None,
-        }
+        content_at(&self.cells, ident)
     }
 
     /// Puts a content of the same name in the place of the one there, and gives the old one back. Slot,
@@ -129,32 +147,50 @@ impl<T: Descriptor + Drop> Slots<T> {
         }
     }
 
+    /// Changes a loaded content where it stands, and gives what the change gives. Slot, identifier, name and lock
+    /// stay. The record isn't moved.
+    pub fn update<R, F: FnOnce(&mut T) -> R>(&mut self, ident: Ident, change: F) -> R
+        requires loaded { IsLoaded self.old.cells ident }
+        requires callable { F.IsAlwaysCallable change }
+        requires name { KeepsName T.called (FnOnceReturnsAtMut F.FnOnce change) self.old.cells ident.slot }
+        ensures kind { self.new.kind ≡ self.old.kind }
+        ensures after { IsUpdated (FnOnceReturnsAtMut F.FnOnce change) self.old.cells self.new.cells ident result }
+    {
+        let cell = &mut self.cells[ident.slot as usize];
+        match cell {
+            Some(loaded) => change(&mut loaded.value),
+            None => unreachable!(),
+        }
+    }
+
     /// The identifier of the loaded descriptor of that name; `None` where it isn't loaded. One search.
     pub fn find(&self, name: Name) -> Option<Ident>
         ensures found { IfSome result (IsFoundAs T.called self.now.cells name) }
         ensures absent { IfNone result (HasNoName T.called self.now.cells name) }
+        ensures proper { IsProper T.called self.now }
     {
         match index::search(&self.by_name, &name) {
-            Ok(at) => {
-                let slot = self.by_name[at].1;
-                match &self.cells[slot as usize] {
-                    Some(loaded) => Some(loaded.ident),
-                    None => unreachable!(),
-                }
-            }
-            Err(_) => None,
+            Some(slot) => match &self.cells[slot as usize] {
+                Some(loaded) => Some(loaded.ident),
+                None => unreachable!(),
+            },
+            None => None,
         }
     }
 
     /// Of the loaded identifiers that are neither locked nor in `keep`, the one with the smallest serial;
-    /// `None` where each is locked or kept. It passes over locked and kept ones, and over no others.
+    /// `None` where each is locked or kept. It passes over locked and kept ones, and over no others, in a logarithmic
+    /// time for each.
     pub fn victim(&self, keep: &[Ident]) -> Option<Ident>
         ensures victim { IfSome result (IsVictim self.now.cells keep.now) }
         ensures none { IfNone result (NoneMayGo self.now.cells keep.now) }
+        ensures proper { IsProper T.called self.now }
     {
-        for place in &self.by_serial {
-            if let Some(ident) = may_go(&self.cells[place.1 as usize], keep) {
-                return Some(ident);
+        for place in 0..self.by_serial.len() {
+            if let Some((_, slot)) = self.by_serial.get(place) {
+                if let Some(ident) = may_go(&self.cells[slot as usize], keep) {
+                    return Some(ident);
+                }
             }
         }
         None
@@ -175,12 +211,21 @@ impl<T: Descriptor + Drop> Slots<T> {
     /// Whether a loaded descriptor is locked. Constant time.
     pub fn is_locked(&self, ident: Ident) -> bool
         requires { IsLoaded self.now.cells ident }
-        ensures { LockIs self.now.cells ident.slot result }
+        ensures locked { LockIs self.now.cells ident.slot result }
+        ensures proper { IsProper T.called self.now }
     {
-        match &self.cells[ident.slot as usize] {
-            Some(loaded) => loaded.locked,
-            None => unreachable!(),
-        }
+        let Some(loaded) = &self.cells[ident.slot as usize] else {
+            unreachable!()
+        };
+        loaded.locked
+    }
+
+    /// What is loaded, in order of slot. Going over it takes as many steps as the highest slot that was ever used.
+    pub fn iter(&self) -> Iter<'_, T>
+        ensures loaded { result ≡ loaded_in self.now.cells }
+        ensures proper { IsProper T.called self.now }
+    {
+        Iter::new(&self.cells)
     }
 
     /// How many are loaded. Constant time.
@@ -192,28 +237,34 @@ impl<T: Descriptor + Drop> Slots<T> {
     }
 }
 
-// As many cells with nothing in them.
-fn empty_cells<T: Drop>(alloc: Global, cap: u32) -> Result<Vec<Option<Loaded<T>>>, NoMemory>
-    ensures { IfOk result (λ cells. cells.items ≡ replicate cap None) }
+// Writes cells with nothing in them up to that of the slot, and lists them as free.
+fn reach<T: Drop>(cells: &mut Vec<Option<Loaded<T>>>, free: &mut SortedList<u32, ()>, slot: u32)
+    requires room { slot < vec_capacity cells.old }
+    requires listed { Lists nat_cmp (IsFree cells.old.items) free.old.entries }
+    requires free_room { slot < free.old.room }
+    requires few { length free.old.entries ≤ length cells.old.items }
+    ensures grown { IsGrown cells.old.items cells.new.items slot }
+    ensures capacity { vec_capacity cells.old ≤ vec_capacity cells.new }
+    ensures listed { Lists nat_cmp (IsFree cells.new.items) free.new.entries }
+    ensures len { length free.new.entries + length cells.old.items ≡ length free.old.entries + length cells.new.items }
+    ensures free_room { free.new.room ≡ free.old.room }
 {
-    let mut cells = Vec::with_capacity(alloc, cap as usize)?;
-    for _ in 0..cap {
-        cells.push(None)?;
+    while cells.len() <= slot as usize {
+        let next = cells.len() as u32;
+        index::insert(free, next, ());
+        let _ = cells.push(None);
     }
-    Ok(cells)
 }
 
-// All numbers below `cap`.
-fn numbers(alloc: Global, cap: u32) -> Result<Vec<(u32, ())>, NoMemory>
-    ensures counted { IfOk result (λ free. IsCounted free.items cap) }
-    ensures len { IfOk result (λ free. vec_len free ≡ cap) }
-    ensures capacity { IfOk result (λ free. cap ≤ vec_capacity free) }
+// What stands in the slot of the identifier and has it.
+fn content_at<T>(cells: &[Option<Loaded<T>>], ident: Ident) -> Option<&T>
+    ensures content { IfSome result (λ value. IsContent cells.now ident value.now) }
+    ensures absent { IfNone result (IsLoaded cells.now ident → ⊥) }
 {
-    let mut free = Vec::with_capacity(alloc, cap as usize)?;
-    for slot in 0..cap {
-        free.push((slot, ()))?;
+    match cells.get(ident.slot as usize) {
+        Some(Some(loaded)) if loaded.ident == ident => Some(&loaded.value),
+        _ => None,
     }
-    Ok(free)
 }
 
 // The identifier in the cell, if it is neither locked nor kept.

@@ -1,22 +1,25 @@
-use Rattle.slot_cache.proofs.IndexLemmas.{rising-insert, inserted}
+use Rattle.std.proofs.Common.{◌≡◌, ◌+◌, length, sym, subst, ap, ◌∙◌, arith}
+use Rattle.std.specs.List.{insert}
+use Rattle.std.proofs.lemmas.List.Edits.{length-insert}
+use Rattle.slot_cache.specs.Index.{IsInserted, IsRising}
+use Rattle.slot_cache.proofs.IndexLemmas.{absent_entry, inserted, rising_with}
 use Rattle.slot_cache.proofs.index.insert.Goals as goal
 
--- no place has the key
-pub unreachable-requires : goal.unreachable-requires
-unreachable-requires g c =
-    let found = rw c.deref.ensures.value at c.in-Ok.ensures.found in
-    let place : g.row.K.Denot × g.row.V.Denot = (c.args.key, c.args.value) in
-    c.requires.absent c.in-Ok.field-0 place found.within (found.has_key place)
+pub insert-requires-clause-absent : goal.insert-requires-clause-absent
+insert-requires-clause-absent g c = absent_entry g.K.Ord.cmp g.met.K.Ord.total g.V.Ord.cmp c.args.index.now.entries c.args.key c.args.value c.requires.absent
 
--- there is room, so the place was written
 pub returns-clause-rising : goal.returns-clause-rising
 returns-clause-rising g c =
-    let gap = rw c.deref.ensures.value at c.in-Err.ensures.absent in
-    let written = rw (c.insert.ensures.succeeds c.requires.room) at c.insert.ensures.items in
-    rw written (rising-insert g.K.Ord.cmp g.met.K.Ord.total c.args.index.now.items c.args.key c.args.value c.in-Err.at c.requires.rising gap)
+    let e = c.insert.ensures.entries in
+    let proper = rw e.2 at c.insert.ensures.proper.rising in
+    rw e.2 (rising_with g.K.Ord.cmp g.met.K.Ord.total g.V.Ord.cmp c.args.index.now.entries c.args.key c.args.value e.0 e.1 c.requires.rising c.requires.absent proper)
 
 pub returns-clause-inserted : goal.returns-clause-inserted
 returns-clause-inserted g c =
-    let gap = rw c.deref.ensures.value at c.in-Err.ensures.absent in
-    let written = rw (c.insert.ensures.succeeds c.requires.room) at c.insert.ensures.items in
-    rw written (inserted c.args.index.now.items c.in-Err.at (c.args.key, c.args.value) gap.within)
+    let e = c.insert.ensures.entries in
+    rw e.2 (inserted c.args.index.now.entries e.0 (c.args.key, c.args.value) e.1)
+
+pub returns-clause-len : goal.returns-clause-len
+returns-clause-len g c =
+    let e = c.insert.ensures.entries in
+    rw e.2 (length-insert c.args.index.now.entries e.0 (c.args.key, c.args.value) e.1)

@@ -1,11 +1,8 @@
-use Rattle.std.proofs.Common.{rules}
-use Rattle.std.proofs.lemmas.List.Sorted.{answers_always}
-use Rattle.slot_cache.proofs.IndexLemmas.{searched}
+use Rattle.slot_cache.proofs.IndexLemmas.{absent_key_of, found_key}
 use Rattle.slot_cache.proofs.index.search.Goals as goal
 
--- the closure gives a place's key
-pub returns : goal.returns
-returns g c =
-    let facts = c.binary_search_by_key.ensures in
-    let by_key = facts.position (λ place. place.0) (answers_always _ _ _ (λ f a r h called. search rules)) in
-    searched g.K.Ord.cmp g.met.K.Ord.total c.args.index.now c.args.key.now c.requires _ facts.bound by_key
+pub returns-clause-found : goal.returns-clause-found
+returns-clause-found g c = found_key g.K.Ord.cmp g.K.PartialEq.eq g.met.K.Ord.matches_eq c.args.index.now.entries c.args.key.now c.find.result c.find.ensures.value
+
+pub returns-clause-absent : goal.returns-clause-absent
+returns-clause-absent g c = absent_key_of g.K.Ord.cmp g.K.PartialEq.eq g.met.K.Ord.matches_eq c.args.index.now.entries c.args.key.now c.find.result c.find.ensures.value

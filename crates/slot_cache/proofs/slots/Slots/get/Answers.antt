@@ -1,9 +1,19 @@
-use Rattle.std.proofs.Common.{None, sym, ◌∙◌, refl}
-use Rattle.cache_ident.proofs.RollLemmas.{same_ident}
+use Rattle.slot_cache.proofs.PadLemmas.{content_padded, proper_seen, unloaded_padded}
 use Rattle.slot_cache.proofs.slots.Slots.get.Goals as goal
 
--- the cell of the slot was read, and its identifier is the one that was asked for
-pub returns-in-Some-Some-clause-content : goal.returns-in-Some-Some-clause-content
-returns-in-Some-Some-clause-content g c =
-    let look = rw c.deref.ensures.value at c.in-Some-Some.ensures.lookup.3.1 None in
-    (c.in-Some-Some.loaded, rw (← c.self.view_is) (sym look ∙ c.in-Some-Some.field-0-is), same_ident _ _ (sym c.if-eq.ensures), refl)
+pub returns-clause-content : goal.returns-clause-content
+returns-clause-content g c =
+    let i = c.self.inside in
+    let content = rw c.deref.ensures.value at c.content_at.ensures.content in
+    rw (← c.self.view_is) (content_padded i.cap i.cells.items c.args.ident (λ value. value.now) c.content_at.result content)
+
+pub returns-clause-absent : goal.returns-clause-absent
+returns-clause-absent g c =
+    let i = c.self.inside in
+    let absent = rw c.deref.ensures.value at c.content_at.ensures.absent in
+    rw (← c.self.view_is) (unloaded_padded i.cap i.cells.items c.args.ident c.content_at.result absent)
+
+pub returns-clause-proper : goal.returns-clause-proper
+returns-clause-proper g c =
+    let i = c.self.inside in
+    proper_seen g.T.Descriptor.called i.kind i.cap i.cells.items i.by_serial i.by_name i.free _ c.self.invariant.0 c.self.view_is

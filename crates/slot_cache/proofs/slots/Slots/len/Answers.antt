@@ -1,6 +1,13 @@
-use Rattle.slot_cache.proofs.NameLemmas.{name_itself}
-use Rattle.slot_cache.proofs.SlotLemmas.{proper}
+use Rattle.std.proofs.Common.{◌≡◌, sym, ◌∙◌}
+use Rattle.slot_cache.proofs.PadLemmas.{pad_count, proper_seen}
 use Rattle.slot_cache.proofs.slots.Slots.len.Goals as goal
 
+pub returns-clause-len : goal.returns-clause-len
+returns-clause-len g c =
+    let i = c.self.inside in
+    rw (← c.self.view_is, pad_count i.cap i.cells.items) (c.len.ensures.len ∙ c.self.invariant.0.serials_len)
+
 pub returns-clause-proper : goal.returns-clause-proper
-returns-clause-proper g c = rw (← c.self.view_is) (proper g.T.Descriptor.called name_itself _ c.self.inside.by_serial c.self.inside.by_name c.self.inside.free c.self.invariant)
+returns-clause-proper g c =
+    let i = c.self.inside in
+    proper_seen g.T.Descriptor.called i.kind i.cap i.cells.items i.by_serial i.by_name i.free _ c.self.invariant.0 c.self.view_is

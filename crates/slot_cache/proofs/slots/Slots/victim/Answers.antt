@@ -1,41 +1,68 @@
-use Rattle.std.proofs.Common.{get_or, sym, subst, arith}
+use Rattle.std.proofs.Common.{◌≡◌, ◌<◌, ℕ, Some, get_or, length, sym, ◌∙◌, subst, arith}
 use Rattle.std.specs.Ordering.{nat_cmp}
 use Rattle.std.proofs.lemmas.List.{get_or_default}
-use Rattle.slot_cache.specs.Cells.{MayGo, MayNotGo}
+use Rattle.std.proofs.lemmas.Option.{get_or_from_slice_get, slice_get-get_or, slice_get_within}
+use Rattle.slot_cache.specs.Cells.{cell_at, MayGo, MayNotGo}
+use Rattle.slot_cache.specs.declared.loaded.Loaded.{Loaded}
+use Rattle.slot_cache.proofs.PadLemmas.{none_padded, proper_seen, victim_padded}
 use Rattle.slot_cache.proofs.SlotLemmas.{listed_within, read_cell, none_more, none_may_go, is_victim}
 use Rattle.slot_cache.proofs.slots.Slots.victim.Goals as goal
+use Rattle.slot_cache.proofs.slots.Slots.victim.Goals.{in-Some+in_default-may_go, in_default}
 
 pub index-requires : goal.index-requires
 index-requires g c =
-    let within = rw c.deref-place-items.ensures.value at c.loop-place-test.true in
-    let slot = listed_within nat_cmp _ _ _ c.self.invariant.serials c.loop-place.place-index (0, 0) within in
-    rw c.deref-place-items.ensures.value (omega (arith, slot, c.self.inside.cells.ok.0))
+    let i = c.self.inside in
+    let place : ℕ × ℕ = (c.in-Some.field-0-0, c.in-Some.slot) in
+    let read = sym c.get.ensures ∙ c.in-Some.is in
+    let at = get_or_from_slice_get i.by_serial.entries c.loop-place.place place place read in
+    let slot = listed_within nat_cmp (λ (x : Loaded g.row.T.Denot). x.ident.serial) i.cells.items i.by_serial.entries c.self.invariant.0.serials c.loop-place.place place (slice_get_within i.by_serial.entries c.loop-place.place place read) in
+    omega (arith, subst (λ (p : ℕ × ℕ). p.1 < length i.cells.items) at slot, i.cells.ok.0)
 
 -- the first that may go has the smallest serial
-pub returns-in-Some-clause-victim : goal.returns-in-Some-clause-victim
-returns-in-Some-clause-victim g c =
-    let places = c.self.inside.by_serial.items in
-    let n = c.loop-place.place-index in
-    let place = get_or places n (0, 0) in
-    let within = rw c.deref-place-items.ensures.value at c.loop-place-test.true in
-    let read = rw c.deref-place-items.ensures.value at c.index.ensures in
-    let slot = listed_within nat_cmp _ _ _ c.self.invariant.serials n (0, 0) within in
-    let cell = read_cell c.self.inside.cells.items place.1 c.index.result.now slot read in
-    let go = subst (λ cell. MayGo cell c.args.keep.now c.in-Some.ident) (sym cell) c.in-Some.ensures.some in
-    rw (← c.self.view_is) (is_victim c.self.inside.kind c.self.inside.cells.items places c.args.keep.now c.self.invariant.placed c.self.invariant.serials n place c.in-Some.ident within (get_or_default places n (0, 0) place within) c.loop-place.invariant go)
+pub returns-in-Some-may_go-clause-victim : goal.returns-in-Some-may_go-clause-victim
+returns-in-Some-may_go-clause-victim g c =
+    let i = c.self.inside in
+    let places = i.by_serial.entries in
+    let n = c.loop-place.place in
+    let place : ℕ × ℕ = (c.in-Some.field-0-0, c.in-Some.slot) in
+    let read = sym c.get.ensures ∙ c.in-Some.is in
+    let within = slice_get_within places n place read in
+    let at = get_or_from_slice_get places n place place read in
+    let slot = subst (λ (p : ℕ × ℕ). p.1 < length i.cells.items) at (listed_within nat_cmp (λ (x : Loaded g.row.T.Denot). x.ident.serial) i.cells.items places c.self.invariant.0.serials n place within) in
+    let cell = read_cell i.cells.items place.1 c.index.result.now slot c.index.ensures in
+    let go = subst (λ cell. MayGo cell c.args.keep.now c.in-Some-may_go.ident) (sym cell) c.in-Some-may_go.ensures.some in
+    rw (← c.self.view_is) (victim_padded i.cap i.cells.items c.args.keep.now c.in-Some-may_go.ident (is_victim i.kind i.cells.items places c.args.keep.now c.self.invariant.0.placed c.self.invariant.0.serials n place c.in-Some-may_go.ident within (sym at) c.loop-place.invariant go))
 
 pub loop-place-preserved : goal.loop-place-preserved
 loop-place-preserved g c =
-    let places = c.self.inside.by_serial.items in
-    let n = c.loop-place.place-index in
-    let place = get_or places n (0, 0) in
-    let within = rw c.deref-place-items.ensures.value at c.loop-place-test.true in
-    let read = rw c.deref-place-items.ensures.value at c.index.ensures in
-    let slot = listed_within nat_cmp _ _ _ c.self.invariant.serials n (0, 0) within in
-    let cell = read_cell c.self.inside.cells.items place.1 c.index.result.now slot read in
-    none_more c.self.inside.cells.items places c.args.keep.now n (0, 0) within c.loop-place.invariant (subst (λ cell. MayNotGo cell c.args.keep.now) (sym cell) c.in_default.ensures.none)
+    let i = c.self.inside in
+    let places = i.by_serial.entries in
+    let n = c.loop-place.place in
+    elim c.match-get.branch [
+      | in-Some+in_default-may_go w ↦
+          let place : ℕ × ℕ = (w.in-Some.field-0-0, w.in-Some.slot) in
+          let read = sym c.get.ensures ∙ w.in-Some.is in
+          let within = slice_get_within places n place read in
+          let at = get_or_from_slice_get places n place place read in
+          let slot = subst (λ (p : ℕ × ℕ). p.1 < length i.cells.items) at (listed_within nat_cmp (λ (x : Loaded g.row.T.Denot). x.ident.serial) i.cells.items places c.self.invariant.0.serials n place within) in
+          let cell = read_cell i.cells.items place.1 w.index.result.now slot w.index.ensures in
+          none_more i.cells.items places c.args.keep.now n place within c.loop-place.invariant (subst (λ (p : ℕ × ℕ). MayNotGo (cell_at i.cells.items p.1) c.args.keep.now) (sym at) (subst (λ cell. MayNotGo cell c.args.keep.now) (sym cell) w.in_default-may_go.ensures.none))
+      | in_default w ↦
+          let d : ℕ × ℕ = (0, 0) in
+          absurd (w.in_default.not-Some (get_or places n d) (c.get.ensures ∙ slice_get-get_or places n d (omega (arith, c.loop-place-test.true, c.len-place-end.ensures.len))))
+    ]
 
 pub returns-clause-none : goal.returns-clause-none
 returns-clause-none g c =
-    let all = rw c.deref-place-items.ensures.value at c.loop-place-test.false in
-    rw (← c.self.view_is) (none_may_go c.self.inside.kind c.self.inside.cells.items c.self.inside.by_serial.items c.args.keep.now c.self.invariant.placed c.self.invariant.serials c.loop-place.place-index all c.loop-place.invariant)
+    let i = c.self.inside in
+    rw (← c.self.view_is) (none_padded i.cap i.cells.items c.args.keep.now (none_may_go i.kind i.cells.items i.by_serial.entries c.args.keep.now c.self.invariant.0.placed c.self.invariant.0.serials c.loop-place.place (omega (arith, c.loop-place-test.false, c.len-place-end.ensures.len)) c.loop-place.invariant))
+
+pub returns-in-Some-may_go-clause-proper : goal.returns-in-Some-may_go-clause-proper
+returns-in-Some-may_go-clause-proper g c =
+    let i = c.self.inside in
+    proper_seen g.T.Descriptor.called i.kind i.cap i.cells.items i.by_serial i.by_name i.free _ c.self.invariant.0 c.self.view_is
+
+pub returns-clause-proper : goal.returns-clause-proper
+returns-clause-proper g c =
+    let i = c.self.inside in
+    proper_seen g.T.Descriptor.called i.kind i.cap i.cells.items i.by_serial i.by_name i.free _ c.self.invariant.0 c.self.view_is

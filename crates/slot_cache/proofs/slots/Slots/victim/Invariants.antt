@@ -3,4 +3,4 @@ use Rattle.slot_cache.proofs.slots.Slots.victim.Given as goal
 
 -- no descriptor of a smaller serial may go
 abbrev pub invariant-loop-place : goal.invariant-loop-place
-invariant-loop-place g l = NoneBefore l.self-inside.cells.items l.self-inside.by_serial.items l.keep l.place-index
+invariant-loop-place g l = NoneBefore l.self-inside.cells.items l.self-inside.by_serial.entries l.keep l.place

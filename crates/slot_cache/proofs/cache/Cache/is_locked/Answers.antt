@@ -1,0 +1,4 @@
+use Rattle.slot_cache.proofs.cache.Cache.is_locked.Goals as goal
+
+pub is_locked-requires : goal.is_locked-requires
+is_locked-requires g c = rw c.self.view_is c.requires
