@@ -1,7 +1,4 @@
-use Rattle.std.proofs.Common.{◌≡◌, ◌+◌, length, sym, subst, ap, ◌∙◌, arith}
-use Rattle.std.specs.List.{insert}
 use Rattle.std.proofs.lemmas.List.Edits.{length-insert}
-use Rattle.slot_cache.specs.Index.{IsInserted, IsRising}
 use Rattle.slot_cache.proofs.IndexLemmas.{absent_entry, inserted, rising_with}
 use Rattle.slot_cache.proofs.index.insert.Goals as goal
 

@@ -1,5 +1,3 @@
-use Rattle.std.proofs.Common.{◌≡◌, ◌+◌, length, sym, subst, ap, ◌∙◌, arith}
-use Rattle.std.specs.List.{remove}
 use Rattle.std.proofs.lemmas.List.Edits.{length-remove}
 use Rattle.slot_cache.proofs.IndexLemmas.{once, removed, rising_without}
 use Rattle.slot_cache.proofs.index.remove.Goals as goal

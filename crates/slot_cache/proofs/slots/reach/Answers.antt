@@ -1,4 +1,4 @@
-use Rattle.std.proofs.Common.{◌≡◌, ◌+◌, ◌<◌, ◌≤◌, length, refl, sym, ◌∙◌, ap, arith}
+use Rattle.std.proofs.Common.{◌∙◌, arith}
 use Rattle.slot_cache.proofs.PadLemmas.{not_listed_yet, reaching_more, reaching_none}
 use Rattle.slot_cache.proofs.slots.reach.Goals as goal
 

@@ -1,4 +1,4 @@
-use Rattle.std.proofs.Common.{ℕ, ◌+◌, ◌-◌, ◌≤◌, vec_capacity}
+use Rattle.std.proofs.Common.{◌+◌, ◌-◌, ◌≤◌, vec_capacity}
 use Rattle.slot_cache.proofs.PadLemmas.{IsReaching}
 use Rattle.slot_cache.proofs.slots.reach.Given as goal
 

@@ -1,4 +1,4 @@
-use Rattle.std.proofs.Common.{Some, ap, ◌∙◌, refl, sym, arith}
+use Rattle.std.proofs.Common.{Some, ap, ◌∙◌, refl, arith}
 use Rattle.slot_cache.specs.declared.loaded.Loaded.{Loaded}
 use Rattle.cache_ident.specs.contracts.names.NameOrd.TheImpl as name
 use Rattle.slot_cache.specs.Cells.{cell_at}

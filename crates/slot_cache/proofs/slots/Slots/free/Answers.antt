@@ -1,4 +1,4 @@
-use Rattle.std.proofs.Common.{◌≡◌, ◌<◌, ◌≤◌, ℕ, None, Some, length, sym, ap, ◌∙◌, arith}
+use Rattle.std.proofs.Common.{ℕ, sym, ◌∙◌, arith}
 use Rattle.std.proofs.lemmas.Option.{get_or_from_slice_get, slice_get_within}
 use Rattle.slot_cache.proofs.PadLemmas.{full_padded, lowest_padded, lowest_unwritten, none_first, proper_seen}
 use Rattle.slot_cache.proofs.SlotLemmas.{is_full, is_lowest}

@@ -1,4 +1,4 @@
-use Rattle.std.proofs.Common.{◌≡◌, sym, ◌∙◌}
+use Rattle.std.proofs.Common.{◌∙◌}
 use Rattle.slot_cache.proofs.PadLemmas.{pad_count, proper_seen}
 use Rattle.slot_cache.proofs.slots.Slots.len.Goals as goal
 

@@ -1,7 +1,7 @@
-use Rattle.std.proofs.Common.{◌≡◌, ◌<◌, List, None, Some, Option, sym, ap, ◌∙◌, refl, arith}
+use Rattle.std.proofs.Common.{List, Option, sym, ap, ◌∙◌, refl, arith}
 use Rattle.slot_cache.specs.declared.loaded.Loaded.{Loaded}
-use Rattle.slot_cache.specs.Cells.{changed, with_lock, with_value}
-use Rattle.slot_cache.proofs.PadLemmas.{changed_among, pad_at, roomy-set, seen, unpad, unpad_loaded}
+use Rattle.slot_cache.specs.Cells.{changed, with_value}
+use Rattle.slot_cache.proofs.PadLemmas.{changed_among, pad_at, roomy-set, seen, unpad_loaded}
 use Rattle.slot_cache.proofs.SlotLemmas.{cell_within, not_none, one_at, read_cell, sound-changed}
 use Rattle.slot_cache.proofs.slots.Slots.replace.Goals as goal
 

@@ -1,4 +1,4 @@
-use Rattle.std.proofs.Common.{◌≡◌, ◌<◌, List, None, Some, Option, length, sym, ap, ◌∙◌, refl, arith}
+use Rattle.std.proofs.Common.{List, None, Option, sym, ap, ◌∙◌, refl, arith}
 use Rattle.std.specs.Ordering.{nat_cmp}
 use Rattle.std.specs.Prelude.{slice_set}
 use Rattle.std.proofs.lemmas.List.{length-set}

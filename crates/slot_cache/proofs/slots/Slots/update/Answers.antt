@@ -1,4 +1,4 @@
-use Rattle.std.proofs.Common.{◌≡◌, ◌<◌, List, None, Some, Option, sym, ap, ◌∙◌, refl, arith}
+use Rattle.std.proofs.Common.{ap, ◌∙◌, refl, arith}
 use Rattle.std.specs.Fn.{FnOnceReturnsAtMut}
 use Rattle.slot_cache.specs.declared.loaded.Loaded.{Loaded}
 use Rattle.slot_cache.specs.Cells.{with_value}
