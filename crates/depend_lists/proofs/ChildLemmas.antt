@@ -11,24 +11,19 @@ use Rattle.depend_lists.specs.declared.nodes.Node.{Node}
 use Rattle.depend_lists.specs.contracts.nodes.NodePartialEq.TheImpl as node_equality
 use Rattle.depend_lists.specs.contracts.nodes.NodeOrd.TheImpl.Laws as node_laws
 use Rattle.depend_lists.specs.Pairs.{children_of}
-use Rattle.depend_lists.proofs.ListLemmas.{Contains-cons_cases, Contains-filter, Contains-from_filter, Contains-from_map, Contains-later, Contains-map}
-use Rattle.depend_lists.proofs.PairLemmas.{one_node, same_pair}
+use Rattle.sorted_list.proofs.ListLemmas.{Contains-cons_cases, Contains-later}
+use Rattle.sorted_list.proofs.UnderLemmas.{entry_of_value, value_of_entry}
+use Rattle.depend_lists.proofs.PairLemmas.{one_node}
 use Rattle.depend_lists.proofs.MirrorLemmas.{equal}
 
 module _ (pairs : List (Ident × Node)) (parent : Ident) (node : Node) where
   -- each child of a parent makes a pair with it
   pub pair_of_child : Contains (children_of pairs parent) node → Contains pairs (parent, node)
-  pair_of_child there =
-      let of_parent = λ (p : Ident × Node). is_same p.0 parent in
-      let pair = Contains-from_map (λ (p : Ident × Node). p.1) (filter of_parent pairs) node there in
-      let kept = Contains-from_filter of_parent pairs pair.0 pair.1 in
-      subst (Contains pairs) (same_pair pair.0 (parent, node) (same_ident pair.0.0 parent kept.1) pair.2) kept.0
+  pair_of_child there = entry_of_value is_same same_ident pairs parent node there
 
   -- and each such pair makes a child
   pub child_of_pair : Contains pairs (parent, node) → Contains (children_of pairs parent) node
-  child_of_pair there =
-      let of_parent = λ (p : Ident × Node). is_same p.0 parent in
-      Contains-map (λ (p : Ident × Node). p.1) (filter of_parent pairs) (parent, node) (Contains-filter of_parent pairs (parent, node) there (is_same-refl parent))
+  child_of_pair there = value_of_entry is_same same_ident pairs parent (is_same-refl parent) node there
 
 -- nodes are equal where they are one
 node_eq : Node → Node → Bool

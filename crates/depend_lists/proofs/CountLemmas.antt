@@ -15,7 +15,7 @@ use Rattle.cache_ident.proofs.RollLemmas.{is_same-refl}
 use Rattle.depend_lists.specs.declared.nodes.Node.{Node}
 use Rattle.depend_lists.specs.declared.nodes.TheConstants.{MOST_PARENTS}
 use Rattle.depend_lists.specs.Pairs.{count_of, parent_count, IsWithin}
-use Rattle.depend_lists.proofs.ListLemmas.{Contains-cons_cases, Contains-first, Contains-from_filter}
+use Rattle.sorted_list.proofs.ListLemmas.{Contains-cons_cases, Contains-first, Contains-from_filter}
 
 module _ {X : Type 0} (key : X → Ident) (most : ℕ) where
   none : (xs : List X) → ((x : X) → Contains xs x → ⊥) → length xs ≡ 0

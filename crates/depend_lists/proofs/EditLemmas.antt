@@ -11,7 +11,7 @@ use Rattle.cache_ident.specs.declared.classes.Class.{Class}
 use Rattle.depend_lists.specs.declared.nodes.Node.{Node}
 use Rattle.depend_lists.specs.declared.nodes.TheConstants.{MOST_PARENTS}
 use Rattle.depend_lists.specs.Pairs.{count_of, parent_count, HasOneClass, IsProper, IsWithin}
-use Rattle.depend_lists.proofs.ListLemmas.{Contains-first, Contains-from_remove, Contains-insert_cases, Contains-later}
+use Rattle.sorted_list.proofs.ListLemmas.{Contains-first, Contains-from_remove, Contains-insert_cases, Contains-later}
 use Rattle.depend_lists.proofs.CountLemmas.{few_pairs}
 
 module _ (caps : Caps) (pairs : List (Ident × Node)) (old : IsProper (record { caps = caps; pairs = pairs })) (at : ℕ) (pair : Ident × Node) where

@@ -1,4 +1,3 @@
-pub mod ListLemmas
 pub mod PairLemmas
 pub mod CountLemmas
 pub mod EditLemmas

@@ -11,7 +11,7 @@ use Rattle.cache_ident.specs.declared.classes.Class.{Class}
 use Rattle.sorted_list.proofs.RisingLemmas.{filter_all}
 use Rattle.depend_lists.specs.declared.nodes.Node.{Node}
 use Rattle.depend_lists.specs.Indexes.{turned, turned_cmp, Mirrors}
-use Rattle.depend_lists.proofs.ListLemmas.{some_item, Contains-filter, Contains-from_filter}
+use Rattle.sorted_list.proofs.ListLemmas.{some_item, Contains-filter, Contains-from_filter}
 use Rattle.depend_lists.proofs.PairLemmas.{one_turned, turned_back, turned_itself}
 
 module _ {X : Type 0} (test : X → Bool) (xs : List X) where

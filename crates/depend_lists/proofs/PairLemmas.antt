@@ -1,8 +1,7 @@
 -- Pairs of parents and children: how they compare, and what an edit of their list leaves.
 use Rattle.std.proofs.Common.{◌≡◌, ◌≢◌, List, get_or, AllPairs, sym, ◌∙◌, ap, refl, rules}
-use Rattle.std.specs.declared.cmp.Ordering.{Ordering}
-use Rattle.std.specs.declared.cmp.Ordering.TheVariants.{Less, Equal, Greater}
-use Rattle.std.specs.Ordering.{is_eq, ordering_then}
+use Rattle.std.specs.declared.cmp.Ordering.TheVariants.{Equal}
+use Rattle.std.specs.Ordering.{is_eq}
 use Rattle.std.proofs.lemmas.Cmp.{tied_itself}
 use denote.Enum.Bare.{same_true}
 use Rattle.cache_ident.specs.declared.idents.Ident.{Ident}
@@ -17,20 +16,8 @@ use Rattle.cache_ident.specs.contracts.classes.ClassOrd.TheImpl.Laws as class_la
 use Rattle.depend_lists.specs.contracts.nodes.NodeOrd.TheImpl as node
 use Rattle.depend_lists.specs.contracts.nodes.NodeOrd.TheImpl.Laws as node_laws
 use Rattle.sorted_list.specs.Sorted.{IsRising}
+use Rattle.sorted_list.proofs.UnderLemmas.{both_tie, less≢equal, same_pair}
 use Rattle.depend_lists.specs.Indexes.{pair_cmp, turned, turned_cmp}
-
--- pairs of equal parts are equal
-pub same_pair : {A B : Type 0} (a b : A × B) → a.0 ≡ b.0 → a.1 ≡ b.1 → a ≡ b
-same_pair {A} {B} a b first second =
-    let by_first : A → A × B = λ x. (x, a.1) in
-    let by_second : B → A × B = λ y. (b.0, y) in
-    ap by_first first ∙ ap by_second second
-
--- where a second comparison decides a tie, both tie
-both_tie : (o next : Ordering) → ordering_then o next ≡ Equal → (o ≡ Equal) × (next ≡ Equal)
-both_tie Less next ties = absurd (cc)
-both_tie Equal next ties = (refl, ties)
-both_tie Greater next ties = absurd (cc)
 
 -- identifiers that compare as equal are one
 pub one_ident : (a b : Ident) → (ident.ghosts).cmp a b ≡ Equal → a ≡ b
@@ -80,10 +67,6 @@ turned_back a b same =
     let idents : a.1.ident ≡ b.1.ident = ap (λ (t : Ident × (Class × Ident)). t.0) same in
     let classes : a.1.class ≡ b.1.class = ap (λ (t : Ident × (Class × Ident)). t.1.0) same in
     same_pair a b parents (same_node a.1 b.1 idents classes)
-
--- the answers of a comparison are apart
-pub less≢equal : (o : Ordering) → o ≡ Less → o ≡ Equal → ⊥
-less≢equal o less equal = cc
 
 -- no pair stands twice in a rising list
 pub once_from_rising : (pairs : List (Ident × Node)) → IsRising pair_cmp pairs → AllPairs ◌≢◌ pairs

@@ -12,7 +12,7 @@ use Rattle.cache_ident.specs.contracts.idents.IdentOrd.TheImpl.Laws as ident_law
 use Rattle.sorted_list.proofs.RisingLemmas.{less}
 use Rattle.depend_lists.specs.declared.nodes.Node.{Node}
 use Rattle.depend_lists.specs.Pairs.{place_of, IsChild}
-use Rattle.depend_lists.proofs.ListLemmas.{Contains-cons_cases}
+use Rattle.sorted_list.proofs.ListLemmas.{Contains-cons_cases}
 use Rattle.depend_lists.proofs.PairLemmas.{one_ident}
 
 abbrev counts : Bool → ℕ

@@ -1,5 +1,5 @@
 -- A child gets its parents one after another, where there is room for all.
-use Rattle.std.proofs.Common.{◌≡◌, ℕ, ◌+◌, ◌<◌, ◌≤◌, Bool, true, false, cond, not, List, [], ◌∷◌, length, map, filter, sym, ◌∙◌, ap, inl, inr, refl, arith}
+use Rattle.std.proofs.Common.{◌≡◌, ℕ, ◌+◌, ◌<◌, ◌≤◌, Bool, true, false, cond, not, List, [], ◌∷◌, length, map, filter, Contains, sym, ◌∙◌, ap, inl, inr, refl, arith}
 use Rattle.std.specs.List.{insert}
 use Rattle.std.proofs.lemmas.Bool.{false≢true}
 use Rattle.std.proofs.lemmas.List.{length-map}
@@ -20,7 +20,7 @@ use Rattle.depend_lists.specs.declared.nodes.Node.{Node}
 use Rattle.sorted_list.specs.Sorted.{IsAdded}
 use Rattle.depend_lists.specs.Pairs.{parent_count, without, HasOneClass, IsWithin}
 use Rattle.depend_lists.specs.Roomy.{IsRoomy}
-use Rattle.depend_lists.proofs.ListLemmas.{Contains-from_filter, Contains-insert_cases, Contains-map}
+use Rattle.sorted_list.proofs.ListLemmas.{Contains-from_filter, Contains-insert_cases, Contains-map}
 
 -- few pairs have few children
 within_roomy : (caps : Caps) (pairs : List (Ident × Node)) → IsRoomy caps (length pairs) → IsWithin caps pairs
@@ -67,6 +67,10 @@ parents_none pairs child = record {
 
     nothing : filter is_child (filter other pairs) ≡ []
     nothing = filter_none is_child (filter other pairs) (λ k d lt. fails _ (filter_passes other pairs k d lt))
+
+-- nor is it in any pair
+pub absent_without : (pairs : List (Ident × Node)) (parent : Ident) (child : Node) → Contains (without pairs child.ident) (parent, child) → ⊥
+absent_without pairs parent child there = false≢true (sym (ap not (is_same-refl child.ident)) ∙ (Contains-from_filter (λ (pair : Ident × Node). not (is_same pair.1.ident child.ident)) pairs (parent, child) there).1)
 
 -- and one more with each that is added
 pub parents_more : (before : ℕ) (old new : List (Ident × Node)) (parent : Ident) (child : Node) (n : ℕ) → HasParents before old child n → IsAdded old new (parent, child) → HasParents before new child (n + 1)

@@ -12,7 +12,7 @@ use Rattle.sorted_list.proofs.SortedLemmas.{first_passes, none_passes}
 use Rattle.depend_lists.specs.declared.nodes.Node.{Node}
 use Rattle.depend_lists.specs.Pairs.{without}
 use Rattle.depend_lists.specs.Indexes.{turned, Mirrors}
-use Rattle.depend_lists.proofs.PairLemmas.{same_pair}
+use Rattle.sorted_list.proofs.UnderLemmas.{same_pair}
 use Rattle.depend_lists.proofs.MirrorLemmas.{both_ways}
 
 module _ (parents : List (Ident × (Class × Ident))) (child : Ident) where

@@ -1,10 +1,10 @@
 -- What a search finds in a rising list, and what an edit there leaves.
-use Rattle.std.proofs.Common.{◌≡◌, ◌≢◌, ℕ, ◌+◌, ◌-◌, ◌<◌, ◌≤◌, Bool, true, false, List, [], ◌∷◌, ◌++◌, length, get_or, take, drop, filter, All, AllPairs, ◌⊎◌, sym, ◌∙◌, ap, subst, inl, inr, refl, arith}
+use Rattle.std.proofs.Common.{◌≡◌, ℕ, ◌+◌, ◌-◌, ◌<◌, ◌≤◌, Bool, true, false, List, [], ◌∷◌, ◌++◌, length, get_or, take, drop, filter, All, AllPairs, ◌⊎◌, sym, ◌∙◌, ap, subst, inl, inr, refl, arith}
 use Rattle.std.specs.declared.cmp.Ordering.{Ordering}
 use Rattle.std.specs.declared.cmp.Ordering.TheVariants.{Less, Equal, Greater}
 use Rattle.std.specs.Cmp.{IsTotalOrder}
 use Rattle.std.specs.List.{between, insert, slice_range}
-use Rattle.std.specs.List.Sorted.{IsSortedBy, IsPartitionedBy, IsPartitionPoint}
+use Rattle.std.specs.List.Sorted.{IsPartitionedBy, IsPartitionPoint}
 use Rattle.std.specs.Ordering.{eq_by_cmp, is_eq, is_le, is_lt, ordering_reverse, ordering_then}
 use Rattle.std.proofs.lemmas.Bool.{cases_lt, cases_eq, false≢true}
 use Rattle.std.proofs.lemmas.Cmp.{alike_right}

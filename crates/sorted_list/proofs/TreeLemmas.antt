@@ -1,10 +1,10 @@
 -- What holds of trees that lie in a table, and of the steps that change them.
-use Rattle.std.proofs.Common.{◌≡◌, ◌≢◌, ℕ, zero, suc, ◌+◌, ◌<◌, ◌≤◌, List, [], ◌∷◌, ◌++◌, length, ◌⊎◌, inl, inr, refl, sym, ◌∙◌, ap, subst, arith, length-append, append_assoc}
-use Rattle.std.specs.Prelude.{slice_get, slice_set, Option, Some, None, get_or}
-use Rattle.std.proofs.lemmas.Option.{slice_get_within, slice_get_read}
+use Rattle.std.proofs.Common.{◌≡◌, ◌≢◌, ℕ, zero, suc, ◌+◌, ◌<◌, List, [], ◌∷◌, ◌++◌, length, ◌⊎◌, inl, inr, refl, sym, ◌∙◌, ap, subst, arith, length-append, append_assoc}
+use Rattle.std.specs.Prelude.{slice_get, slice_set, Option, Some, None}
+use Rattle.std.proofs.lemmas.Option.{slice_get_within}
 use Rattle.sorted_list.specs.declared.nodes.Branch.{Branch}
 use Rattle.sorted_list.specs.declared.nodes.Node.{Node}
-use Rattle.sorted_list.specs.Trees.{Tree, leaf, fork, items_of, HasSeat, seat_of, branch_of, AreApart, Lies, Stands, Joins, Becomes, Keeps, IsItemAt, Opens}
+use Rattle.sorted_list.specs.Trees.{Tree, leaf, fork, items_of, HasSeat, branch_of, AreApart, Lies, Stands, Joins, Becomes, Keeps, Opens}
 
 module _ {X : Type 0} where
   get_set_same : (xs : List X) (i : ℕ) (x : X) → i < length xs → slice_get (slice_set xs i x) i ≡ Some x

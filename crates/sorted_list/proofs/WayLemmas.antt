@@ -1,12 +1,12 @@
 -- What a step down a tree finds and changes, put together with the node above.
-use Rattle.std.proofs.Common.{◌≡◌, ◌≢◌, ℕ, zero, suc, ◌+◌, ◌-◌, ◌<◌, ◌≤◌, List, [], ◌∷◌, ◌++◌, length, ◌⊎◌, inl, inr, refl, sym, ◌∙◌, ap, subst, arith, length-append, append-nil}
-use Rattle.std.specs.Prelude.{slice_get, Option, Some, None, option_map}
+use Rattle.std.proofs.Common.{◌≡◌, ◌≢◌, ℕ, zero, suc, ◌-◌, ◌<◌, ◌≤◌, List, [], ◌∷◌, ◌++◌, length, ◌⊎◌, inl, inr, refl, sym, ◌∙◌, ap, subst, arith, length-append, append-nil}
+use Rattle.std.specs.Prelude.{slice_get, Some, option_map}
 use Rattle.std.specs.List.{insert, remove}
 use Rattle.sorted_list.specs.declared.nodes.Branch.{Branch}
 use Rattle.sorted_list.specs.declared.nodes.Node.{Node}
-use Rattle.sorted_list.specs.Trees.{Tree, leaf, fork, items_of, HasSeat, branch_of, AreApart, Lies, Stands, Joins, Becomes, Keeps, IsItemAt, Opens}
+use Rattle.sorted_list.specs.Trees.{Tree, leaf, fork, items_of, HasSeat, branch_of, Stands, Joins, Becomes, Keeps, IsItemAt, Opens}
 use Rattle.sorted_list.proofs.EditLemmas.{get_before, get_behind, get_here, insert_before, insert_behind, remove_before, remove_behind, remove_here, first_and_others}
-use Rattle.sorted_list.proofs.TreeLemmas.{became_before, became_behind, counts, joins_before, joins_behind, lies_on, put_keeps, seat_within, some_same}
+use Rattle.sorted_list.proofs.TreeLemmas.{became_before, became_behind, counts, joins_before, joins_behind, lies_on}
 
 module _ {T : Type 0} (nodes : List (Node T)) (branch : Branch) (node : Node T) (tree : Tree T) (opens : Opens nodes branch node tree) (place : ℕ) where
   before_count : node.before.count ≡ length (items_of opens.before)

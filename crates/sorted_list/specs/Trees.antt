@@ -1,5 +1,5 @@
 -- The tree in which a list stands, and how its nodes lie in a table.
-use Rattle.std.specs.Prelude.{◌≡◌, ◌≢◌, ◌⊎◌, ℕ, zero, suc, ◌+◌, ◌<◌, ◌≤◌, List, [], ◌∷◌, ◌++◌, length, slice_get, Option, Some, None, option_map}
+use Rattle.std.specs.Prelude.{◌≡◌, ◌⊎◌, ℕ, List, [], ◌∷◌, ◌++◌, length, slice_get, Some, option_map}
 use Rattle.sorted_list.specs.declared.nodes.Branch.{Branch}
 use Rattle.sorted_list.specs.declared.nodes.Node.{Node}
 

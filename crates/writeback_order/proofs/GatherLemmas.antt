@@ -11,7 +11,7 @@ use Rattle.cache_ident.specs.declared.idents.Ident.{Ident}
 use Rattle.cache_ident.specs.declared.names.Caps.{Caps}
 use Rattle.depend_lists.specs.declared.nodes.Node.{Node}
 use Rattle.depend_lists.specs.Pairs.{children_of, count_of, place_of, IsAloneAt, IsChild, IsProper}
-use Rattle.depend_lists.proofs.ListLemmas.{Contains-from_map, Contains-map}
+use Rattle.sorted_list.proofs.ListLemmas.{Contains-from_map, Contains-map}
 use Rattle.depend_lists.proofs.PairLemmas.{same_node}
 use Rattle.depend_lists.proofs.ChildLemmas.{child_of_pair, pair_of_child}
 use Rattle.depend_lists.proofs.CountLemmas.{all_children, few_by_key}

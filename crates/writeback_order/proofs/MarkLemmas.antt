@@ -9,7 +9,7 @@ use Rattle.cache_ident.specs.declared.idents.Kind.TheVariants as kind
 use Rattle.cache_ident.specs.declared.classes.Class.TheVariants as class
 use Rattle.depend_lists.specs.declared.nodes.Node.{Node}
 use Rattle.depend_lists.specs.Pairs.{place_of}
-use Rattle.depend_lists.proofs.ListLemmas.{Contains-cons_cases}
+use Rattle.sorted_list.proofs.ListLemmas.{Contains-cons_cases}
 use Rattle.writeback_order.specs.Gathering.{places_of, IsMarked}
 
 -- what is read past the end of a list

@@ -12,8 +12,9 @@ use Rattle.cache_ident.specs.declared.idents.Ident.{Ident}
 use Rattle.cache_ident.specs.contracts.idents.IdentOrd.TheImpl.Laws as ident_laws
 use Rattle.depend_lists.specs.declared.nodes.Node.{Node}
 use Rattle.sorted_list.specs.Sorted.{IsRising}
-use Rattle.depend_lists.proofs.ListLemmas.{Contains-cons_cases, Contains-first, Contains-later}
-use Rattle.depend_lists.proofs.PairLemmas.{less≢equal, one_ident}
+use Rattle.sorted_list.proofs.ListLemmas.{Contains-cons_cases, Contains-first, Contains-later}
+use Rattle.sorted_list.proofs.UnderLemmas.{less≢equal}
+use Rattle.depend_lists.proofs.PairLemmas.{one_ident}
 use Rattle.writeback_order.specs.Order.{DependsOn, directly, further, leaving_cmp, rank_of, IsClosure, IsOrder}
 use Rattle.writeback_order.specs.Gathering.{IsApart}
 

@@ -1,4 +1,4 @@
-use Rattle.std.proofs.Common.{◌≡◌, List, [], ◌∷◌, ◌++◌, length, refl, sym, ◌∙◌, ap, inl, inr, arith, rules}
+use Rattle.std.proofs.Common.{◌∙◌, inr, arith}
 use Rattle.sorted_list.proofs.FixedLemmas.{emptied}
 use Rattle.sorted_list.proofs.fixed.new_seat.Goals as goal
 

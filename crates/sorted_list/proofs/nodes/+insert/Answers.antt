@@ -1,4 +1,4 @@
-use Rattle.std.proofs.Common.{rules, ◌≡◌, ◌⊎◌, ◌+◌, ◌-◌, ◌<◌, ◌≤◌, length, inl, inr, refl, sym, subst, arith}
+use Rattle.std.proofs.Common.{rules, ◌≡◌, ◌⊎◌, ◌-◌, ◌<◌, ◌≤◌, length, refl, sym, subst, arith}
 use Rattle.std.specs.Prelude.{insert}
 use Rattle.sorted_list.specs.Trees.{Becomes, HasSeat, items_of, leaf}
 use Rattle.sorted_list.proofs.TreeLemmas.{counts, opened, opened_count, stands_within}

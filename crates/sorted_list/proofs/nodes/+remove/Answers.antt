@@ -1,6 +1,6 @@
-use Rattle.std.proofs.Common.{rules, ◌≡◌, ◌⊎◌, ◌+◌, ◌-◌, ◌<◌, ◌≤◌, length, inl, inr, refl, sym, subst, arith}
+use Rattle.std.proofs.Common.{rules, ◌-◌, ◌<◌, refl, arith}
 use Rattle.std.specs.Prelude.{remove}
-use Rattle.sorted_list.specs.Trees.{HasSeat, items_of}
+use Rattle.sorted_list.specs.Trees.{items_of}
 use Rattle.sorted_list.proofs.TreeLemmas.{counts, opened, opened_count, seat_within, stands_within}
 use Rattle.sorted_list.proofs.WayLemmas.{found_before, found_behind, found_here, joins_next, joins_removed_before, joins_removed_behind, place_behind, removed_before, removed_behind, removed_last, removed_next}
 use Rattle.sorted_list.proofs.nodes.+remove.Goals as goal

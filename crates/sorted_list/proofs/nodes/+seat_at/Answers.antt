@@ -1,5 +1,5 @@
-use Rattle.std.proofs.Common.{rules, ◌≡◌, ◌+◌, ◌<◌, length, arith}
-use Rattle.sorted_list.proofs.TreeLemmas.{counts, opened, opened_count, stands_within}
+use Rattle.std.proofs.Common.{rules, ◌<◌, arith}
+use Rattle.sorted_list.proofs.TreeLemmas.{counts, opened, opened_count}
 use Rattle.sorted_list.proofs.WayLemmas.{found_before, found_behind, found_here, place_behind}
 use Rattle.sorted_list.proofs.nodes.+seat_at.Goals as goal
 

@@ -1,4 +1,4 @@
-use Rattle.std.proofs.Common.{◌≡◌, ◌+◌, ◌<◌, ◌∷◌, ◌++◌, length, arith, refl}
+use Rattle.std.proofs.Common.{◌∷◌, ◌++◌, arith, refl}
 use Rattle.sorted_list.specs.Trees.{HasSeat, items_of, fork}
 use Rattle.sorted_list.proofs.TreeLemmas.{became_behind, kept_as, joins_behind, opened, opened_count, stands_within}
 use Rattle.sorted_list.proofs.nodes.raise_behind.Goals as goal

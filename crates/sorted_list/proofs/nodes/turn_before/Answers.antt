@@ -1,4 +1,4 @@
-use Rattle.std.proofs.Common.{◌≡◌, ◌+◌, ◌<◌, length, arith, refl}
+use Rattle.std.proofs.Common.{arith, refl}
 use Rattle.sorted_list.proofs.TreeLemmas.{lowered_joins_before, opened, opened_count, raised_joins_before, stands_within, turned_before}
 use Rattle.sorted_list.proofs.nodes.turn_before.Goals as goal
 

@@ -1,4 +1,4 @@
-use Rattle.std.proofs.Common.{◌≡◌, ◌+◌, ◌<◌, length, arith, refl}
+use Rattle.std.proofs.Common.{arith, refl}
 use Rattle.sorted_list.proofs.TreeLemmas.{lowered_joins_behind, opened, opened_count, raised_joins_behind, stands_within, turned_behind}
 use Rattle.sorted_list.proofs.nodes.turn_behind.Goals as goal
 

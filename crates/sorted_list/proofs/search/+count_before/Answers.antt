@@ -1,5 +1,5 @@
-use Rattle.std.proofs.Common.{◌≡◌, ◌+◌, ◌<◌, ◌≤◌, length, refl, sym, ◌∙◌, ap, subst, arith}
-use Rattle.std.specs.Prelude.{AllPairs, count_by, true}
+use Rattle.std.proofs.Common.{◌<◌, length, refl, sym, ◌∙◌, ap, subst, arith}
+use Rattle.std.specs.Prelude.{AllPairs, count_by}
 use Rattle.std.proofs.lemmas.Option.{slice_get_read}
 use Rattle.sorted_list.specs.Trees.{items_of}
 use Rattle.sorted_list.proofs.CountLemmas.{count_before, count_behind, pairs_before, pairs_behind, Falls}

@@ -5,7 +5,7 @@ use Rattle.cache_ident.specs.Rolls.{is_same}
 use Rattle.cache_ident.proofs.RollLemmas.{is_same-refl}
 use Rattle.depend_lists.specs.declared.nodes.Node.{Node}
 use Rattle.depend_lists.specs.Pairs.{without}
-use Rattle.depend_lists.proofs.ListLemmas.{filter-remove}
+use Rattle.sorted_list.proofs.ListLemmas.{filter-remove}
 use Rattle.depend_lists.proofs.depends.Depends.remove.Goals as goal
 
 -- a pair with the child was taken out, and no other

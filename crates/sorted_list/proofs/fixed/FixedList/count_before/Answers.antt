@@ -1,4 +1,3 @@
-use Rattle.std.proofs.Common.{◌≡◌, length, sym, ◌∙◌, ap, arith}
 use Rattle.sorted_list.proofs.FixedLemmas.{items_are}
 use Rattle.sorted_list.proofs.fixed.FixedList.count_before.Goals as goal
 

@@ -1,5 +1,5 @@
-use Rattle.std.proofs.Common.{◌≡◌, ◌<◌, ◌≤◌, length, sym, ◌∙◌, ap, subst, arith}
-use Rattle.std.specs.Prelude.{Some, None, option_map, slice_get}
+use Rattle.std.proofs.Common.{◌≤◌, length, sym, ◌∙◌, ap, arith}
+use Rattle.std.specs.Prelude.{option_map}
 use Rattle.std.proofs.lemmas.Option.{slice_get_past}
 use Rattle.sorted_list.specs.Trees.{items_of}
 use Rattle.sorted_list.proofs.FixedLemmas.{items_are}

@@ -1,4 +1,4 @@
-use Rattle.std.proofs.Common.{◌≡◌, length, sym, ◌∙◌, ap}
+use Rattle.std.proofs.Common.{length, sym, ◌∙◌, ap}
 use Rattle.sorted_list.proofs.FixedLemmas.{items_are}
 use Rattle.sorted_list.proofs.TreeLemmas.{counts}
 use Rattle.sorted_list.proofs.fixed.FixedList.len.Goals as goal

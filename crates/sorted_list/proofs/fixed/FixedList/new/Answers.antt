@@ -1,4 +1,4 @@
-use Rattle.std.proofs.Common.{◌≡◌, refl, arith}
+use Rattle.std.proofs.Common.{refl, arith}
 use Rattle.sorted_list.proofs.FixedLemmas.{sound_empty}
 use Rattle.sorted_list.proofs.fixed.FixedList.new.Goals as goal
 

@@ -1,4 +1,4 @@
-use Rattle.std.proofs.Common.{◌≡◌, ◌+◌, ◌<◌, refl, sym, ◌∙◌, ap, arith}
+use Rattle.std.proofs.Common.{sym, ◌∙◌, ap}
 use Rattle.std.specs.Prelude.{map}
 use Rattle.sorted_list.proofs.SortedLemmas.{range_step}
 use Rattle.sorted_list.proofs.run.RunIterator.next.Goals as goal

@@ -1,5 +1,4 @@
-use Rattle.std.proofs.Common.{◌≡◌, ◌+◌, ◌<◌, ◌≤◌, length, refl, sym, ◌∙◌, ap, arith}
-use Rattle.std.specs.List.{remove}
+use Rattle.std.proofs.Common.{ap}
 use Rattle.sorted_list.specs.Fixed.{Fixed}
 use Rattle.sorted_list.specs.Sorted.{by_parts}
 use Rattle.sorted_list.proofs.RisingLemmas.{by_parts_total}

@@ -1,4 +1,4 @@
-use Rattle.std.proofs.Common.{◌≡◌, ◌≢◌, ◌+◌, ◌<◌, ◌≤◌, length, refl, sym, ◌∙◌, ap, arith}
+use Rattle.std.proofs.Common.{refl, arith}
 use Rattle.sorted_list.proofs.SortedLemmas.{falls_below, falls_upto, run_is}
 use Rattle.sorted_list.proofs.sorted.SortedList.run.Goals as goal
 
