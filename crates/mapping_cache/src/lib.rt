@@ -8,11 +8,12 @@ ghost use Rattle.cache_ident.specs.declared.idents.Kind.TheVariants.{Mapping};
 ghost use Rattle.slot_cache.specs.Cells.{cell_at, changed, filled, just_loaded, with_lock, with_value, HasNoName, HasNoSerial, IsContent, IsFoundAs, IsFull, IsLoaded, IsLowestFree, IsVictim, LockIs, NameIs, NoneMayGo};
 ghost use Rattle.slot_cache.specs.Table.{IsProper};
 ghost use Rattle.slot_cache.specs.Rows.{row_name};
-ghost use Rattle.mapping_cache.specs.Frames.{place_at, place_of, FrameIs, IsByFrame, IsCutAt, IsRowOf};
+ghost use Rattle.mapping_cache.specs.Frames.{FrameIs, IsRowOf};
 
 use cache_ident::{Frame, Ident, Kind, Name, NoMemory};
 use phys_groups::Row;
 use slot_cache::Slots;
+use sorted_list::{Run, SortedList};
 use std::alloc::Global;
 use std::marker::Model;
 
@@ -20,13 +21,12 @@ use std::marker::Model;
 mod tests;
 
 /// The rows that are loaded. A contract sees what stands at each slot; all memory is taken by `new`.
-/// The costs are those of `Slots`; `put` and `take` also search the index by frame, and move what of it
-/// is behind the row.
+/// The costs are those of `Slots`; `put` and `take` change the index by frame too.
 #[derive(Drop)]
 pub struct MappingCache {
     slots: Slots<Row>,
-    // The identifiers of all loaded rows, in order of frame and within a frame in order of slot.
-    by_frame: Vec<Ident>,
+    // The identifiers of all loaded rows under their frames.
+    by_frame: SortedList<Frame, Ident>,
 }
 
 impl Model for MappingCache {
@@ -50,7 +50,7 @@ impl MappingCache {
     {
         Ok(MappingCache {
             slots: Slots::new(alloc, Kind::Mapping, cap)?,
-            by_frame: Vec::with_capacity(alloc, cap as usize)?,
+            by_frame: SortedList::new(alloc, cap as usize)?,
         })
     }
 
@@ -71,9 +71,7 @@ impl MappingCache {
         requires name { HasNoName row_name self.old (row_name value) }
         ensures { self.new ≡ filled self.old (just_loaded ident value) }
     {
-        let at = count_below(&self.slots, &self.by_frame, place(value.frame, ident.slot));
-        // A slot is free, so there is room for one more, and no memory is taken.
-        let _ = self.by_frame.insert(at, ident);
+        self.by_frame.insert(value.frame, ident);
         self.slots.put(ident, value);
     }
 
@@ -83,9 +81,9 @@ impl MappingCache {
         ensures content { IsContent self.old ident result }
         ensures after { self.new ≡ slice_set self.old ident.slot None }
     {
-        let at = count_below(&self.slots, &self.by_frame, own_place(&self.slots, ident));
-        self.by_frame.remove(at);
-        self.slots.take(ident)
+        let row = self.slots.take(ident);
+        self.by_frame.remove(row.frame, ident);
+        row
     }
 
     /// The row that was loaded with this identifier; `None` where it isn't loaded.
@@ -116,16 +114,13 @@ impl MappingCache {
         self.slots.find(name)
     }
 
-    /// The identifiers of the loaded rows of a frame, each once, in no order that a caller may rest on.
-    /// Two searches in what is loaded.
-    pub fn of_frame(&self, frame: Frame) -> &[Ident]
-        ensures rows { (ident : Ident) → Contains result.now ident ↔ IsRowOf self.now frame ident }
-        ensures once { AllPairs (λ a b. a ≢ b) result.now }
+    /// The identifiers of the loaded rows of a frame, each once, in no order that a caller may rest on. Two searches in
+    /// what is loaded, and one for each that it gives.
+    pub fn of_frame(&self, frame: Frame) -> Run<'_, Frame, Ident>
+        ensures rows { (ident : Ident) → Contains result ident ↔ IsRowOf self.now frame ident }
+        ensures once { AllPairs (λ a b. a ≢ b) result }
     {
-        let start = count_below(&self.slots, &self.by_frame, place(frame, 0));
-        // No slot has the last number.
-        let end = count_below(&self.slots, &self.by_frame, place(frame, u32::MAX));
-        &self.by_frame[start..end]
+        self.by_frame.run(&frame)
     }
 
     /// Of the loaded rows that are neither locked nor in `keep`, the one with the smallest serial;
@@ -160,41 +155,4 @@ impl MappingCache {
     {
         self.slots.len()
     }
-}
-
-// The place in the index of a row of that frame in that slot. No two rows have one place.
-fn place(frame: Frame, slot: u32) -> u64
-    ensures { result ≡ place_at frame slot }
-{
-    (u64::from(frame.0) << 32) + u64::from(slot)
-}
-
-// The place in the index of a loaded row.
-fn own_place(slots: &Slots<Row>, ident: Ident) -> u64
-    requires { IsLoaded slots.now.cells ident }
-    ensures { result ≡ place_of slots.now.cells ident }
-{
-    match slots.get(ident) {
-        Some(row) => place(row.frame, ident.slot),
-        None => unreachable!(),
-    }
-}
-
-// How many identifiers of the index are at places below that one. It is a search by halves, written out
-// since only what is loaded has a place.
-fn count_below(slots: &Slots<Row>, index: &[Ident], place: u64) -> usize
-    requires { IsByFrame slots.now.cells index.now }
-    ensures { IsCutAt slots.now.cells index.now place result }
-{
-    let mut low = 0;
-    let mut high = index.len();
-    while low < high {
-        let middle = low + (high - low) / 2;
-        if own_place(slots, index[middle]) < place {
-            low = middle + 1;
-        } else {
-            high = middle;
-        }
-    }
-    low
 }

@@ -53,6 +53,12 @@ fn unload(rt: &impl Abort, cache: &mut MappingCache, ident: Ident, next: u64) ->
     cache.take(ident).vpn
 }
 
+// Whether these are the rows of the frame, each of them counted.
+fn lists(cache: &MappingCache, frame: u32, rows: &[Ident]) -> bool {
+    let listed = cache.of_frame(Frame(frame));
+    listed.len() == rows.len() && listed.eq(rows.iter().copied())
+}
+
 #[test]
 fn rows_are_listed_by_frame(rt: HostRuntime) -> Result<(), Fail> {
     let mut cache = MappingCache::new(rt.alloc(), 8)?;
@@ -60,12 +66,12 @@ fn rows_are_listed_by_frame(rt: HostRuntime) -> Result<(), Fail> {
     let first = load(&rt, &mut cache, 2, 1, 5);
     let other = load(&rt, &mut cache, 3, 2, 4);
     let second = load(&rt, &mut cache, 4, 3, 5);
-    assert_eq!(rt; cache.of_frame(Frame(5)), [first, second].as_slice());
-    assert_eq!(rt; cache.of_frame(Frame(4)), [other].as_slice());
-    assert_eq!(rt; cache.of_frame(Frame(u32::MAX)), [high].as_slice());
-    assert_eq!(rt; cache.of_frame(Frame(3)), [].as_slice());
+    assert!(rt; lists(&cache, 5, &[first, second]));
+    assert!(rt; lists(&cache, 4, &[other]));
+    assert!(rt; lists(&cache, u32::MAX, &[high]));
+    assert!(rt; lists(&cache, 3, &[]));
     assert_eq!(rt; unload(&rt, &mut cache, first, 5), Vpn(1));
-    assert_eq!(rt; cache.of_frame(Frame(5)), [second].as_slice());
+    assert!(rt; lists(&cache, 5, &[second]));
     assert_eq!(rt; (cache.len(), cache.victim(&[])), (3, Some(high)));
     Ok(())
 }
@@ -101,7 +107,7 @@ fn a_row_is_locked_and_changed(rt: HostRuntime) -> Result<(), Fail> {
     value.modified = true;
     assert!(rt; cache.get(ident).is_some());
     assert!(rt; !cache.replace(ident, value).modified);
-    assert_eq!(rt; cache.of_frame(Frame(2)), [ident].as_slice());
+    assert!(rt; lists(&cache, 2, &[ident]));
     assert!(rt; cache.get(ident).is_some());
     assert!(rt; cache.is_locked(ident));
     assert_eq!(rt; cache.take(ident), value);

@@ -1,28 +1,23 @@
-use Rattle.mapping_cache.proofs.FrameLemmas.{part_in_order, part_sound, part_complete, part_once}
+use Rattle.std.proofs.lemmas.Cmp.{tied_itself}
+use Rattle.cache_ident.specs.contracts.idents.IdentOrd.TheImpl as ident_order
+use Rattle.cache_ident.specs.contracts.idents.IdentOrd.TheImpl.Laws as ident_laws
+use Rattle.cache_ident.specs.contracts.names.FrameOrd.TheImpl as frame_order
+use Rattle.cache_ident.specs.contracts.names.FrameOrd.TheImpl.Laws as frame_laws
+use Rattle.cache_ident.specs.contracts.names.FramePartialEq.TheImpl as frame_eq
+use Rattle.sorted_list.proofs.UnderLemmas.{entry_of_value, value_of_entry, values_once}
+use Rattle.mapping_cache.proofs.FrameLemmas.{frame_itself, same_frame}
 use Rattle.mapping_cache.proofs.MappingCache.of_frame.Goals as goal
-
-pub slice_bounds-result-count : goal.slice_bounds-result-count
-slice_bounds-result-count c =
-    let from = rw (c.deref.ensures.value, c.place.ensures) at c.count_below-start.ensures in
-    let to = rw (c.deref-2.ensures.value, c.place-2.ensures) at c.count_below-end.ensures in
-    part_in_order c.self.inside.slots.cells c.self.inside.by_frame.items c.self.invariant.few c.self.invariant.listed c.args.frame _ _ from to
-
-pub slice_bounds-result-start : goal.slice_bounds-result-start
-slice_bounds-result-start c =
-    let from = rw (c.deref.ensures.value, c.place.ensures) at c.count_below-start.ensures in
-    let to = rw (c.deref-2.ensures.value, c.place-2.ensures) at c.count_below-end.ensures in
-    part_in_order c.self.inside.slots.cells c.self.inside.by_frame.items c.self.invariant.few c.self.invariant.listed c.args.frame _ _ from to
 
 pub returns-clause-rows : goal.returns-clause-rows
 returns-clause-rows c =
-    let from = rw (c.deref.ensures.value, c.place.ensures) at c.count_below-start.ensures in
-    let to = rw (c.deref-2.ensures.value, c.place-2.ensures) at c.count_below-end.ensures in
-    let sound = part_sound c.self.inside.slots.cells c.self.inside.by_frame.items c.self.invariant.few c.self.invariant.listed c.args.frame _ _ from to in
-    let complete = part_complete c.self.inside.slots.cells c.self.inside.by_frame.items c.self.invariant.few c.self.invariant.listed c.args.frame _ _ from to in
-    rw (c.deref-3.ensures.value, ← c.self.view_is) (λ ident. (sound ident, complete ident))
+    let index = c.self.inside.by_frame.entries in
+    let frame = c.args.frame in
+    let same = (frame_eq.ghosts).eq in
+    rw (c.run.ensures.values, ← c.self.view_is) (λ ident.
+    let listed = c.self.invariant.listed (frame, ident) in
+    (λ there. listed.0 (entry_of_value same same_frame index frame ident there), λ row. value_of_entry same same_frame index frame (frame_itself frame) ident (listed.1 row)))
 
 pub returns-clause-once : goal.returns-clause-once
 returns-clause-once c =
-    let from = rw (c.deref.ensures.value, c.place.ensures) at c.count_below-start.ensures in
-    let to = rw (c.deref-2.ensures.value, c.place-2.ensures) at c.count_below-end.ensures in
-    rw c.deref-3.ensures.value (part_once c.self.inside.slots.cells c.self.inside.by_frame.items c.self.invariant.few c.self.invariant.listed c.args.frame _ _ from to)
+    let frame = c.args.frame in
+    rw c.run.ensures.values (values_once (frame_eq.ghosts).eq same_frame c.self.inside.by_frame.entries frame (frame_order.ghosts).cmp (ident_order.ghosts).cmp (tied_itself frame_laws.total-law frame) (tied_itself ident_laws.total-law) c.self.invariant.rising)

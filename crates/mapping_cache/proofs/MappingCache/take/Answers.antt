@@ -1,15 +1,19 @@
-use Rattle.mapping_cache.proofs.FrameLemmas.{indexed-take, own_within}
+use Rattle.std.proofs.Common.{ap, subst, sym}
+use Rattle.cache_ident.specs.declared.names.Frame.{Frame}
+use Rattle.phys_groups.specs.declared.rows.Row.{Row}
+use Rattle.sorted_list.specs.Sorted.{IsTakenOut}
+use Rattle.mapping_cache.proofs.FrameLemmas.{indexed-take}
 use Rattle.mapping_cache.proofs.MappingCache.take.Goals as goal
 
--- the row stands in the index at its own place
+-- the row stands in the index under its frame
 pub remove-requires : goal.remove-requires
 remove-requires c =
-    let held = rw (← c.self.view_is) at c.requires.loaded in
-    let cut = rw (c.deref.ensures.value, c.own_place.ensures) at c.count_below-at.ensures in
-    rw (← c.deref.ensures.len, c.deref.ensures.value) (own_within c.self.inside.slots.cells c.self.inside.by_frame.items c.self.invariant.listed c.args.ident c.count_below-at.result held cut)
+    let held = c.take-row.ensures.content in
+    (c.self.invariant.listed (c.take-row.result.frame, c.args.ident)).1 (held.0, held.1, held.2, ap (λ (row : Row). row.frame) held.3)
 
 pub invariant_of-self : goal.invariant_of-self
 invariant_of-self c =
-    let held = rw (← c.self.view_is) at c.requires.loaded in
-    let cut = rw (c.deref.ensures.value, c.own_place.ensures) at c.count_below-at.ensures in
-    rw c.take.ensures.after (indexed-take c.self.inside.slots c.self.inside.by_frame c.remove.new.self c.args.ident c.count_below-at.result held cut c.remove.ensures.items c.remove.ensures.len c.remove.ensures.capacity c.self.invariant)
+    let held = c.take-row.ensures.content in
+    let own = ap (λ (row : Row). row.frame) held.3 in
+    let taken = subst (λ (f : Frame). IsTakenOut c.self.inside.by_frame.entries c.remove.new.self.entries (f, c.args.ident)) (sym own) c.remove.ensures.entries in
+    rw c.take-row.ensures.after (indexed-take c.self.inside.slots c.self.inside.by_frame c.self.invariant c.remove.new.self c.args.ident held.0 held.1 held.2 taken c.remove.ensures.room c.remove.ensures.proper.rising)
