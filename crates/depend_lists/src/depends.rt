@@ -49,6 +49,14 @@ impl Depends {
         })
     }
 
+    /// How many pairs there are. Constant time.
+    pub fn len(&self) -> usize
+        ensures len { result ≡ length self.now.pairs }
+        ensures few { length self.now.pairs ≤ MOST_PARENTS * count_of self.now.caps }
+    {
+        self.pairs.len()
+    }
+
     /// From now on the child depends on the parent. It takes no memory, and a time logarithmic in the pairs.
     pub fn add(&mut self, parent: Ident, child: Node)
         requires absent { Contains self.old.pairs (parent, child) → ⊥ }

@@ -61,7 +61,7 @@ fn children_come_and_go(rt: HostRuntime) -> Result<(), Fail> {
     assert!(rt; depends.children(space).eq([row, other]));
     assert_eq!(rt; depends.children(space).len(), 2);
     assert_eq!(rt; depends.children(row.ident).len(), 0);
-    assert_eq!(rt; depends.place(row.ident), 0);
+    assert_eq!(rt; (depends.len(), depends.place(row.ident)), (6, 0));
     assert_eq!(rt;
         depends.place(other.ident),
         5,

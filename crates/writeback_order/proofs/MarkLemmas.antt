@@ -1,8 +1,8 @@
--- The marks, one for each place that a child can have, and the nodes that were gathered.
-use Rattle.std.proofs.Common.{◌≡◌, ℕ, ◌+◌, ◌<◌, ◌≤◌, Bool, true, false, List, [], ◌∷◌, ◌++◌, length, get_or, drop, Contains, sym, ◌∙◌, ap, subst, inl, inr, arith}
-use Rattle.std.proofs.Math.ListN.{replicate, set}
-use Rattle.std.proofs.lemmas.Bool.{cases_Bool, cases_eq, cases_lt, false≢true}
-use Rattle.std.proofs.lemmas.List.{drop_all, drop_more, ext_get_or, get_or-map, get_or-replicate, get_or-set_other, get_or-set_same, get_or_past, length-map, length-replicate, map_push}
+-- The marks, by the places of children, and the nodes that were gathered.
+use Rattle.std.proofs.Common.{◌≡◌, ℕ, zero, suc, ◌+◌, ◌<◌, ◌≤◌, Bool, true, false, List, [], ◌∷◌, ◌++◌, length, get_or, drop, Contains, sym, ◌∙◌, ap, subst, inl, inr, refl, arith}
+use Rattle.std.proofs.Math.ListN.{set}
+use Rattle.std.proofs.lemmas.Bool.{cases_Bool, cases_eq, false≢true}
+use Rattle.std.proofs.lemmas.List.{drop_all, drop_more, get_or-map, get_or-set_other, get_or-set_same, length-map, map_push}
 use Rattle.std.proofs.lemmas.List.Elements.{Contains-append_left, Contains-push, Contains-push_cases}
 use Rattle.cache_ident.specs.declared.idents.Ident.{Ident}
 use Rattle.cache_ident.specs.declared.idents.Kind.TheVariants as kind
@@ -10,17 +10,22 @@ use Rattle.cache_ident.specs.declared.classes.Class.TheVariants as class
 use Rattle.depend_lists.specs.declared.nodes.Node.{Node}
 use Rattle.depend_lists.specs.Pairs.{place_of}
 use Rattle.sorted_list.proofs.ListLemmas.{Contains-cons_cases}
-use Rattle.writeback_order.specs.Gathering.{places_of, IsMarked}
+use Rattle.writeback_order.specs.Gathering.{places_of, IsClear, IsMarked}
 
 -- what is read past the end of a list
 abbrev pub nobody : Node
 nobody = record { ident = record { kind = kind.Kernel; slot = 0; serial = 0 }; class = class.MessageRow }
 
-none_set : (n at : ℕ) → get_or (replicate n false) at false ≡ false
-none_set n at = elim (cases_lt at n) [
-  | inl within ↦ get_or-replicate n at false false within
-  | inr past ↦ get_or_past (replicate n false) at false (omega (arith, past, length-replicate n false))
-]
+-- one more mark that isn't set
+pub clear_more : (marks : List Bool) → IsClear marks → IsClear (marks ++ false ∷ [])
+clear_more [] clear zero = refl
+clear_more [] clear (suc at) = refl
+clear_more (mark ∷ marks) clear zero = clear zero
+clear_more (mark ∷ marks) clear (suc at) = clear_more marks (λ at. clear (suc at)) at
+
+-- where none is set, nothing was gathered
+pub clear_marked : (pairs : List (Ident × Node)) (marks : List Bool) → IsClear marks → IsMarked pairs [] marks
+clear_marked pairs marks clear at = (λ is_set. absurd (false≢true (sym (clear at) ∙ is_set)), λ there. absurd (omega (arith, there.1)))
 
 -- a node more, and the mark at its place
 pub marked_more : (pairs : List (Ident × Node)) (nodes : List Node) (marks : List Bool) (child : Node) (place : ℕ) → place ≡ place_of pairs child.ident → place < length marks → IsMarked pairs nodes marks → IsMarked pairs (nodes ++ child ∷ []) (set marks place true)
@@ -59,10 +64,10 @@ module _ (pairs : List (Ident × Node)) (nodes : List Node) (n : ℕ) (marks : L
       ]
 
   -- in the end none is set
-  pub left_none : (m : ℕ) → length nodes ≤ n → length marks ≡ m → marks ≡ replicate m false
-  left_none m all long = ext_get_or false marks (replicate m false) (long ∙ sym (length-replicate m false)) (λ at lt. elim (cases_Bool (get_or marks at false)) [
+  pub left_none : length nodes ≤ n → IsClear marks
+  left_none all at = elim (cases_Bool (get_or marks at false)) [
     | inl is_set ↦
         let nothing = drop_all n (places_of pairs nodes) (omega (arith, all, length-map nodes (λ (k : Node). place_of pairs k.ident))) in
         absurd (omega (arith, (subst (λ ps. Contains ps at) nothing (left at is_set)).1))
-    | inr clear ↦ clear ∙ sym (none_set m at)
-  ])
+    | inr clear ↦ clear
+  ]

@@ -1,10 +1,8 @@
 -- What holds while the dependents of a root are gathered.
-use Rattle.std.specs.Prelude.{◌≡◌, ◌≢◌, ◌↔◌, ℕ, ◌*◌, Bool, true, false, List, ◌++◌, map, replicate, slice_index_or, Contains, AllPairs, ◌⊎◌}
+use Rattle.std.specs.Prelude.{◌≡◌, ◌≢◌, ◌↔◌, ℕ, Bool, true, false, List, ◌++◌, map, slice_index_or, Contains, AllPairs, ◌⊎◌}
 use Rattle.cache_ident.specs.declared.idents.Ident.{Ident}
-use Rattle.cache_ident.specs.declared.names.Caps.{Caps}
 use Rattle.depend_lists.specs.declared.nodes.Node.{Node}
-use Rattle.depend_lists.specs.declared.nodes.TheConstants.{MOST_PARENTS}
-use Rattle.depend_lists.specs.Pairs.{count_of, place_of}
+use Rattle.depend_lists.specs.Pairs.{place_of}
 use Rattle.writeback_order.specs.Order.{DependsOn}
 
 -- no identifier stands twice
@@ -24,9 +22,9 @@ places_of pairs nodes = map (λ node. place_of pairs node.ident) nodes
 abbrev pub IsMarked : List (Ident × Node) → List Node → List Bool → Type 0
 IsMarked pairs nodes marks = (place : ℕ) → (slice_index_or marks place false ≡ true) ↔ Contains (places_of pairs nodes) place
 
--- a mark for each place that a child can have, and none set
-abbrev pub no_marks : Caps → List Bool
-no_marks caps = replicate (MOST_PARENTS * count_of caps) false
+-- no mark is set
+abbrev pub IsClear : List Bool → Type 0
+IsClear marks = (place : ℕ) → slice_index_or marks place false ≡ false
 
 -- the children of the parent depend on the root
 abbrev pub IsUnder : List (Ident × Node) → Ident → Ident → Type 0

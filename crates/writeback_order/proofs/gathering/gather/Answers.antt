@@ -3,7 +3,12 @@ use Rattle.std.proofs.lemmas.List.Elements.{Contains-get_or}
 use Rattle.depend_lists.specs.declared.nodes.Node.{Node}
 use Rattle.writeback_order.specs.Gathering.{HasChildrenOf}
 use Rattle.writeback_order.proofs.GatherLemmas.{children_before_more, closure_from_children, few_gathered, has_children_more, reached_child, under_node, under_root}
+use Rattle.writeback_order.proofs.MarkLemmas.{clear_marked}
 use Rattle.writeback_order.proofs.gathering.gather.Goals as goal
+
+-- no mark is set, and nothing was gathered
+pub gather_children-requires-clause-marked : goal.gather_children-requires-clause-marked
+gather_children-requires-clause-marked c = rw c.clear.ensures.items (clear_marked c.args.depends.now.pairs c.args.marks.now c.requires.unmarked)
 
 pub gather_children-requires-clause-under : goal.gather_children-requires-clause-under
 gather_children-requires-clause-under c = under_root c.args.depends.now.pairs c.args.root

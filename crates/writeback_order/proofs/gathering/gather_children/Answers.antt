@@ -10,13 +10,13 @@ pub bounds-marks-place : goal.bounds-marks-place
 bounds-marks-place c =
     let pairs = c.args.depends.now.pairs in
     let listed = comes_listed pairs c.args.parent c.into_iter-child-iterator.result (cc) c.loop-child.yielded _ c.loop-child.yielded_by _ _ c.next.ensures.steps c.in-Some.child c.in-Some.is in
-    omega (arith, c.place-place.ensures.within (listed_child pairs c.args.parent c.in-Some.child listed), c.place-place.ensures.few, c.requires.places, c.loop-child.auto.marks)
+    omega (arith, c.place-place.ensures.within (listed_child pairs c.args.parent c.in-Some.child listed), c.requires.places, c.loop-child.auto.marks)
 
 pub bounds-marks-place-then-not-marks-place : goal.bounds-marks-place-then-not-marks-place
 bounds-marks-place-then-not-marks-place c =
     let pairs = c.args.depends.now.pairs in
     let listed = comes_listed pairs c.args.parent c.into_iter-child-iterator.result (cc) c.loop-child.yielded _ c.loop-child.yielded_by _ _ c.next.ensures.steps c.in-Some.child c.in-Some.is in
-    omega (arith, c.place-place.ensures.within (listed_child pairs c.args.parent c.in-Some.child listed), c.place-place.ensures.few, c.requires.places, c.loop-child.auto.marks)
+    omega (arith, c.place-place.ensures.within (listed_child pairs c.args.parent c.in-Some.child listed), c.requires.places, c.loop-child.auto.marks)
 
 -- a child that wasn't marked was pushed
 pub loop-child-preserved-then-not-marks-place : goal.loop-child-preserved-then-not-marks-place
@@ -28,7 +28,7 @@ loop-child-preserved-then-not-marks-place c =
     let child = c.in-Some.child in
     let place = c.place-place.result in
     let listed = comes_listed pairs c.args.parent c.into_iter-child-iterator.result (cc) c.loop-child.yielded _ c.loop-child.yielded_by _ _ c.next.ensures.steps c.in-Some.child c.in-Some.is in
-    let has_mark : place < length loop.marks = omega (arith, c.place-place.ensures.within (listed_child pairs c.args.parent child listed), c.place-place.ensures.few, c.requires.places, loop.auto.marks) in
+    let has_mark : place < length loop.marks = omega (arith, c.place-place.ensures.within (listed_child pairs c.args.parent child listed), c.requires.places, loop.auto.marks) in
     let depends = listed_depends pairs c.args.parent child listed root c.requires.under in
     let new = come_new pairs root c.args.nodes.now.items nodes loop.marks loop.yielded loop.invariant.come child place depends (apart_from_ne child.ident root c.if-ne.ensures) c.place-place.ensures.place has_mark c.if-not-marks-place.true in
     let few = few_gathered pairs root (nodes ++ child ∷ []) new.gathered c.args.depends.now.caps c.children-child-items.ensures.proper in

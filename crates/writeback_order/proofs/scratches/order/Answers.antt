@@ -7,6 +7,12 @@ use Rattle.writeback_order.proofs.DistinctLemmas.{apart_permutation}
 use Rattle.writeback_order.proofs.OrderLemmas.{closure_permutation, rising_from_sorted}
 use Rattle.writeback_order.proofs.scratches.order.Goals as goal
 
+-- there is room for a mark for each pair
+pub reach-requires-clause-room : goal.reach-requires-clause-room
+reach-requires-clause-room c =
+    let one_caps = rw (← c.into.view_is) at c.requires in
+    omega (arith, c.len.ensures.len, c.len.ensures.few, c.into.invariant.1, ap count_of one_caps)
+
 -- what was gathered was sorted, and the root came behind
 pub returns-clause-order : goal.returns-clause-order
 returns-clause-order c =
