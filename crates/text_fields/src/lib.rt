@@ -1,0 +1,13 @@
+//! Texts in lines, lines in fields, and the numbers that fields write.
+#![tactic(auto)]
+
+mod fields;
+mod lines;
+mod numbers;
+
+pub use fields::{four, is_blank, next_field, one, three, two};
+pub use lines::{are_plain, is, next_line, without_comment};
+pub use numbers::{number, word};
+
+#[cfg(test)]
+mod tests;
