@@ -7,7 +7,8 @@ ghost use Rattle.text_fields.specs.Lines.{fields, is_space as is_space_lem, skip
 
 use crate::lines::around;
 
-fn is_space(byte: u8) -> bool
+/// Whether the byte is a space or a tab.
+pub fn is_space(byte: u8) -> bool
     ensures { result ≡ is_space_lem byte }
 {
     byte == b' ' || byte == b'\t'

@@ -5,8 +5,8 @@ mod fields;
 mod lines;
 mod numbers;
 
-pub use fields::{four, is_blank, next_field, one, three, two};
-pub use lines::{are_plain, is, next_line, without_comment};
+pub use fields::{four, is_blank, is_space, next_field, one, three, two};
+pub use lines::{are_plain, is, is_plain, next_line, without_comment};
 pub use numbers::{number, word};
 
 #[cfg(test)]

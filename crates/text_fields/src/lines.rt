@@ -66,7 +66,8 @@ pub fn without_comment(line: &[u8]) -> &[u8]
     }
 }
 
-fn is_plain(byte: u8) -> bool
+/// Whether the byte is a printing character of ASCII, a space or a tab.
+pub fn is_plain(byte: u8) -> bool
     ensures { result ≡ is_plain_lem byte }
 {
     matches!(byte, b' '..=b'~' | b'\t')
