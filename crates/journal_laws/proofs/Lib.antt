@@ -1,1 +1,3 @@
 pub mod Untouched
+pub mod SameDependence
+pub mod GroupLaw

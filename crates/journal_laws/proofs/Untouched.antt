@@ -1,6 +1,6 @@
 -- What a completed call can't touch stays good.
-use Rattle.std.proofs.Common.{◌≡◌, ◌≢◌, ℕ, ◌/◌, Bool, true, false, not, cond, List, [], ◌∷◌, ◌++◌, map, filter, set, get_or, Option, Some, None, is_some, slice_get, Contains, refl, ap, ap₂, sym, ◌∙◌, subst, inl, inr, ◌⊎◌, append-nil, arith}
-use Rattle.std.specs.Prelude.{if◌then◌else◌, ◌==◌, ◌&&◌, ◌||◌, option_to_list, unwrap_or, length}
+use Rattle.std.proofs.Common.{◌≡◌, ◌≢◌, ℕ, ◌/◌, Bool, true, false, not, cond, List, [], ◌∷◌, ◌++◌, map, filter, set, Option, Some, None, is_some, slice_get, Contains, refl, ap, ap₂, sym, ◌∙◌, subst, inl, inr}
+use Rattle.std.specs.Prelude.{if◌then◌else◌, ◌==◌, ◌&&◌, ◌||◌, option_to_list, unwrap_or}
 use Rattle.std.specs.List.{find}
 use Rattle.std.specs.Option.{option_map}
 use Rattle.std.proofs.lemmas.Bool.{cases_Bool, cases_eq, and_parts, eqb-true}
@@ -25,14 +25,14 @@ use Rattle.flat_state.specs.declared.events.Event.TheVariants.{Complete}
 use Rattle.flat_state.specs.declared.records.FlatKernel.{FlatKernel}
 use Rattle.flat_state.specs.declared.records.FlatThread.{FlatThread}
 use Rattle.flat_state.specs.State.{FlatState, with_thread}
-use Rattle.flat_state.specs.Translation.{rights_in, kernel_rights, rights_of, is_fit_row}
-use Rattle.flat_state.specs.Declaration.{broken_rule, declared, with_right, new_row}
+use Rattle.flat_state.specs.Translation.{rights_in, kernel_rights, is_fit_row}
+use Rattle.flat_state.specs.Declaration.{broken_rule, declared, with_right}
 use Rattle.flat_state.specs.Dependence.{signal_rows_of, parents_of_row, parents_of_found, parents, Depends}
 use Rattle.flat_state.specs.Names.{stands, is_fit_found, is_fit_name}
 use Rattle.flat_state.specs.Call.{answered, refusal, made, mapping, rule_of_mapping, mapped, unmapped, spawning, spawned, is_first, granting, rule_of_granting, granted, completed_so, complete_if, completion_for, after_completion, is_completable}
 use Rattle.flat_state.specs.Events.{applied}
 use Rattle.flat_state.proofs.Places.{get-append, get-set_same, get-set_other}
-use Rattle.flat_laws.proofs.Members.{contains_nothing, Contains-here, Contains-behind, Contains-cases, Contains-filter, Contains-map, Contains-from_map}
+use Rattle.flat_laws.proofs.Members.{Contains-here, Contains-behind, Contains-cases, Contains-filter, Contains-map, Contains-from_map}
 use Rattle.flat_laws.proofs.StepSame.{IsSameBut, set_same, same_parents, same_stands, same_fit_name}
 use Rattle.run_journal.specs.Legal.{StaysGood}
 use Rattle.journal_laws.specs.Touching.{IsRowWith, TouchesBy, TouchesFor, Touches}

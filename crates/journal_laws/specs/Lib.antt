@@ -1,1 +1,3 @@
 pub mod Touching
+pub mod Staying
+pub mod Leaving

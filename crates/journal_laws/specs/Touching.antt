@@ -1,5 +1,5 @@
 -- Which descriptors a completed call can touch.
-use Rattle.std.specs.Prelude.{◌≡◌, ℕ, ◌/◌, Option, Some, None, slice_get}
+use Rattle.std.specs.Prelude.{◌≡◌, ◌/◌, Option, Some, None, slice_get}
 use Rattle.cache_ident.specs.declared.names.Name.{Name}
 use Rattle.cache_ident.specs.declared.names.Name.TheVariants.{Kernel, Space, Thread, Mapping}
 use Rattle.cache_ident.specs.declared.names.SpaceNo.{SpaceNo}
