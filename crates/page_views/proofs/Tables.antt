@@ -1,0 +1,209 @@
+-- What a change of each view is for their pages, and what it leaves.
+use Rattle.std.proofs.Common.{◌≡◌, ◌≢◌, ℕ, zero, suc, ◌+◌, ◌<◌, ◌≤◌, ◌/◌, ◌%◌, Bool, true, false, cond, List, [], ◌∷◌, ◌++◌, map, length, take, drop, set, get_or, Option, Some, None, refl, ap, ap₂, sym, ◌∙◌, subst, arith, eq-eqb, length-append, length-drop}
+use Rattle.std.specs.Prelude.{◌==◌, not, ◌&&◌, is_some, if◌then◌else◌}
+use Rattle.std.specs.List.{find}
+use Rattle.std.specs.Option.{option_map}
+use Rattle.std.proofs.lemmas.List.{get_or-map, take_all, take_more_set, length-take-le, take-append-le}
+use Rattle.std.proofs.Math.ListN.{length-set}
+use Rattle.std.proofs.lemmas.Bool.{ltb-true}
+use Rattle.std.proofs.lemmas.List.Quantifiers.{all_pairs_push}
+use Rattle.cache_ident.specs.declared.names.Vpn.{Vpn}
+use Rattle.cache_ident.specs.declared.names.Frame.{Frame}
+use Rattle.rv32_exec.specs.declared.statuses.Access.{Access}
+use Rattle.rv32_exec.specs.declared.statuses.Access.TheVariants.{Fetch, Read, Write}
+use Rattle.rv32_exec.specs.declared.spaces.Width.{Width}
+use Rattle.rv32_exec.specs.declared.spaces.Width.TheVariants.{Byte, Half, Word}
+use Rattle.rv32_exec.specs.Pages.{Page, allows, where_allowed, translation, translates, read_through, number_at, stored_through, stored, touched_at, put_bytes, put_in_frame, mark, mark_page, size_of}
+use Rattle.page_views.specs.Views.{View, page_of, pages_of_views, Copied, copied, copies_of, is_of_page, can_fill, put_in_view, mark_view, mark_view_of, allows_flags, where_flagged, view_through, HaveOneViewAPage, IsTable}
+
+pub pages_mapped : (f : View → View) (g : Page → Page) → ((v : View) → page_of (f v) ≡ g (page_of v)) → (vs : List View) → pages_of_views (map f vs) ≡ map g (pages_of_views vs)
+pages_mapped f g same [] = refl
+pages_mapped f g same (v ∷ vs) = ap₂ (λ (p : Page) (ps : List Page). p ∷ ps) (same v) (pages_mapped f g same vs)
+
+pub copies_mapped : (f : View → View) → ((v : View) → copied (f v) ≡ copied v) → (vs : List View) → copies_of (map f vs) ≡ copies_of vs
+copies_mapped f same [] = refl
+copies_mapped f same (v ∷ vs) = ap₂ (λ (p : Copied) (ps : List Copied). p ∷ ps) (same v) (copies_mapped f same vs)
+
+length-map : (f : View → View) (vs : List View) → length (map f vs) ≡ length vs
+length-map f [] = refl
+length-map f (v ∷ vs) = omega (arith, length-map f vs)
+
+-- no page has two views once each was changed, but for its page
+pub one_mapped : (f : View → View) → ((v : View) → copied (f v) ≡ copied v) → (vs : List View) → HaveOneViewAPage vs → HaveOneViewAPage (map f vs)
+one_mapped f same vs one = λ i j d below within.
+    let last : j < length vs = omega (arith, within, length-map f vs) in
+    let first : i < length vs = omega (arith, below, last) in
+    λ both.
+    one i j d below last
+    (sym (ap (λ (c : Copied). c.vpn.0) (same (get_or vs i d)))
+    ∙ (ap (λ (v : View). v.vpn.0) (sym (get_or-map f vs i d d first)) ∙ both
+    ∙ ap (λ (v : View). v.vpn.0) (get_or-map f vs j d d last) ∙ ap (λ (c : Copied). c.vpn.0) (same (get_or vs j d))))
+
+pub put_page : (frame : Frame) (count at value : ℕ) (v : View) → page_of (put_in_view frame count at value v) ≡ put_in_frame frame.0 count at value (page_of v)
+put_page frame count at value v = by (v.frame.0 == frame.0)
+  where
+    by : (b : Bool) → page_of (if b then record v { present = put_bytes count v.present at value } else v) ≡ (if b then record (page_of v) { bytes = put_bytes count v.present at value } else page_of v)
+    by true = refl
+    by false = refl
+
+pub put_copied : (frame : Frame) (count at value : ℕ) (v : View) → copied (put_in_view frame count at value v) ≡ copied v
+put_copied frame count at value v = by (v.frame.0 == frame.0)
+  where
+    by : (b : Bool) → copied (if b then record v { present = put_bytes count v.present at value } else v) ≡ copied v
+    by true = refl
+    by false = refl
+
+pub mark_page_of : (vpn : Vpn) (access : Access) (v : View) → page_of (mark_view_of vpn access v) ≡ mark_page vpn.0 access (page_of v)
+mark_page_of vpn access v = by access (v.vpn.0 == vpn.0)
+  where
+    by : (access : Access) (b : Bool) → page_of (if b then mark_view access v else v) ≡ (if b then mark access (page_of v) else page_of v)
+    by access false = refl
+    by Fetch true = refl
+    by Read true = refl
+    by Write true = refl
+
+pub mark_copied : (vpn : Vpn) (access : Access) (v : View) → copied (mark_view_of vpn access v) ≡ copied v
+mark_copied vpn access v = by access (v.vpn.0 == vpn.0)
+  where
+    by : (access : Access) (b : Bool) → copied (if b then mark_view access v else v) ≡ copied v
+    by access false = refl
+    by Fetch true = refl
+    by Read true = refl
+    by Write true = refl
+
+-- the page of a number is that of the view of the number
+pub find_page : (n : ℕ) (vs : List View) → find (λ (p : Page). p.number == n) (pages_of_views vs) ≡ option_map page_of (find (is_of_page (record { 0 = n })) vs)
+find_page n [] = refl
+find_page n (v ∷ vs) = ap (cond (v.vpn.0 == n) (Some (page_of v))) (find_page n vs) ∙ by (v.vpn.0 == n)
+  where
+    by : (b : Bool) → cond b (Some (page_of v)) (option_map page_of (find (is_of_page (record { 0 = n })) vs)) ≡ option_map page_of (cond b (Some v) (find (is_of_page (record { 0 = n })) vs))
+    by true = refl
+    by false = refl
+
+-- an access fits its page
+pub place_within : (va : ℕ) (width : Width) → va % size_of width ≡ 0 → va % 4096 + size_of width < 4097
+place_within va Byte aligned = omega arith
+place_within va Half aligned = omega (arith, aligned)
+place_within va Word aligned = omega (arith, aligned)
+
+-- a list whose length stays is what was written over it
+written_over : (n : ℕ) (xs ys : List View) → n ≡ length xs → length ys ≡ length xs → take n (ys ++ drop (length ys) xs) ≡ ys
+written_over n xs ys whole same = take-append-le n ys (drop (length ys) xs) (omega (arith, same)) ∙ take_all n ys (omega (arith, same))
+
+-- the present views, each changed, are present
+first_mapped : (f : View → View) (count : ℕ) (xs : List View) → count ≤ length xs → take count (map f (take count xs) ++ drop count xs) ≡ map f (take count xs)
+first_mapped f count xs within =
+    let size : length (map f (take count xs)) ≡ count = omega (arith, length-map f (take count xs), length-take-le count xs within) in
+    take-append-le count (map f (take count xs)) (drop count xs) (omega (arith, size)) ∙ take_all count (map f (take count xs)) (omega (arith, size))
+
+length-mapped : (f : View → View) (count : ℕ) (xs : List View) → count ≤ length xs → length (map f (take count xs) ++ drop count xs) ≡ length xs
+length-mapped f count xs within =
+    omega (arith, length-append (map f (take count xs)) (drop count xs), length-map f (take count xs), length-take-le count xs within, length-drop count xs)
+
+pub table_mapped : (f : View → View) → ((v : View) → copied (f v) ≡ copied v) → (n count : ℕ) (xs ys : List View) → n ≡ length xs → IsTable xs count → ys ≡ map f (take count xs) ++ drop count xs
+    → IsTable (take n (ys ++ drop (length ys) xs)) count
+table_mapped f same n count xs ys whole table became =
+    let within : count ≤ length xs = omega (arith, table.eight, table.within) in
+    let size : length ys ≡ length xs = ap length became ∙ length-mapped f count xs within in
+    rw (written_over n xs ys whole size) (record {
+      eight = size ∙ table.eight;
+      within = table.within;
+      one_a_page = subst HaveOneViewAPage (sym (ap (take count) became ∙ first_mapped f count xs within)) (one_mapped f same (take count xs) table.one_a_page);
+    })
+
+-- no view is that of a page where none is found
+not_found : (vpn : Vpn) (vs : List View) → find (is_of_page vpn) vs ≡ None → (k : ℕ) (d : View) → k < length vs → (get_or vs k d).vpn.0 ≢ vpn.0
+not_found vpn [] none k d within = λ e. absurd (omega (arith, within))
+not_found vpn (v ∷ vs) none k d within = by (v.vpn.0 == vpn.0) refl none (λ absent j below. not_found vpn vs absent j d below) k within
+  where
+    true_false : true ≡ false → ⊥
+    true_false e = cc
+
+    by : (b : Bool) → (v.vpn.0 == vpn.0) ≡ b → cond b (Some v) (find (is_of_page vpn) vs) ≡ None
+        → (find (is_of_page vpn) vs ≡ None → (j : ℕ) → j < length vs → (get_or vs j d).vpn.0 ≢ vpn.0) → (k : ℕ) → k < length (v ∷ vs) → (get_or (v ∷ vs) k d).vpn.0 ≢ vpn.0
+    by true e none others k within = λ same. cc
+    by false e none others zero within = λ same. true_false (sym (eq-eqb v.vpn.0 vpn.0 same) ∙ e)
+    by false e none others (suc k) within = others none k (omega (arith, within))
+
+pub table_filled : (n count : ℕ) (xs ys : List View) (v : View) → n ≡ length xs → IsTable xs count → can_fill (take count xs) v.vpn ≡ true → ys ≡ set xs count v
+    → IsTable (take n (ys ++ drop (length ys) xs)) (count + 1)
+table_filled n count xs ys v whole table room became =
+    let size : length ys ≡ length xs = ap length became ∙ length-set xs count v in
+    let taken : length (take count xs) ≡ count = length-take-le count xs (omega (arith, table.eight, table.within)) in
+    let free : count < 8 = omega (arith, ltb-true (length (take count xs)) 8 (first_true _ _ room), taken) in
+    let below : count < length xs = omega (arith, free, table.eight) in
+    let more : count + 1 ≤ 8 = omega (arith, free) in
+    let absent : find (is_of_page v.vpn) (take count xs) ≡ None = is_none_where _ (second_true _ _ room) in
+    rw (written_over n xs ys whole size) (record {
+      eight = size ∙ table.eight;
+      within = more;
+      one_a_page = subst HaveOneViewAPage (sym (ap (take (count + 1)) became ∙ take_more_set xs count v below))
+          (all_pairs_push (λ (a b : View). a.vpn.0 ≢ b.vpn.0) (take count xs) v table.one_a_page (not_found v.vpn (take count xs) absent));
+    })
+  where
+    first_true : (a b : Bool) → (a && b) ≡ true → a ≡ true
+    first_true true b e = refl
+    first_true false b e = e
+
+    second_true : (a b : Bool) → (a && b) ≡ true → b ≡ true
+    second_true true b e = e
+    second_true false b e = cc
+
+    is_none_where : (o : Option View) → not (is_some o) ≡ true → o ≡ None
+    is_none_where None e = refl
+    is_none_where (Some v) e = cc
+
+-- the part before a place and the rest with its first element replaced
+pub set_between : (n : ℕ) (xs : List View) (v : View) → n < length xs → take n xs ++ set (drop n xs) 0 v ≡ set xs n v
+set_between zero [] v within = absurd (omega (arith, within))
+set_between zero (x ∷ xs) v within = refl
+set_between (suc n) [] v within = absurd (omega (arith, within))
+set_between (suc n) (x ∷ xs) v within = ap (λ (ys : List View). x ∷ ys) (set_between n xs v (omega (arith, within)))
+
+flags_allow : (access : Access) (v : View) → allows access (page_of v) ≡ allows_flags access v.flags
+flags_allow Fetch v = refl
+flags_allow Read v = refl
+flags_allow Write v = refl
+
+-- an access goes through the page of the view that it goes through
+pub translation_is : (vs : List View) (access : Access) (va : ℕ) → translation (pages_of_views vs) va access ≡ option_map page_of (view_through vs access va)
+unfolding translation
+translation_is vs access va = ap (where_allowed access) (find_page (va / 4096) vs) ∙ by (find (is_of_page (record { 0 = va / 4096 })) vs)
+  where
+    test : (v : View) (b : Bool) → (if b then Some (page_of v) else None) ≡ option_map page_of (if b then Some v else None)
+    test v true = refl
+    test v false = refl
+
+    by : (o : Option View) → where_allowed access (option_map page_of o) ≡ option_map page_of (where_flagged access o)
+    by None = refl
+    by (Some v) = ap (λ (b : Bool). if b then Some (page_of v) else None) (flags_allow access v) ∙ test v (allows_flags access v.flags)
+
+pub translates_is : (vs : List View) (access : Access) (va : ℕ) → translates (pages_of_views vs) va access ≡ is_some (view_through vs access va)
+unfolding translates
+translates_is vs access va = ap is_some (translation_is vs access va) ∙ by (view_through vs access va)
+  where
+    by : (o : Option View) → is_some (option_map page_of o) ≡ is_some o
+    by None = refl
+    by (Some v) = refl
+
+pub read_is : (vs : List View) (access : Access) (va : ℕ) (width : Width) → read_through access (pages_of_views vs) va width ≡ option_map (λ (v : View). number_at width v.present (va % 4096)) (view_through vs access va)
+unfolding read_through
+read_is vs access va width = ap (option_map (λ (p : Page). number_at width p.bytes (va % 4096))) (translation_is vs access va) ∙ by (view_through vs access va)
+  where
+    by : (o : Option View) → option_map (λ (p : Page). number_at width p.bytes (va % 4096)) (option_map page_of o) ≡ option_map (λ (v : View). number_at width v.present (va % 4096)) o
+    by None = refl
+    by (Some v) = refl
+
+pub stored_is : (vs : List View) (va : ℕ) (width : Width) (value : ℕ) (v : View) → view_through vs Write va ≡ Some v → pages_of_views (map (put_in_view v.frame (size_of width) (va % 4096) value) vs) ≡ stored (pages_of_views vs) va width value
+unfolding stored
+stored_is vs va width value v through =
+    pages_mapped (put_in_view v.frame (size_of width) (va % 4096) value) (put_in_frame v.frame.0 (size_of width) (va % 4096) value) (put_page v.frame (size_of width) (va % 4096) value) vs
+    ∙ ap (λ (o : Option Page). stored_through o (pages_of_views vs) va width value) (sym (translation_is vs Write va ∙ ap (option_map page_of) through))
+
+pub not_stored : (vs : List View) (va : ℕ) (width : Width) (value : ℕ) → view_through vs Write va ≡ None → pages_of_views vs ≡ stored (pages_of_views vs) va width value
+unfolding stored
+not_stored vs va width value through = ap (λ (o : Option Page). stored_through o (pages_of_views vs) va width value) (sym (translation_is vs Write va ∙ ap (option_map page_of) through))
+
+pub touched_is : (vs : List View) (va : ℕ) (access : Access) → pages_of_views (map (mark_view_of (record { 0 = va / 4096 }) access) vs) ≡ touched_at (pages_of_views vs) va access
+unfolding touched_at
+touched_is vs va access = pages_mapped (mark_view_of (record { 0 = va / 4096 }) access) (mark_page (va / 4096) access) (mark_page_of (record { 0 = va / 4096 }) access) vs

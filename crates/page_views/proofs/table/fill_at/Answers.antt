@@ -1,0 +1,18 @@
+-- The view is the filled one, and the others stay.
+use Rattle.std.proofs.Common.{◌≡◌, ◌++◌, false, List, find, set, take, drop, ap, ap₂, ◌∙◌}
+use Rattle.page_views.specs.Views.{View, filled, is_touched_of, present_in}
+use Rattle.page_views.proofs.Tables.{set_between}
+use Rattle.page_views.proofs.table.fill_at.Goals as goal
+
+pub returns : goal.returns
+returns c =
+    let xs = c.args.views.now in
+    let n = c.args.count in
+    let parts = c.split_at_mut-views.ensures in
+    let v = filled (take n xs) c.args.vpn c.args.frame c.args.flags c.args.row c.args.bytes.now in
+    let is : c.copy.new.self ≡ v =
+    c.copy.ensures
+    ∙ ap (λ present. record { vpn = c.args.vpn; frame = c.args.frame; flags = c.args.flags; row = c.args.row; first = c.args.bytes.now; present = present; touched = false; written = false })
+    (c.present_in-present.ensures.bytes ∙ ap (λ (vs : List View). present_in (find (is_touched_of c.args.frame) vs) c.args.bytes.now) parts.front) in
+    ap₂ (λ (front back : List View). front ++ set back 0 c.copy.new.self) parts.front parts.back
+    ∙ (ap (λ (w : View). take n xs ++ set (drop n xs) 0 w) is ∙ set_between n xs v c.requires.room)

@@ -1,0 +1,121 @@
+-- Copied pages: what one is, and the pages that a step sees in them.
+use Rattle.std.specs.Prelude.{◌≡◌, ◌≢◌, ℕ, ◌/◌, ◌≤◌, Bool, true, false, ◌&&◌, ◌==◌, if◌then◌else◌, List, map, find, length, take, Option, Some, None, is_some, nat_lt, not}
+use Rattle.std.specs.List.{AllPairs}
+use Rattle.cache_ident.specs.declared.idents.Ident.{Ident}
+use Rattle.cache_ident.specs.declared.names.Vpn.{Vpn}
+use Rattle.cache_ident.specs.declared.names.Frame.{Frame}
+use Rattle.phys_groups.specs.declared.rows.Flags.{Flags}
+use Rattle.rv32_exec.specs.declared.statuses.Access.{Access}
+use Rattle.rv32_exec.specs.declared.statuses.Access.TheVariants.{Fetch, Read, Write}
+use Rattle.rv32_exec.specs.Pages.{Page, put_bytes}
+
+-- A copied page: its number, the frame that it was copied from, what may be done with it, the row that it was copied
+-- through, its bytes as they were copied and as they are now, and whether an access and whether a store went through it.
+pub record View : Type 0 where
+  pub vpn : Vpn
+  pub frame : Frame
+  pub flags : Flags
+  pub row : Ident
+  pub first : List ℕ
+  pub present : List ℕ
+  pub touched : Bool
+  pub written : Bool
+
+-- a view as a page of a space
+abbrev pub page_of : View → Page
+page_of v =
+    record {
+      number = v.vpn.0;
+      frame = v.frame.0;
+      readable = v.flags.r;
+      writable = v.flags.w;
+      executable = v.flags.x;
+      bytes = v.present;
+      touched = v.touched;
+      written = v.written;
+    }
+
+abbrev pub pages_of_views : List View → List Page
+pages_of_views vs = map page_of vs
+
+-- what no access changes of a view
+pub record Copied : Type 0 where
+  pub vpn : Vpn
+  pub frame : Frame
+  pub flags : Flags
+  pub row : Ident
+  pub first : List ℕ
+
+abbrev pub copied : View → Copied
+copied v = record { vpn = v.vpn; frame = v.frame; flags = v.flags; row = v.row; first = v.first }
+
+abbrev pub copies_of : List View → List Copied
+copies_of vs = map copied vs
+
+-- the view of a page
+abbrev pub is_of_page : Vpn → View → Bool
+is_of_page vpn v = v.vpn.0 == vpn.0
+
+-- a touched view of a frame
+abbrev pub is_touched_of : Frame → View → Bool
+is_touched_of frame v = v.touched && (v.frame.0 == frame.0)
+
+-- there is room for the view of a page that has none
+abbrev pub can_fill : List View → Vpn → Bool
+can_fill vs vpn = nat_lt (length vs) 8 && not (is_some (find (is_of_page vpn) vs))
+
+-- what the first touched view of a frame holds; without one, the bytes as they were copied
+abbrev pub present_in : Option View → List ℕ → List ℕ
+present_in None bytes = bytes
+present_in (Some v) bytes = v.present
+
+-- a new view beside others
+abbrev pub filled : List View → Vpn → Frame → Flags → Ident → List ℕ → View
+filled vs vpn frame flags row bytes =
+    record {
+      vpn = vpn;
+      frame = frame;
+      flags = flags;
+      row = row;
+      first = bytes;
+      present = present_in (find (is_touched_of frame) vs) bytes;
+      touched = false;
+      written = false;
+    }
+
+-- no page has two views
+abbrev pub HaveOneViewAPage : List View → Type 0
+HaveOneViewAPage vs = AllPairs (λ a b. a.vpn.0 ≢ b.vpn.0) vs
+
+-- a view once a store went to its frame
+abbrev pub put_in_view : Frame → ℕ → ℕ → ℕ → View → View
+put_in_view frame count at value v = if v.frame.0 == frame.0 then record v { present = put_bytes count v.present at value } else v
+
+-- a view once an access went through it
+abbrev pub mark_view : Access → View → View
+mark_view Fetch v = record v { touched = true }
+mark_view Read v = record v { touched = true }
+mark_view Write v = record v { touched = true; written = true }
+
+abbrev pub mark_view_of : Vpn → Access → View → View
+mark_view_of vpn access v = if v.vpn.0 == vpn.0 then mark_view access v else v
+
+-- whether flags let an access through
+abbrev pub allows_flags : Access → Flags → Bool
+allows_flags Fetch flags = flags.x
+allows_flags Read flags = flags.r
+allows_flags Write flags = flags.w
+
+-- eight views, of which the first so many are present
+pub record IsTable (views : List View) (count : ℕ) : Type 0 where
+  pub eight : length views ≡ 8
+  pub within : count ≤ 8
+  pub one_a_page : HaveOneViewAPage (take count views)
+
+abbrev pub where_flagged : Access → Option View → Option View
+where_flagged access None = None
+where_flagged access (Some v) = if allows_flags access v.flags then Some v else None
+
+-- the view that an access to an address goes through: that of its page, where its flag is there
+abbrev pub view_through : List View → Access → ℕ → Option View
+view_through vs access va = where_flagged access (find (is_of_page (record { 0 = va / 4096 })) vs)

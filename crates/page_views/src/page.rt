@@ -1,0 +1,179 @@
+//! One copied page.
+
+ghost use Rattle.std.specs.Prelude.{◌≡◌, ◌+◌, ◌%◌, ◌<◌, length, false, replicate};
+ghost use Rattle.rv32_exec.specs.Pages.{number_at, put_bytes, size_of};
+ghost use Rattle.page_views.specs.Views.{mark_view};
+
+use cache_ident::{Frame, Ident, Vpn};
+use phys_groups::Flags;
+use rv32_exec::{Access, Width};
+use std::marker::Model;
+
+pub(crate) const PAGE_BYTES: usize = 4_096;
+
+/// A copied page of 4,096 bytes, and what steps did to it.
+///
+/// A fetch, a load or a store through a view touches it, and a store also writes it. Every call takes constant time and
+/// no memory.
+#[derive(Drop)]
+pub struct PageView {
+    vpn: Vpn,
+    frame: Frame,
+    flags: Flags,
+    row: Ident,
+    first: [u8; PAGE_BYTES],
+    present: [u8; PAGE_BYTES],
+    touched: bool,
+    written: bool,
+}
+
+impl Model for PageView {
+    ghost use Rattle.page_views.specs.Views.{View};
+
+    ghost Value = { View };
+
+    ghost view = { λ v. record { vpn = v.vpn; frame = v.frame; flags = v.flags; row = v.row; first = v.first; present = v.present; touched = v.touched; written = v.written } };
+}
+
+impl PageView {
+    // A view of zeros, which nothing was copied to yet.
+    pub(crate) fn empty() -> PageView {
+        PageView {
+            vpn: Vpn(0),
+            frame: Frame(0),
+            flags: Flags::default(),
+            row: Ident::default(),
+            first: [0; PAGE_BYTES],
+            present: [0; PAGE_BYTES],
+            touched: false,
+            written: false,
+        }
+    }
+
+    /// The page.
+    pub fn vpn(&self) -> Vpn
+        ensures { result ≡ self.now.vpn }
+    {
+        self.vpn
+    }
+
+    /// The frame that was copied.
+    pub fn frame(&self) -> Frame
+        ensures { result ≡ self.now.frame }
+    {
+        self.frame
+    }
+
+    /// The flags of the row that it was copied through.
+    pub fn flags(&self) -> Flags
+        ensures { result ≡ self.now.flags }
+    {
+        self.flags
+    }
+
+    /// The identifier of the row that it was copied through.
+    pub fn row(&self) -> Ident
+        ensures { result ≡ self.now.row }
+    {
+        self.row
+    }
+
+    /// The bytes as they were copied.
+    pub fn first(&self) -> &[u8]
+        ensures bytes { result.now ≡ self.now.first }
+        ensures whole_page { length result.now ≡ 4096 }
+    {
+        &self.first
+    }
+
+    /// The bytes as they are now.
+    pub fn present(&self) -> &[u8]
+        ensures bytes { result.now ≡ self.now.present }
+        ensures whole_page { length result.now ≡ 4096 }
+    {
+        &self.present
+    }
+
+    /// Whether an access went through it.
+    pub fn touched(&self) -> bool
+        ensures { result ≡ self.now.touched }
+    {
+        self.touched
+    }
+
+    /// Whether a store went through it.
+    pub fn written(&self) -> bool
+        ensures { result ≡ self.now.written }
+    {
+        self.written
+    }
+
+    // The number from a place on.
+    pub(crate) fn number(&self, at: usize, width: Width) -> u32
+        requires { at + size_of width < 4097 }
+        ensures { result ≡ number_at width self.now.present at }
+    {
+        let bytes = &self.present;
+        match width {
+            Width::Byte => u32::from(bytes[at]),
+            Width::Half => u32::from(u16::from_le_bytes([bytes[at], bytes[at + 1]])),
+            Width::Word => {
+                u32::from_le_bytes([bytes[at], bytes[at + 1], bytes[at + 2], bytes[at + 3]])
+            }
+        }
+    }
+
+    // Puts the low bytes of a number from a place on.
+    pub(crate) fn put(&mut self, at: usize, width: Width, value: u32)
+        requires { at + size_of width < 4097 }
+        ensures { self.new ≡ record self.old { present = put_bytes (size_of width) self.old.present at value } }
+    {
+        let bytes = &mut self.present;
+        bytes[at] = (value & 0xff) as u8;
+        match width {
+            Width::Byte => {}
+            Width::Half => {
+                bytes[at + 1] = ((value >> 8) & 0xff) as u8;
+            }
+            Width::Word => {
+                bytes[at + 1] = ((value >> 8) & 0xff) as u8;
+                bytes[at + 2] = ((value >> 16) & 0xff) as u8;
+                bytes[at + 3] = ((value >> 24) & 0xff) as u8;
+            }
+        }
+    }
+
+    // Leaves the mark of an access.
+    pub(crate) fn mark(&mut self, access: Access)
+        ensures { self.new ≡ mark_view access self.old }
+    {
+        self.touched = true;
+        if matches!(access, Access::Write) {
+            self.written = true;
+        }
+    }
+
+    // Makes it an untouched view of that page, with these bytes as first and as present contents.
+    pub(crate) fn copy(
+        &mut self,
+        vpn: Vpn,
+        frame: Frame,
+        flags: Flags,
+        row: Ident,
+        first: &[u8],
+        present: &[u8],
+    )
+        requires first { length first.now ≡ 4096 }
+        requires present { length present.now ≡ 4096 }
+        ensures { self.new ≡ record { vpn = vpn; frame = frame; flags = flags; row = row; first = first.now; present = present.now; touched = false; written = false } }
+    {
+        self.vpn = vpn;
+        self.frame = frame;
+        self.flags = flags;
+        self.row = row;
+        self.first.copy_from_slice(first);
+        self.present.copy_from_slice(present);
+        self.touched = false;
+        self.written = false;
+    }
+}

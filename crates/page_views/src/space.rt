@@ -1,0 +1,90 @@
+//! Copied pages as a space for steps.
+
+ghost use Rattle.std.specs.Prelude.{◌≡◌, ◌+◌, ◌%◌, ◌<◌, List};
+ghost use Rattle.std.specs.Result.{result_ok};
+ghost use Rattle.std.specs.Option.{option_copied};
+ghost use Rattle.rv32_exec.specs.Pages.{read_through, size_of};
+ghost use Rattle.page_views.specs.Views.{allows_flags, copies_of, pages_of_views, view_through, Copied};
+
+use crate::page::PageView;
+use crate::table::PageViews;
+use cache_ident::Vpn;
+use phys_groups::Flags;
+use rv32_exec::{Access, Hole, Space, Width};
+use rv32_isa::Instr;
+
+// Whether flags let an access through.
+fn allows(flags: Flags, access: Access) -> bool
+    ensures { result ≡ allows_flags access flags }
+{
+    match access {
+        Access::Fetch => flags.x,
+        Access::Read => flags.r,
+        Access::Write => flags.w,
+    }
+}
+
+// The place of an address in its page, with room for the width.
+fn place(va: u32, width: Width) -> usize
+    requires { va % size_of width ≡ 0 }
+    ensures place { result ≡ va % 4096 }
+    ensures within { result + size_of width < 4097 }
+{
+    (va % 4_096) as usize
+}
+
+impl PageViews {
+    /// The view that an access goes through: that of the page of `va`, where its flags let the access through.
+    pub fn through(&self, va: u32, access: Access) -> Option<&PageView>
+        ensures { option_copied result ≡ view_through self.now access va }
+    {
+        match self.find(Vpn(va / 4_096)) {
+            Some(view) if allows(view.flags(), access) => Some(view),
+            _ => None,
+        }
+    }
+
+    // The number that an access reads.
+    fn read(&self, va: u32, access: Access, width: Width) -> Result<u32, Hole>
+        requires { va % size_of width ≡ 0 }
+        ensures { result_ok result ≡ read_through access (pages_of_views self.now) va width }
+    {
+        match self.through(va, access) {
+            Some(view) => Ok(view.number(place(va, width), width)),
+            None => Err(Hole),
+        }
+    }
+}
+
+impl Space for PageViews {
+    ghost pages = { pages_of_views };
+
+    ghost Kept = { List Copied };
+
+    ghost kept = { copies_of };
+
+    fn fetch(&self, va: u32) -> Result<u32, Hole> {
+        self.read(va, Access::Fetch, Width::Word)
+    }
+
+    fn instruction(&mut self, va: u32, word: u32) -> Option<Instr> {
+        self.decoded.instruction(va, word)
+    }
+
+    fn load(&self, va: u32, width: Width) -> Result<u32, Hole> {
+        self.read(va, Access::Read, width)
+    }
+
+    fn store(&mut self, va: u32, width: Width, value: u32) -> Result<(), Hole> {
+        let frame = match self.through(va, Access::Write) {
+            Some(view) => view.frame(),
+            None => return Err(Hole),
+        };
+        self.put(frame, place(va, width), width, value);
+        Ok(())
+    }
+
+    fn touch(&mut self, va: u32, access: Access) {
+        self.mark(Vpn(va / 4_096), access);
+    }
+}
