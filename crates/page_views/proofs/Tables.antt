@@ -125,6 +125,26 @@ not_found vpn (v ∷ vs) none k d within = by (v.vpn.0 == vpn.0) refl none (λ a
     by false e none others zero within = λ same. true_false (sym (eq-eqb v.vpn.0 vpn.0 same) ∙ e)
     by false e none others (suc k) within = others none k (omega (arith, within))
 
+first_true : (a b : Bool) → (a && b) ≡ true → a ≡ true
+first_true true b e = refl
+first_true false b e = e
+
+second_true : (a b : Bool) → (a && b) ≡ true → b ≡ true
+second_true true b e = e
+second_true false b e = cc
+
+is_none_where : (o : Option View) → not (is_some o) ≡ true → o ≡ None
+is_none_where None e = refl
+is_none_where (Some v) e = cc
+
+-- a page that can be filled has no view
+pub no_view : (vs : List View) (vpn : Vpn) → can_fill vs vpn ≡ true → find (is_of_page vpn) vs ≡ None
+no_view vs vpn room = is_none_where (find (is_of_page vpn) vs) (second_true _ _ room)
+
+-- no page has two views, when a view of another page is added
+pub one_filled : (vs : List View) (v : View) → can_fill vs v.vpn ≡ true → HaveOneViewAPage vs → HaveOneViewAPage (vs ++ v ∷ [])
+one_filled vs v room one = all_pairs_push (λ (a b : View). a.vpn.0 ≢ b.vpn.0) vs v one (not_found v.vpn vs (no_view vs v.vpn room))
+
 pub table_filled : (n count : ℕ) (xs ys : List View) (v : View) → n ≡ length xs → IsTable xs count → can_fill (take count xs) v.vpn ≡ true → ys ≡ set xs count v
     → IsTable (take n (ys ++ drop (length ys) xs)) (count + 1)
 table_filled n count xs ys v whole table room became =
@@ -133,25 +153,12 @@ table_filled n count xs ys v whole table room became =
     let free : count < 8 = omega (arith, ltb-true (length (take count xs)) 8 (first_true _ _ room), taken) in
     let below : count < length xs = omega (arith, free, table.eight) in
     let more : count + 1 ≤ 8 = omega (arith, free) in
-    let absent : find (is_of_page v.vpn) (take count xs) ≡ None = is_none_where _ (second_true _ _ room) in
     rw (written_over n xs ys whole size) (record {
       eight = size ∙ table.eight;
       within = more;
       one_a_page = subst HaveOneViewAPage (sym (ap (take (count + 1)) became ∙ take_more_set xs count v below))
-          (all_pairs_push (λ (a b : View). a.vpn.0 ≢ b.vpn.0) (take count xs) v table.one_a_page (not_found v.vpn (take count xs) absent));
+          (one_filled (take count xs) v room table.one_a_page);
     })
-  where
-    first_true : (a b : Bool) → (a && b) ≡ true → a ≡ true
-    first_true true b e = refl
-    first_true false b e = e
-
-    second_true : (a b : Bool) → (a && b) ≡ true → b ≡ true
-    second_true true b e = e
-    second_true false b e = cc
-
-    is_none_where : (o : Option View) → not (is_some o) ≡ true → o ≡ None
-    is_none_where None e = refl
-    is_none_where (Some v) e = cc
 
 -- the part before a place and the rest with its first element replaced
 pub set_between : (n : ℕ) (xs : List View) (v : View) → n < length xs → take n xs ++ set (drop n xs) 0 v ≡ set xs n v
