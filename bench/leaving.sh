@@ -7,24 +7,22 @@
 # Two of the kernel's spaces have the rows in turn, so that those of the one stand between those of the other in the order
 # of identifiers.
 #
-# Before a row is loaded, it is sought among all children of its space, so loading 65,536 rows takes minutes that are in no
-# figure.
+# In plain sorted vectors (measured on 2026-11-27) each of 1,024 rows took 1,859 ns to leave, and 65,536 rows took 11
+# seconds in plain Rust, since each moved what is behind it.
 #
-# Makes a program in a temporary folder, with the helper and its proofs that the tests of writeback_order use, and
-# lets rt prove and build it there.
+# Makes a program in a temporary folder, and lets rt prove and build it there.
 set -euo pipefail
 source "$(dirname "$0")/program.sh"
 begin_program leaving_times 'cache_ident sorted_list depend_lists writeback_order' anyhow
-mkdir -p "$program/proofs/load" "$program/proofs/timed" "$program/proofs/of_rows"
+mkdir -p "$program"/proofs/{depend,load,timed,of_rows}
 cat > "$program/src/main.rt" <<'MAIN'
 #![tactic(auto)]
 
-ghost use Rattle.std.specs.Prelude.{◌≡◌, ◌+◌, ◌<◌, ◌≤◌, ◌↔◌, Contains, IsTrue, length};
-ghost use Rattle.depend_lists.specs.Roomy.{IsRoomy};
+ghost use Rattle.std.specs.Prelude.{◌≡◌, ◌<◌, ◌≤◌};
+ghost use Rattle.leaving_times.specs.declared.TheConstants.{CAPS};
 
 use cache_ident::{Caps, Ident, Kind};
 use depend_lists::{Class, Depends, Node};
-use std::process::Abort;
 use std::time::Instant;
 use writeback_order::{Scratch, order};
 
@@ -46,21 +44,13 @@ fn node(kind: Kind, number: u32, class: Class) -> Node {
     }
 }
 
-fn is_child(depends: &Depends, parent: Ident, child: Node) -> bool
-    ensures { IsTrue result ↔ Contains depends.now.pairs (parent, child) }
-{
-    depends.children(parent).any(|node| node == child)
-}
-
-fn depend(rt: &impl Abort, depends: &mut Depends, child: Node, parents: &[Node])
-    requires few { length parents.now ≤ 5 }
-    requires roomy { IsRoomy depends.old.caps (length depends.old.pairs + length parents.now) }
-    ensures caps { depends.new.caps ≡ depends.old.caps }
-    ensures pairs { length depends.new.pairs ≤ length depends.old.pairs + length parents.now }
+// Makes the child depend on the parent, and on nothing else.
+fn depend(depends: &mut Depends, parent: Node, child: Node)
+    requires { depends.old.caps ≡ CAPS }
+    ensures { depends.new.caps ≡ CAPS }
 {
     depends.remove(child.ident);
-    for parent in parents {
-        assert!(rt; !is_child(depends, parent.ident, child), "twice a child");
+    if depends.len() < 69_000 {
         depends.add(parent.ident, child);
     }
 }
@@ -74,20 +64,19 @@ fn space(number: u32) -> Node {
 }
 
 // Three spaces of the kernel: ten rows in the one in the middle, so many in turn in the two others.
-fn load(rt: &impl Abort, depends: &mut Depends, rows: u32)
+fn load(depends: &mut Depends, rows: u32)
     requires rows { rows ≤ 65536 }
     requires caps { depends.old.caps ≡ CAPS }
-    requires pairs { length depends.old.pairs ≤ 0 }
-    ensures caps { depends.new.caps ≡ CAPS }
+    ensures { depends.new.caps ≡ CAPS }
 {
     for number in 0..3u32 {
-        depend(rt, depends, space(number), &[kernel()]);
+        depend(depends, kernel(), space(number));
     }
     for row in 0..rows {
-        depend(rt, depends, node(Kind::Mapping, row, Class::OtherRow), &[space(2 * (row % 2))]);
+        depend(depends, space(2 * (row % 2)), node(Kind::Mapping, row, Class::OtherRow));
     }
     for row in 0..10u32 {
-        depend(rt, depends, node(Kind::Mapping, rows + row, Class::OtherRow), &[space(1)]);
+        depend(depends, space(1), node(Kind::Mapping, rows + row, Class::OtherRow));
     }
 }
 
@@ -105,13 +94,13 @@ fn timed(rt: &impl std::rt::Clock, depends: &Depends, root: Node, scratch: &mut 
 }
 
 // The time, in nanoseconds, in which all rows leave with the kernel of their spaces.
-fn taken_out(rt: &(impl std::rt::Clock + AllocGlobal + Abort), rows: u32, scratch: &mut Scratch) -> anyhow::Result<u128>
+fn taken_out(rt: &(impl std::rt::Clock + AllocGlobal), rows: u32, scratch: &mut Scratch) -> anyhow::Result<u128>
     requires caps { scratch.old.caps ≡ CAPS }
     requires rows { rows ≤ 65536 }
     ensures { scratch.new.caps ≡ CAPS }
 {
     let mut depends = Depends::new(rt.alloc(), CAPS)?;
-    load(rt, &mut depends, rows);
+    load(&mut depends, rows);
     let start = Instant::now(rt)?;
     order(&depends, kernel(), scratch);
     for node in scratch.nodes() {
@@ -120,7 +109,7 @@ fn taken_out(rt: &(impl std::rt::Clock + AllocGlobal + Abort), rows: u32, scratc
     Ok(start.elapsed(rt)?.as_nanos())
 }
 
-fn of_rows(rt: &(impl Print + std::rt::Clock + AllocGlobal + Abort), rows: u32) -> anyhow::Result<()>
+fn of_rows(rt: &(impl Print + std::rt::Clock + AllocGlobal), rows: u32) -> anyhow::Result<()>
     requires some { 0 < rows }
     requires rows { rows ≤ 65536 }
 {
@@ -128,7 +117,7 @@ fn of_rows(rt: &(impl Print + std::rt::Clock + AllocGlobal + Abort), rows: u32) 
     let mut depends = Depends::new(rt.alloc(), CAPS)?;
     let mut scratch = Scratch::new(rt.alloc(), CAPS)?;
     let made = start.elapsed(rt)?.as_nanos();
-    load(rt, &mut depends, rows);
+    load(&mut depends, rows);
     let few = timed(rt, &depends, space(1), &mut scratch, 100_000)?;
     println!(rt; "{rows} other rows: {few} ns for the order of a space with ten, {made} ns for the room")?;
     let mut best = u128::MAX;
@@ -146,21 +135,40 @@ fn main(rt: HostRuntime) -> anyhow::Result<()> {
     of_rows(&rt, 65_536)
 }
 MAIN
-cp -r "$top/crates/writeback_order/proofs/tests/is_child" "$top/crates/writeback_order/proofs/tests/depend" "$program/proofs/"
-sed -i 's/Rattle.writeback_order.proofs.tests/Rattle.leaving_times.proofs/' "$program"/proofs/*/*.antt
+cat > "$program/proofs/depend/Answers.antt" <<'PROOF'
+use Rattle.std.proofs.Common.{◌≡◌, ◌∙◌, ap, arith}
+use Rattle.depend_lists.specs.Pairs.{Dependence}
+use Rattle.depend_lists.proofs.RoomyLemmas.{absent_without, parents_none, within_more}
+use Rattle.leaving_times.specs.declared.TheConstants.{CAPS}
+use Rattle.leaving_times.proofs.depend.Goals as goal
+
+pub add-requires-clause-absent : goal.add-requires-clause-absent
+add-requires-clause-absent c = rw c.remove.ensures (absent_without c.args.depends.now.pairs _ c.args.child)
+
+pub add-requires-clause-class : goal.add-requires-clause-class
+add-requires-clause-class c = rw c.remove.ensures (parents_none c.args.depends.now.pairs c.args.child).one_class
+
+pub add-requires-clause-parents : goal.add-requires-clause-parents
+add-requires-clause-parents c = rw c.remove.ensures (omega (arith, (parents_none c.args.depends.now.pairs c.args.child).count))
+
+pub add-requires-clause-within : goal.add-requires-clause-within
+add-requires-clause-within c =
+    let caps : c.remove.new.self.caps ≡ CAPS = ap (λ (d : Dependence). d.caps) c.remove.ensures ∙ c.requires in
+    rw caps (within_more CAPS 69000 _ c.remove.new.self.pairs (omega (arith, c.len.ensures.len, c.if-len-lt69000.true)) (omega arith, omega arith, omega arith, omega arith))
+PROOF
 cat > "$program/proofs/load/Invariants.antt" <<'PROOF'
-use Rattle.std.proofs.Common.{◌≡◌, ◌+◌, ◌≤◌, length}
+use Rattle.std.proofs.Common.{◌≡◌}
 use Rattle.leaving_times.specs.declared.TheConstants.{CAPS}
 use Rattle.leaving_times.proofs.load.Given as goal
 
 abbrev pub invariant-loop-number : goal.invariant-loop-number
-invariant-loop-number g l = record { caps : l.depends.caps ≡ CAPS; pairs : length l.depends.pairs ≤ l.number }
+invariant-loop-number l = l.depends.caps ≡ CAPS
 
 abbrev pub invariant-loop-row : goal.invariant-loop-row
-invariant-loop-row g l = record { caps : l.depends.caps ≡ CAPS; pairs : length l.depends.pairs ≤ 3 + l.row }
+invariant-loop-row l = l.depends.caps ≡ CAPS
 
 abbrev pub invariant-loop-row-2 : goal.invariant-loop-row-2
-invariant-loop-row-2 g l = record { caps : l.depends.caps ≡ CAPS; pairs : length l.depends.pairs ≤ 3 + l.rows + l.row }
+invariant-loop-row-2 l = l.depends.caps ≡ CAPS
 PROOF
 cat > "$program/proofs/timed/Invariants.antt" <<'PROOF'
 use Rattle.std.proofs.Common.{◌≡◌}
@@ -178,7 +186,8 @@ abbrev pub invariant-loop : goal.invariant-loop
 invariant-loop g l = l.scratch.caps ≡ CAPS
 PROOF
 
-times="$(run_program ' ns for ')"
+times="$(run_program ' ns for ')" || { echo "$times"; exit 1; }
 echo "$times"
 echo "$times" | awk '/ for each row$/ { each[$1] = $(NF - 4) }
-    END { if (each[1024] == 0 || each[65536] > 3 * each[1024]) { print "a row takes more than 3 times as long where more leave"; exit 1 } }'
+    END { if (each[1024] > 0) printf "65,536 to 1,024: %.1f times\n", each[65536] / each[1024]
+          if (each[1024] == 0 || each[65536] > 3 * each[1024]) { print "a row takes more than 3 times as long where more leave"; exit 1 } }'
