@@ -1,0 +1,10 @@
+pub mod StepsIn
+pub mod ViewPages
+pub mod Changed
+pub mod FlatSteps
+pub mod OneStep
+pub mod Growing
+pub mod Making
+pub mod Committing
+pub mod Going
+pub mod Looking

@@ -1,0 +1,15 @@
+-- Each try goes one step further, or answers the first pause.
+use Rattle.std.proofs.Common.{arith, ap, sym, ◌∙◌}
+use Rattle.quantum.specs.Ahead.{Ahead}
+use Rattle.quantum.proofs.Going.{going_on, gone_at}
+use Rattle.quantum.proofs.ahead.Quantum.go.Goals as goal
+
+pub returns-in-Some-advance : goal.returns-in-Some-advance
+returns-in-Some-advance c =
+    let steps = ap (λ (a : Ahead). a.steps) c.self-in-loop-self.view_is in
+    gone_at c.args.limit c.args.self.now c.loop-self.self c.advance.new.self c.loop-self.invariant (omega (arith, steps)) c.advance.ensures.after c.in-Some-advance.paused (sym c.in-Some-advance.is ∙ c.advance.ensures.answer)
+
+pub loop-self-preserved : goal.loop-self-preserved
+loop-self-preserved c =
+    let steps = ap (λ (a : Ahead). a.steps) c.self-in-loop-self.view_is in
+    going_on c.args.limit c.args.self.now c.loop-self.self c.advance.new.self c.loop-self.invariant (omega (arith, steps)) c.advance.ensures.after (sym c.in_default-advance.is ∙ c.advance.ensures.answer)

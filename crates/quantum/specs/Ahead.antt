@@ -1,0 +1,115 @@
+-- A run ahead: what it has come to, what a step makes of it, and where it pauses.
+use Rattle.std.specs.Prelude.{◌≡◌, ℕ, zero, suc, ◌+◌, ◌%◌, ◌<◌, ◌&&◌, Bool, false, if◌then◌else◌, nat_le, List, [], ◌∷◌, Option, Some, None}
+use Rattle.std.specs.Option.{option_or}
+use Rattle.signal_pages.specs.Signals.{is_signalling}
+use Rattle.rv32_exec.specs.declared.contexts.Context.{Context}
+use Rattle.rv32_exec.specs.declared.statuses.Access.TheVariants.{Write}
+use Rattle.rv32_exec.specs.declared.spaces.Width.TheVariants.{Word}
+use Rattle.rv32_exec.specs.declared.actions.Action.{Action}
+use Rattle.rv32_exec.specs.declared.actions.Action.TheVariants.{Store}
+use Rattle.rv32_exec.specs.declared.steps.Stepped.{Stepped}
+use Rattle.rv32_exec.specs.declared.steps.Stepped.TheVariants as steps
+use Rattle.rv32_exec.specs.Pages.{Page}
+use Rattle.rv32_exec.specs.Steps.{After, after_step}
+use Rattle.flat_state.specs.Signals.{next_action}
+use Rattle.page_views.specs.Views.{View, pages_of_views, view_through}
+use Rattle.quantum.specs.declared.paused.Paused.{Paused}
+use Rattle.quantum.specs.declared.paused.Paused.TheVariants.{Limit, Call, Stopped, Miss, Signal}
+
+-- what a contract sees of a run ahead: the context that it began with and the one now, the views, how many steps it took,
+-- and the last answer
+pub record Ahead : Type 0 where
+  pub first : Context
+  pub context : Context
+  pub views : List View
+  pub steps : ℕ
+  pub paused : Option Paused
+
+-- the views, when their pages are these
+abbrev pub views_with : List View → List Page → List View
+views_with [] ps = []
+views_with (v ∷ vs) [] = v ∷ vs
+views_with (v ∷ vs) (p ∷ ps) = record v { present = p.bytes; touched = p.touched; written = p.written } ∷ views_with vs ps
+
+-- a step that is a call or ends the thread pauses the run
+abbrev pub pause_after : Stepped → Option Paused
+pause_after steps.Next = None
+pause_after steps.Call = Some Call
+pause_after (steps.Stop reason) = Some (Stopped reason)
+pause_after (steps.Miss va access) = None
+
+-- the next step over the views
+abbrev pub outcome : Ahead → After
+outcome a = after_step a.context (pages_of_views a.views)
+
+-- one step more
+abbrev pub one_ahead : Ahead → Ahead
+one_ahead a =
+    record a {
+      context = (outcome a).context;
+      views = views_with a.views (outcome a).pages;
+      steps = a.steps + 1;
+      paused = pause_after (outcome a).answer;
+    }
+
+-- so many steps more
+abbrev pub further : ℕ → Ahead → Ahead
+further zero a = a
+further (suc k) a = further k (one_ahead a)
+
+-- a word that is stored at a signalling offset, through a view with the message flag, signals
+abbrev pub signals_through : ℕ → Option View → Bool
+signals_through va None = false
+signals_through va (Some v) = v.flags.m && is_signalling (va % 4096)
+
+abbrev pub signals_by : List View → Option Action → Bool
+signals_by vs (Some (Store va Word value)) = signals_through va (view_through vs Write va)
+signals_by vs _ = false
+
+-- the next step is a store that signals
+abbrev pub signals_next : Ahead → Bool
+signals_next a = signals_by a.views (next_action a.context (pages_of_views a.views))
+
+abbrev pub pause_if_missed : Stepped → Option Paused
+pause_if_missed (steps.Miss va access) = Some (Miss va access)
+pause_if_missed _ = None
+
+-- a step that can't be taken ahead
+abbrev pub pause_before : Ahead → Option Paused
+pause_before a = if signals_next a then Some Signal else pause_if_missed (outcome a).answer
+
+-- a run that stands at a call, or at the thread's end, stays there
+abbrev pub standing : Option Paused → Option Paused
+standing (Some Call) = Some Call
+standing (Some (Stopped reason)) = Some (Stopped reason)
+standing _ = None
+
+abbrev pub at_limit : ℕ → ℕ → Option Paused
+at_limit limit steps = if nat_le limit steps then Some Limit else None
+
+-- where a run with a limit pauses, if it does: at a call or the thread's end, at the limit, or before a step, in this order
+abbrev pub pause_at : ℕ → Ahead → Option Paused
+pause_at limit a = option_or (standing a.paused) (option_or (at_limit limit a.steps) (pause_before a))
+
+-- It took steps up to the first pause, and answers that.
+pub record IsRun (limit : ℕ) (before after : Ahead) (answer : Paused) : Type 0 where
+  pub count : ℕ
+  pub took : after ≡ record (further count before) { paused = Some answer }
+  pub went_on : (k : ℕ) → k < count → pause_at limit (further k before) ≡ None
+  pub stands : pause_at limit (further count before) ≡ Some answer
+
+-- what a try to go one step further makes, and answers: nothing where a pause stands before it
+abbrev pub advanced : Option Paused → Ahead → Ahead
+advanced None a = one_ahead a
+advanced (Some p) a = a
+
+abbrev pub answer_of : Option Paused → Ahead → Option Paused
+answer_of None a = (one_ahead a).paused
+answer_of (Some p) a = Some p
+
+-- it took steps up to the first pause
+pub record HasGone (limit : ℕ) (before after : Ahead) (answer : Paused) : Type 0 where
+  pub count : ℕ
+  pub took : after ≡ further count before
+  pub went_on : (k : ℕ) → k < count → pause_at limit (further k before) ≡ None
+  pub stands : pause_at limit (further count before) ≡ Some answer

@@ -1,0 +1,237 @@
+//! Steps of one thread, taken on copied pages.
+
+ghost use Rattle.std.specs.Prelude.{◌≡◌, ◌+◌, ◌%◌, ◌^◌, ◌<◌, ◌∷◌, ◌++◌, [], None, Some, length, IfOk, IsTrue};
+ghost use Rattle.page_views.specs.Views.{can_fill, filled, pages_of_views, HaveOneViewAPage};
+ghost use Rattle.rv32_exec.specs.Steps.{after_step, OnMiss};
+ghost use Rattle.flat_state.specs.Signals.{next_action};
+ghost use Rattle.quantum.specs.Ahead.{advanced, answer_of, pause_after as pause_after_def, pause_before, signals_by, standing as standing_def, views_with, HasGone, IsRun};
+ghost use Rattle.quantum.specs.LocalRun.{IsLocalRun};
+
+use crate::paused::Paused;
+use cache_ident::{Frame, Ident, NoMemory, Vpn};
+use page_views::{PageView, PageViews};
+use phys_groups::Flags;
+use rv32_exec::{Access, Action, Context, Space, Stepped, Width, action_for, step};
+use std::alloc::Global;
+use std::marker::Model;
+
+/// Steps of one thread ahead of its machine, on copies of up to eight pages. A contract sees the context that it began
+/// with, the one now, the views, how many steps there are, and the last answer of `run`.
+///
+/// Whatever pages were copied at whatever moments, the steps are those that the thread takes in every state in which it
+/// has the first context and finds the first contents of each view that was touched. No call after `new` takes memory.
+#[derive(Drop)]
+pub struct Quantum {
+    first: Context,
+    context: Context,
+    views: PageViews,
+    steps: u32,
+    paused: Option<Paused>,
+}
+
+impl Model for Quantum {
+    ghost use Rattle.quantum.specs.Ahead.{Ahead};
+    ghost use Rattle.quantum.specs.Made.{IsMade};
+
+    ghost Value = { Ahead };
+
+    ghost view = { λ q. record { first = q.first; context = q.context; views = q.views; steps = q.steps; paused = q.paused } };
+
+    ghost invariant = { λ q. IsMade (record { first = q.first; context = q.context; views = q.views; steps = q.steps; paused = q.paused }) };
+}
+
+impl Quantum {
+    /// No view and no step. The one call that takes memory, some 100 KiB.
+    pub fn new(alloc: Global) -> Result<Quantum, NoMemory>
+        ensures { IfOk result (λ q. (q.views ≡ []) × (q.steps ≡ 0) × (q.paused ≡ None)) }
+    {
+        let context = Context {
+            regs: [0; 32],
+            pc: 0,
+        };
+        Ok(Quantum {
+            first: context,
+            context,
+            views: PageViews::new(alloc)?,
+            steps: 0,
+            paused: None,
+        })
+    }
+
+    /// Begins anew with a context, without views and steps.
+    pub fn begin(&mut self, context: Context)
+        requires { context.pc % 4 ≡ 0 }
+        ensures { self.new ≡ record { first = context; context = context; views = []; steps = 0; paused = None } }
+    {
+        self.first = context;
+        self.context = context;
+        self.views.clear();
+        self.steps = 0;
+        self.paused = None;
+    }
+
+    /// Whether there is room for the view of a page that has none.
+    pub fn can_fill(&self, vpn: Vpn) -> bool
+        ensures { result ≡ can_fill self.now.views vpn }
+    {
+        self.views.can_fill(vpn)
+    }
+
+    /// Adds an untouched view of a page, copied from `bytes`. Where a view of its frame was touched, it holds what the
+    /// first of these holds now. All else stays.
+    pub fn fill(&mut self, vpn: Vpn, frame: Frame, flags: Flags, row: Ident, bytes: &[u8])
+        requires room { IsTrue (can_fill self.old.views vpn) }
+        requires whole_page { length bytes.now ≡ 4096 }
+        ensures { self.new ≡ record self.old { views = self.old.views ++ filled self.old.views vpn frame flags row bytes.now ∷ [] } }
+    {
+        self.views.fill(vpn, frame, flags, row, bytes);
+    }
+
+    /// The views in the order of their filling.
+    pub fn views(&self) -> &[PageView]
+        ensures views { result.now ≡ self.now.views }
+        ensures one_a_page { HaveOneViewAPage self.now.views }
+    {
+        self.views.as_slice()
+    }
+
+    /// The context that it began with.
+    pub fn first(&self) -> &Context
+        ensures { result.now ≡ self.now.first }
+    {
+        &self.first
+    }
+
+    /// The context after the steps.
+    pub fn context(&self) -> &Context
+        ensures { result.now ≡ self.now.context }
+    {
+        &self.context
+    }
+
+    /// How many steps there are since the beginning. They are a local run.
+    pub fn steps(&self) -> u32
+        ensures steps { result ≡ self.now.steps }
+        ensures local_run { IsLocalRun self.now }
+    {
+        self.steps
+    }
+
+    /// The last answer of `run` since the beginning.
+    pub fn paused(&self) -> Option<Paused>
+        ensures { result ≡ self.now.paused }
+    {
+        self.paused
+    }
+
+    /// Takes steps until there are `limit` of them, or something else is met: a call or the end of the thread, before the
+    /// limit; and before a step that signals, or that needs a page that no view has. It waits for nobody.
+    pub fn run(&mut self, limit: u32) -> Paused
+        ensures run { IsRun limit self.old self.new result }
+        ensures local_run { IsLocalRun self.new }
+    {
+        let paused = self.go(limit);
+        self.paused = Some(paused);
+        paused
+    }
+
+    // Takes steps up to the first pause, and answers it.
+    fn go(&mut self, limit: u32) -> Paused
+        ensures { HasGone limit self.old self.new result }
+    {
+        if let Some(paused) = standing(self.paused) {
+            return paused;
+        }
+        while self.steps < limit {
+            if let Some(paused) = self.advance() {
+                return paused;
+            }
+        }
+        Paused::Limit
+    }
+
+    // Takes one step more, and answers whether the run pauses before it or after it.
+    fn advance(&mut self) -> Option<Paused>
+        requires going { standing_def self.old.paused ≡ None }
+        requires room { self.old.steps + 1 < 2 ^ 32 }
+        ensures after { self.new ≡ advanced (pause_before self.old) self.old }
+        ensures answer { result ≡ answer_of (pause_before self.old) self.old }
+    {
+        if signals_next(&self.context, &mut self.views) {
+            return Some(Paused::Signal);
+        }
+        let stepped = take(&mut self.context, &mut self.views);
+        if let Stepped::Miss { va, access } = stepped {
+            return Some(Paused::Miss { va, access });
+        }
+        self.steps += 1;
+        self.paused = pause_after(stepped);
+        self.paused
+    }
+}
+
+// A pause that stands, whatever is asked for.
+fn standing(paused: Option<Paused>) -> Option<Paused>
+    ensures { result ≡ standing_def paused }
+{
+    match paused {
+        Some(Paused::Call) => Some(Paused::Call),
+        Some(Paused::Stopped(reason)) => Some(Paused::Stopped(reason)),
+        _ => None,
+    }
+}
+
+// The pause that a step leaves.
+fn pause_after(stepped: Stepped) -> Option<Paused>
+    ensures { result ≡ pause_after_def stepped }
+{
+    match stepped {
+        Stepped::Call => Some(Paused::Call),
+        Stepped::Stop(reason) => Some(Paused::Stopped(reason)),
+        Stepped::Next | Stepped::Miss { .. } => None,
+    }
+}
+
+// Takes a step over the views.
+fn take(context: &mut Context, views: &mut PageViews) -> Stepped
+    requires { context.old.pc % 4 ≡ 0 }
+    ensures aligned { context.new.pc % 4 ≡ 0 }
+    ensures context { context.new ≡ (after_step context.old (pages_of_views views.old)).context }
+    ensures views { views.new ≡ views_with views.old (after_step context.old (pages_of_views views.old)).pages }
+    ensures answer { result ≡ (after_step context.old (pages_of_views views.old)).answer }
+    ensures missed { OnMiss result ((context.new ≡ context.old) × (views.new ≡ views.old)) }
+{
+    step(context, views)
+}
+
+// Whether the next step is a store that signals.
+fn signals_next(context: &Context, views: &mut PageViews) -> bool
+    requires { context.now.pc % 4 ≡ 0 }
+    ensures answer { result ≡ signals_by views.old (next_action context.now (pages_of_views views.old)) }
+    ensures views { views.new ≡ views.old }
+{
+    let Ok(word) = views.fetch(context.pc) else {
+        return false;
+    };
+    match views.instruction(context.pc, word) {
+        Some(instr) => signals(views, action_for(context, instr)),
+        None => false,
+    }
+}
+
+// Whether an action is a store that signals.
+fn signals(views: &PageViews, action: Action) -> bool
+    ensures { result ≡ signals_by views.now (Some action) }
+{
+    match action {
+        Action::Store {
+            va,
+            width: Width::Word,
+            ..
+        } => match views.through(va, Access::Write) {
+            Some(view) => view.flags().m && va % 4_096 % 64 == 60,
+            None => false,
+        },
+        _ => false,
+    }
+}
