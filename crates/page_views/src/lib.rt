@@ -7,3 +7,6 @@ mod table;
 
 pub use page::PageView;
 pub use table::PageViews;
+
+#[cfg(test)]
+mod tests;
