@@ -16,7 +16,6 @@ use Rattle.cache_ident.specs.contracts.names.FrameOrd.TheImpl as frame_order
 use Rattle.cache_ident.specs.contracts.names.FrameOrd.TheImpl.Laws as frame_laws
 use Rattle.cache_ident.specs.contracts.names.FramePartialEq.TheImpl as frame_eq
 use Rattle.cache_ident.specs.declared.idents.Ident.{Ident}
-use Rattle.cache_ident.specs.declared.idents.Kind.TheVariants.{Mapping}
 use Rattle.cache_ident.specs.declared.names.Frame.{Frame}
 use Rattle.cache_ident.proofs.RollLemmas.{same_ident}
 use Rattle.sorted_list.specs.Sorted.{by_parts, IsAdded, IsRising, IsTakenOut, Sorted}
@@ -25,7 +24,6 @@ use Rattle.sorted_list.proofs.UnderLemmas.{after_added, after_taken, both_tie, s
 use Rattle.phys_groups.specs.declared.rows.Row.{Row}
 use Rattle.slot_cache.specs.declared.loaded.Loaded.{Loaded}
 use Rattle.slot_cache.specs.Cells.{cell_at, just_loaded}
-use Rattle.slot_cache.specs.Table.{Table}
 use Rattle.slot_cache.proofs.SlotLemmas.{cell_within, count-put, count-same, count-take, elsewhere, here, not_none, some_same}
 use Rattle.mapping_cache.specs.Frames.{IsByFrame, IsIndexed, IsRowOf}
 
@@ -137,48 +135,44 @@ none_loaded zero = refl
 none_loaded (suc cap) = none_loaded cap
 
 -- slots with nothing in them have an index with no entry
-pub indexed-new : (cap : ℕ) (index : Sorted Frame Ident) → index.entries ≡ [] → index.room ≡ cap → IsIndexed (record { kind = Mapping; cells = replicate cap None }) index
+pub indexed-new : (cap : ℕ) (index : Sorted Frame Ident) → index.entries ≡ [] → index.room ≡ cap → IsIndexed (replicate cap None) index
 indexed-new cap index empty room =
     let none : length index.entries ≡ 0 = ap length empty in
     record {
-      kind = refl;
       listed = λ entry. (λ there. absurd (omega (arith, there.1, none)), λ row. absurd (not_none (replicate cap None) entry.1.slot row.0 row.1 (all_free cap entry.1.slot)));
       rising = λ i j d lt within. absurd (omega (arith, within, none));
       len = omega (arith, none, none_loaded cap);
       room = room ∙ sym (length-replicate {A = Option (Loaded Row)} cap None);
     }
 
-module _ (table : Table Row) (index : Sorted Frame Ident) (indexed : IsIndexed table index) where
+module _ (cells : List (Option (Loaded Row))) (index : Sorted Frame Ident) (indexed : IsIndexed cells index) where
   -- where a slot is free, the index has room
-  pub index_room : (slot : ℕ) (e : Loaded Row) → slot < length table.cells → cell_at table.cells slot ≡ None → length index.entries < index.room
-  index_room slot e within none = omega (arith, indexed.len, indexed.room, length-set table.cells slot (Some e), count-put table.cells slot e within none, count_by-le-length is_some (set table.cells slot (Some e)))
+  pub index_room : (slot : ℕ) (e : Loaded Row) → slot < length cells → cell_at cells slot ≡ None → length index.entries < index.room
+  index_room slot e within none = omega (arith, indexed.len, indexed.room, length-set cells slot (Some e), count-put cells slot e within none, count_by-le-length is_some (set cells slot (Some e)))
 
   -- the index stands for the slots when a row is changed and keeps identifier and frame
-  pub indexed-changed : (slot : ℕ) (e new : Loaded Row) → cell_at table.cells slot ≡ Some e → new.ident ≡ e.ident → new.value.frame ≡ e.value.frame → IsIndexed (record { kind = table.kind; cells = set table.cells slot (Some new) }) index
+  pub indexed-changed : (slot : ℕ) (e new : Loaded Row) → cell_at cells slot ≡ Some e → new.ident ≡ e.ident → new.value.frame ≡ e.value.frame → IsIndexed (set cells slot (Some new)) index
   indexed-changed slot e new some idents frames = record {
-    kind = indexed.kind;
-    listed = by_frame-changed table.cells index.entries indexed.listed slot e new some idents frames;
+    listed = by_frame-changed cells index.entries indexed.listed slot e new some idents frames;
     rising = indexed.rising;
-    len = indexed.len ∙ sym (count-same table.cells slot e new some);
-    room = indexed.room ∙ sym (length-set table.cells slot (Some new));
+    len = indexed.len ∙ sym (count-same cells slot e new some);
+    room = indexed.room ∙ sym (length-set cells slot (Some new));
   }
 
   -- without a row's entry, for the slots without the row
-  pub indexed-take : (new : Sorted Frame Ident) (ident : Ident) (e : Loaded Row) → cell_at table.cells ident.slot ≡ Some e → e.ident ≡ ident → IsTakenOut index.entries new.entries (e.value.frame, ident) → new.room ≡ index.room → IsRising entry_cmp new.entries → IsIndexed (record { kind = table.kind; cells = set table.cells ident.slot None }) new
+  pub indexed-take : (new : Sorted Frame Ident) (ident : Ident) (e : Loaded Row) → cell_at cells ident.slot ≡ Some e → e.ident ≡ ident → IsTakenOut index.entries new.entries (e.value.frame, ident) → new.room ≡ index.room → IsRising entry_cmp new.entries → IsIndexed (set cells ident.slot None) new
   indexed-take new ident e some is taken room rising = record {
-    kind = indexed.kind;
-    listed = by_frame-take table.cells index.entries indexed.listed ident e new.entries some is indexed.rising taken;
+    listed = by_frame-take cells index.entries indexed.listed ident e new.entries some is indexed.rising taken;
     rising = rising;
-    len = omega (arith, ap length taken.3, length-remove index.entries taken.0 taken.1, indexed.len, count-take table.cells ident.slot e some);
-    room = room ∙ indexed.room ∙ sym (length-set table.cells ident.slot None);
+    len = omega (arith, ap length taken.3, length-remove index.entries taken.0 taken.1, indexed.len, count-take cells ident.slot e some);
+    room = room ∙ indexed.room ∙ sym (length-set cells ident.slot None);
   }
 
   -- with a new row's entry, for the slots with the row
-  pub indexed-put : (new : Sorted Frame Ident) (ident : Ident) (value : Row) → ident.slot < length table.cells → cell_at table.cells ident.slot ≡ None → IsAdded index.entries new.entries (value.frame, ident) → new.room ≡ index.room → IsRising entry_cmp new.entries → IsIndexed (record { kind = table.kind; cells = set table.cells ident.slot (Some (just_loaded ident value)) }) new
+  pub indexed-put : (new : Sorted Frame Ident) (ident : Ident) (value : Row) → ident.slot < length cells → cell_at cells ident.slot ≡ None → IsAdded index.entries new.entries (value.frame, ident) → new.room ≡ index.room → IsRising entry_cmp new.entries → IsIndexed (set cells ident.slot (Some (just_loaded ident value))) new
   indexed-put new ident value within none added room rising = record {
-    kind = indexed.kind;
-    listed = by_frame-put table.cells index.entries indexed.listed ident value new.entries within none added;
+    listed = by_frame-put cells index.entries indexed.listed ident value new.entries within none added;
     rising = rising;
-    len = omega (arith, ap length added.2, length-insert index.entries added.0 (value.frame, ident) added.1, indexed.len, count-put table.cells ident.slot (just_loaded ident value) within none);
-    room = room ∙ indexed.room ∙ sym (length-set table.cells ident.slot (Some (just_loaded ident value)));
+    len = omega (arith, ap length added.2, length-insert index.entries added.0 (value.frame, ident) added.1, indexed.len, count-put cells ident.slot (just_loaded ident value) within none);
+    room = room ∙ indexed.room ∙ sym (length-set cells ident.slot (Some (just_loaded ident value)));
   }

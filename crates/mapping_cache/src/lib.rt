@@ -2,17 +2,18 @@
 #![tactic(auto)]
 
 ghost use Rattle.std.specs.Prelude.{◌≡◌, ◌≢◌, ◌<◌, ◌↔◌, None, replicate, length, count_by, is_some, slice_set, Contains, IfOk, IfSome, IfNone};
+ghost use Rattle.std.specs.Fn.{FnOnceReturnsAtMut};
 ghost use Rattle.std.specs.List.{AllPairs};
 ghost use Rattle.cache_ident.specs.declared.idents.Ident.{Ident};
 ghost use Rattle.cache_ident.specs.declared.idents.Kind.TheVariants.{Mapping};
-ghost use Rattle.slot_cache.specs.Cells.{cell_at, changed, filled, just_loaded, with_lock, with_value, HasNoName, HasNoSerial, IsContent, IsFoundAs, IsFull, IsLoaded, IsLowestFree, IsVictim, LockIs, NameIs, NoneMayGo};
+ghost use Rattle.slot_cache.specs.Cells.{cell_at, changed, filled, just_loaded, with_lock, with_value, HasNoName, HasNoSerial, IsContent, IsFoundAs, IsFull, IsLoaded, IsLowestFree, IsUpdated, IsVictim, KeepsName, loaded_in, LockIs, NameIs, NoneMayGo};
 ghost use Rattle.slot_cache.specs.Table.{IsProper};
 ghost use Rattle.slot_cache.specs.Rows.{row_name};
-ghost use Rattle.mapping_cache.specs.Frames.{FrameIs, IsRowOf};
+ghost use Rattle.mapping_cache.specs.Frames.{FrameIs, IsRowOf, KeepsFrame};
 
-use cache_ident::{Frame, Ident, Kind, Name, NoMemory};
+use cache_ident::{Frame, Ident, Name, NoMemory};
 use phys_groups::Row;
-use slot_cache::Slots;
+use slot_cache::{Cache, Iter};
 use sorted_list::{Run, SortedList};
 use std::alloc::Global;
 use std::marker::Model;
@@ -21,10 +22,10 @@ use std::marker::Model;
 mod tests;
 
 /// The rows that are loaded. A contract sees what stands at each slot; all memory is taken by `new`.
-/// The costs are those of `Slots`; `put` and `take` change the index by frame too.
+/// The costs are those of `Cache`; `put` and `take` change the index by frame too.
 #[derive(Drop)]
 pub struct MappingCache {
-    slots: Slots<Row>,
+    slots: Cache<Row>,
     // The identifiers of all loaded rows under their frames.
     by_frame: SortedList<Frame, Ident>,
 }
@@ -38,7 +39,7 @@ impl Model for MappingCache {
 
     ghost use Rattle.mapping_cache.specs.Frames.{IsIndexed};
 
-    ghost view = { λ cache. cache.slots.cells };
+    ghost view = { λ cache. cache.slots };
 
     ghost invariant = { λ cache. IsIndexed cache.slots cache.by_frame };
 }
@@ -49,7 +50,7 @@ impl MappingCache {
         ensures { IfOk result (λ cells. cells ≡ replicate cap None) }
     {
         Ok(MappingCache {
-            slots: Slots::new(alloc, Kind::Mapping, cap)?,
+            slots: Cache::new(alloc, cap)?,
             by_frame: SortedList::new(alloc, cap as usize)?,
         })
     }
@@ -58,6 +59,7 @@ impl MappingCache {
     pub fn free(&self) -> Option<u32>
         ensures lowest { IfSome result (IsLowestFree self.now) }
         ensures full { IfNone result (IsFull self.now) }
+        ensures proper { IsProper row_name Mapping self.now }
     {
         self.slots.free()
     }
@@ -90,6 +92,7 @@ impl MappingCache {
     pub fn get(&self, ident: Ident) -> Option<&Row>
         ensures content { IfSome result (λ value. IsContent self.now ident value.now) }
         ensures absent { IfNone result (IsLoaded self.now ident → ⊥) }
+        ensures proper { IsProper row_name Mapping self.now }
     {
         self.slots.get(ident)
     }
@@ -106,10 +109,23 @@ impl MappingCache {
         self.slots.replace(ident, value)
     }
 
+    /// Changes a loaded row where it stands, and gives what the change gives. Slot, identifier, name, frame and lock
+    /// stay. The row isn't moved.
+    pub fn update<R, F: FnOnce(&mut Row) -> R>(&mut self, ident: Ident, change: F) -> R
+        requires loaded { IsLoaded self.old ident }
+        requires callable { F.IsAlwaysCallable change }
+        requires name { KeepsName row_name (FnOnceReturnsAtMut F.FnOnce change) self.old ident.slot }
+        requires frame { KeepsFrame (FnOnceReturnsAtMut F.FnOnce change) self.old ident.slot }
+        ensures { IsUpdated (FnOnceReturnsAtMut F.FnOnce change) self.old self.new ident result }
+    {
+        self.slots.update(ident, change)
+    }
+
     /// The identifier of the loaded row of that name; `None` where it isn't loaded.
     pub fn find(&self, name: Name) -> Option<Ident>
         ensures found { IfSome result (IsFoundAs row_name self.now name) }
         ensures absent { IfNone result (HasNoName row_name self.now name) }
+        ensures proper { IsProper row_name Mapping self.now }
     {
         self.slots.find(name)
     }
@@ -128,6 +144,7 @@ impl MappingCache {
     pub fn victim(&self, keep: &[Ident]) -> Option<Ident>
         ensures victim { IfSome result (IsVictim self.now keep.now) }
         ensures none { IfNone result (NoneMayGo self.now keep.now) }
+        ensures proper { IsProper row_name Mapping self.now }
     {
         self.slots.victim(keep)
     }
@@ -143,15 +160,24 @@ impl MappingCache {
     /// Whether a loaded row is locked.
     pub fn is_locked(&self, ident: Ident) -> bool
         requires { IsLoaded self.now ident }
-        ensures { LockIs self.now ident.slot result }
+        ensures locked { LockIs self.now ident.slot result }
+        ensures proper { IsProper row_name Mapping self.now }
     {
         self.slots.is_locked(ident)
+    }
+
+    /// What is loaded, in order of slot.
+    pub fn iter(&self) -> Iter<'_, Row>
+        ensures loaded { result ≡ loaded_in self.now }
+        ensures proper { IsProper row_name Mapping self.now }
+    {
+        self.slots.iter()
     }
 
     /// How many are loaded.
     pub fn len(&self) -> u32
         ensures len { result ≡ count_by is_some self.now }
-        ensures proper { IsProper row_name (record { kind = Mapping; cells = self.now }) }
+        ensures proper { IsProper row_name Mapping self.now }
     {
         self.slots.len()
     }

@@ -113,3 +113,29 @@ fn a_row_is_locked_and_changed(rt: HostRuntime) -> Result<(), Fail> {
     assert_eq!(rt; cache.take(ident), value);
     Ok(())
 }
+
+// Notes a store to the page of a row in its place, and gives whether one was noted before.
+fn note_store(rt: &impl Abort, cache: &mut MappingCache, ident: Ident) -> bool {
+    assert!(rt; cache.get(ident).is_some());
+    cache.update(ident, |row| std::mem::replace(&mut row.modified, true))
+}
+
+// The last digits of the pages of all that is loaded, in order of slot.
+fn pages(cache: &MappingCache) -> u32 {
+    let mut pages = 0;
+    for loaded in cache.iter() {
+        pages = (pages % 1000) * 10 + loaded.value.vpn.0 % 10;
+    }
+    pages
+}
+
+#[test]
+fn a_row_is_changed_in_its_place(rt: HostRuntime) -> Result<(), Fail> {
+    let mut cache = MappingCache::new(rt.alloc(), 2)?;
+    load(&rt, &mut cache, 1, 6, 2);
+    let ident = load(&rt, &mut cache, 2, 5, 2);
+    assert!(rt; !note_store(&rt, &mut cache, ident));
+    assert!(rt; note_store(&rt, &mut cache, ident));
+    assert_eq!(rt; pages(&cache), 65);
+    Ok(())
+}

@@ -21,7 +21,7 @@ use Rattle.sorted_list.specs.Sorted.{Sorted}
 use Rattle.slot_cache.specs.declared.loaded.Loaded.{Loaded}
 use Rattle.slot_cache.specs.Cells.{cell_at, changed, IsContent, IsFull, IsLoaded, IsLowestFree, IsVictim, loaded_in, NoneMayGo}
 use Rattle.slot_cache.specs.Index.{IsInserted, IsRising}
-use Rattle.slot_cache.specs.Table.{padded, IsFree, IsGrown, IsKeyed, IsProper, IsRoomy, IsSound, Lists, Table}
+use Rattle.slot_cache.specs.Table.{padded, IsFree, IsGrown, IsKeyed, IsProper, IsRoomy, IsSound, Lists}
 use Rattle.slot_cache.proofs.NameLemmas.{name_itself}
 use Rattle.slot_cache.proofs.SlotLemmas.{all_none, count-none, pair_same, proper}
 
@@ -153,21 +153,18 @@ module _ {T : Type 0} (old : List (Option (Loaded T))) (old_free : Sorted ℕ (U
       omega (arith, it.0, ranked (get_or free.entries k d).0 (length cells) Equal (sym equal))
 
 -- what holds of the written slots holds of all
-pub proper_padded : {T : Type 0} (called : T → Name) (itself : (a : Name) → (name.ghosts).cmp a a ≡ Equal) (kind : Kind) (cap : ℕ) (cells : List (Option (Loaded T))) (by_serial : Sorted ℕ ℕ) (by_name : Sorted Name ℕ) (free : Sorted ℕ (Unit {0})) → IsSound called kind cells by_serial by_name free → IsProper called (record { kind = kind; cells = padded cap cells })
+pub proper_padded : {T : Type 0} (called : T → Name) (itself : (a : Name) → (name.ghosts).cmp a a ≡ Equal) (kind : Kind) (cap : ℕ) (cells : List (Option (Loaded T))) (by_serial : Sorted ℕ ℕ) (by_name : Sorted Name ℕ) (free : Sorted ℕ (Unit {0})) → IsSound called kind cells by_serial by_name free → IsProper called kind (padded cap cells)
 proper_padded called itself kind cap cells by_serial by_name free sound =
-    let p = proper called itself (record { kind = kind; cells = cells }) by_serial by_name free sound in
+    let p = proper called itself kind cells by_serial by_name free sound in
     record {
       placed = λ slot x there. p.placed slot x (unpad cap cells slot (Some x) there);
       one_serial = λ i j a b at_i at_j same. p.one_serial i j a b (unpad cap cells i (Some a) at_i) (unpad cap cells j (Some b) at_j) same;
       one_name = λ i j a b at_i at_j same. p.one_name i j a b (unpad cap cells i (Some a) at_i) (unpad cap cells j (Some b) at_j) same;
     }
 
-abbrev pub table_of : {T : Type 0} → Kind → List (Option (Loaded T)) → Table T
-table_of kind cells = record { kind = kind; cells = cells }
-
 -- and so of what a contract sees
-pub proper_seen : {T : Type 0} (called : T → Name) (kind : Kind) (cap : ℕ) (cells : List (Option (Loaded T))) (by_serial : Sorted ℕ ℕ) (by_name : Sorted Name ℕ) (free : Sorted ℕ (Unit {0})) (sees : Table T) → IsSound called kind cells by_serial by_name free → table_of kind (padded cap cells) ≡ sees → IsProper called sees
-proper_seen called kind cap cells by_serial by_name free sees sound is = subst (IsProper called) is (proper_padded called name_itself kind cap cells by_serial by_name free sound)
+pub proper_seen : {T : Type 0} (called : T → Name) (kind : Kind) (cap : ℕ) (cells : List (Option (Loaded T))) (by_serial : Sorted ℕ ℕ) (by_name : Sorted Name ℕ) (free : Sorted ℕ (Unit {0})) (sees : List (Option (Loaded T))) → IsSound called kind cells by_serial by_name free → padded cap cells ≡ sees → IsProper called kind sees
+proper_seen called kind cap cells by_serial by_name free sees sound is = subst (IsProper called kind) is (proper_padded called name_itself kind cap cells by_serial by_name free sound)
 
 -- a change of a written slot is one among all
 pub changed_among : {T : Type 0} (cap : ℕ) (cells : List (Option (Loaded T))) (slot : ℕ) (change : Loaded T → Loaded T) (e : Loaded T) → slot < length cells → cell_at cells slot ≡ Some e → padded cap (set cells slot (Some (change e))) ≡ changed (padded cap cells) slot change
@@ -175,8 +172,8 @@ changed_among cap cells slot change e within there =
     pad_set cap cells slot (Some (change e)) within ∙ ap (λ c. set (padded cap cells) slot (option_map change c)) (sym (pad_at cap cells slot ∙ there))
 
 -- what a contract sees after an edit
-pub seen : {T : Type 0} (edit : List (Option (Loaded T)) → List (Option (Loaded T))) (kind : Kind) (old new : List (Option (Loaded T))) (sees : Table T) → table_of kind old ≡ sees → new ≡ edit old → table_of kind new ≡ table_of sees.kind (edit sees.cells)
-seen edit kind old new sees before after = ap (table_of kind) after ∙ ap (λ t. table_of t.kind (edit t.cells)) before
+pub seen : {T : Type 0} (edit : List (Option (Loaded T)) → List (Option (Loaded T))) (old new sees : List (Option (Loaded T))) → old ≡ sees → new ≡ edit old → new ≡ edit sees
+seen edit old new sees before after = after ∙ ap edit before
 
 -- a write of a cell leaves the room
 pub roomy-set : {T : Type 0} (cap : ℕ) (cells : Vec (Option (Loaded T)) Global) (slot : ℕ) (c : Option (Loaded T)) (by_serial : Sorted ℕ ℕ) (by_name : Sorted Name ℕ) (free : Sorted ℕ (Unit {0})) → IsRoomy cap cells by_serial by_name free → IsRoomy cap (with_item cells slot c) by_serial by_name free

@@ -18,7 +18,7 @@ use Rattle.cache_ident.specs.contracts.names.NameOrd.TheImpl as name
 use Rattle.slot_cache.specs.Index.{IsRising, IsKeyOf, IsInserted, IsRemoved}
 use Rattle.slot_cache.proofs.IndexLemmas.{less≢equal}
 use Rattle.slot_cache.specs.Cells.{cell_at, MayGo, MayNotGo, IsFull, IsLowestFree, IsVictim, NoneMayGo}
-use Rattle.slot_cache.specs.Table.{IsKeyed, IsFree, Lists, IsPlaced, IsProper, IsSound, Table}
+use Rattle.slot_cache.specs.Table.{IsKeyed, IsFree, Lists, IsPlaced, IsProper, IsSound}
 
 -- what two equal options hold is equal
 pub some_same : {X : Type 0} (a b : X) → Some a ≡ Some b → a ≡ b
@@ -394,9 +394,9 @@ one_slot {T} {K} cmp itself key cells places lists i j a b at_i at_j same =
     ]
 
 -- what the invariant says to callers
-pub proper : {T : Type 0} (called : T → Name) (itself : (a : Name) → (name.ghosts).cmp a a ≡ Equal) (table : Table T) (by_serial : Sorted ℕ ℕ) (by_name : Sorted Name ℕ) (free : Sorted ℕ (Unit {0})) → IsSound called table.kind table.cells by_serial by_name free → IsProper called table
-proper {T} called itself table by_serial by_name free sound = record {
+pub proper : {T : Type 0} (called : T → Name) (itself : (a : Name) → (name.ghosts).cmp a a ≡ Equal) (kind : Kind) (cells : List (Option (Loaded T))) (by_serial : Sorted ℕ ℕ) (by_name : Sorted Name ℕ) (free : Sorted ℕ (Unit {0})) → IsSound called kind cells by_serial by_name free → IsProper called kind cells
+proper {T} called itself kind cells by_serial by_name free sound = record {
   placed = sound.placed;
-  one_serial = one_slot nat_cmp (tied_itself nat_cmp_total) (λ (x : Loaded T). x.ident.serial) table.cells by_serial.entries sound.serials;
-  one_name = one_slot (name.ghosts).cmp itself (λ (x : Loaded T). called x.value) table.cells by_name.entries sound.names;
+  one_serial = one_slot nat_cmp (tied_itself nat_cmp_total) (λ (x : Loaded T). x.ident.serial) cells by_serial.entries sound.serials;
+  one_name = one_slot (name.ghosts).cmp itself (λ (x : Loaded T). called x.value) cells by_name.entries sound.names;
 }

@@ -1,4 +1,4 @@
--- What a contract sees of slots, and what holds of their indexes.
+-- What holds of all slots, and what holds of their indexes.
 use Rattle.std.specs.Prelude.{◌≡◌, ℕ, ◌+◌, ◌-◌, ◌<◌, ◌≤◌, ◌^◌, List, ◌++◌, length, replicate, Option, Some, None, count_by, is_some, Contains, Vec, vec_capacity}
 use Rattle.std.specs.declared.cmp.Ordering.{Ordering}
 use Rattle.std.specs.Ordering.{nat_cmp}
@@ -10,11 +10,6 @@ use Rattle.sorted_list.specs.Sorted.{Sorted}
 use Rattle.slot_cache.specs.declared.loaded.Loaded.{Loaded}
 use Rattle.slot_cache.specs.Index.{IsRising}
 use Rattle.slot_cache.specs.Cells.{cell_at}
-
--- the kind, and what stands at each slot
-pub record Table (T : Type 0) : Type 0 where
-  pub kind : Kind
-  pub cells : List (Option (Loaded T))
 
 -- what a place of an index says: its slot holds a descriptor with its key
 abbrev pub IsKeyed : {T K : Type 0} → (Loaded T → K) → List (Option (Loaded T)) → K × ℕ → Type 0
@@ -35,10 +30,10 @@ abbrev pub IsPlaced : {T : Type 0} → Kind → List (Option (Loaded T)) → Typ
 IsPlaced {T} kind cells = (slot : ℕ) (loaded : Loaded T) → cell_at cells slot ≡ Some loaded → (loaded.ident.slot ≡ slot) × (loaded.ident.kind ≡ kind)
 
 -- what holds of all slots: each descriptor stands in the slot of its identifier, no serial stands twice, and no name
-pub record IsProper {T : Type 0} (called : T → Name) (table : Table T) : Type 0 where
-  pub placed : IsPlaced table.kind table.cells
-  pub one_serial : (i j : ℕ) (a b : Loaded T) → cell_at table.cells i ≡ Some a → cell_at table.cells j ≡ Some b → a.ident.serial ≡ b.ident.serial → i ≡ j
-  pub one_name : (i j : ℕ) (a b : Loaded T) → cell_at table.cells i ≡ Some a → cell_at table.cells j ≡ Some b → called a.value ≡ called b.value → i ≡ j
+pub record IsProper {T : Type 0} (called : T → Name) (kind : Kind) (cells : List (Option (Loaded T))) : Type 0 where
+  pub placed : IsPlaced kind cells
+  pub one_serial : (i j : ℕ) (a b : Loaded T) → cell_at cells i ≡ Some a → cell_at cells j ≡ Some b → a.ident.serial ≡ b.ident.serial → i ≡ j
+  pub one_name : (i j : ℕ) (a b : Loaded T) → cell_at cells i ≡ Some a → cell_at cells j ≡ Some b → called a.value ≡ called b.value → i ≡ j
 
 -- so many slots, of which those that were never used are not written
 unfoldable pub padded : {T : Type 0} → ℕ → List (Option (Loaded T)) → List (Option (Loaded T))

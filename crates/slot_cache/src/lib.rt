@@ -6,11 +6,9 @@ mod index;
 mod iter;
 mod loaded;
 mod rows;
-mod slots;
 #[cfg(test)]
 mod tests;
 
 pub use cache::Cache;
 pub use iter::Iter;
 pub use loaded::{Descriptor, Loaded};
-pub use slots::Slots;

@@ -5,7 +5,7 @@ use Rattle.mapping_cache.proofs.MappingCache.put.Goals as goal
 pub insert-requires-clause-absent : goal.insert-requires-clause-absent
 insert-requires-clause-absent c =
     let none = rw (← c.self.view_is) at c.requires.free in
-    absent_row c.self.inside.slots.cells c.self.inside.by_frame.entries c.self.invariant.listed c.args.ident c.args.value.frame none
+    absent_row c.self.inside.slots c.self.inside.by_frame.entries c.self.invariant.listed c.args.ident c.args.value.frame none
 
 pub insert-requires-clause-room : goal.insert-requires-clause-room
 insert-requires-clause-room c =

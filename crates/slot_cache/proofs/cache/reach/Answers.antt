@@ -1,6 +1,6 @@
 use Rattle.std.proofs.Common.{◌∙◌, arith}
 use Rattle.slot_cache.proofs.PadLemmas.{not_listed_yet, reaching_more, reaching_none}
-use Rattle.slot_cache.proofs.slots.reach.Goals as goal
+use Rattle.slot_cache.proofs.cache.reach.Goals as goal
 
 pub loop-cells-init : goal.loop-cells-init
 loop-cells-init g c = record { reaching = reaching_none c.args.cells.now.items c.args.free.now c.args.slot c.requires.listed; capacity = omega arith }

@@ -5,7 +5,7 @@ use Rattle.slot_cache.specs.Cells.{cell_at}
 use Rattle.slot_cache.proofs.NameLemmas.{same_name, name_itself}
 use Rattle.slot_cache.proofs.PadLemmas.{pad_at, proper_seen, unpad}
 use Rattle.slot_cache.proofs.SlotLemmas.{absent_from_index, cell_within, found_in_index, not_none, one_at, read_cell}
-use Rattle.slot_cache.proofs.slots.Slots.find.Goals as goal
+use Rattle.slot_cache.proofs.cache.Cache.find.Goals as goal
 
 pub index-requires : goal.index-requires
 index-requires g c =
@@ -42,9 +42,9 @@ returns-in-None-clause-absent g c =
 pub returns-in-Some-index-clause-proper : goal.returns-in-Some-index-clause-proper
 returns-in-Some-index-clause-proper g c =
     let i = c.self.inside in
-    proper_seen g.T.Descriptor.called i.kind i.cap i.cells.items i.by_serial i.by_name i.free _ c.self.invariant.0 c.self.view_is
+    proper_seen g.T.Descriptor.called g.T.Descriptor.KIND i.cap i.cells.items i.by_serial i.by_name i.free _ c.self.invariant.0 c.self.view_is
 
 pub returns-in-None-clause-proper : goal.returns-in-None-clause-proper
 returns-in-None-clause-proper g c =
     let i = c.self.inside in
-    proper_seen g.T.Descriptor.called i.kind i.cap i.cells.items i.by_serial i.by_name i.free _ c.self.invariant.0 c.self.view_is
+    proper_seen g.T.Descriptor.called g.T.Descriptor.KIND i.cap i.cells.items i.by_serial i.by_name i.free _ c.self.invariant.0 c.self.view_is

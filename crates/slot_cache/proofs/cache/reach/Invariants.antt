@@ -1,6 +1,6 @@
 use Rattle.std.proofs.Common.{◌+◌, ◌-◌, ◌≤◌, vec_capacity}
 use Rattle.slot_cache.proofs.PadLemmas.{IsReaching}
-use Rattle.slot_cache.proofs.slots.reach.Given as goal
+use Rattle.slot_cache.proofs.cache.reach.Given as goal
 
 -- cells were added, and are free
 abbrev pub invariant-loop-cells : goal.invariant-loop-cells

@@ -1,5 +1,5 @@
 use Rattle.slot_cache.proofs.SlotLemmas.{NoneBefore}
-use Rattle.slot_cache.proofs.slots.Slots.victim.Given as goal
+use Rattle.slot_cache.proofs.cache.Cache.victim.Given as goal
 
 -- no descriptor of a smaller serial may go
 abbrev pub invariant-loop-place : goal.invariant-loop-place

@@ -5,8 +5,8 @@ use Rattle.slot_cache.specs.Cells.{cell_at, MayGo, MayNotGo}
 use Rattle.slot_cache.specs.declared.loaded.Loaded.{Loaded}
 use Rattle.slot_cache.proofs.PadLemmas.{none_padded, proper_seen, victim_padded}
 use Rattle.slot_cache.proofs.SlotLemmas.{listed_within, read_cell, none_more, none_may_go, is_victim}
-use Rattle.slot_cache.proofs.slots.Slots.victim.Goals as goal
-use Rattle.slot_cache.proofs.slots.Slots.victim.Goals.{in-Some+in_default-may_go, in_default}
+use Rattle.slot_cache.proofs.cache.Cache.victim.Goals as goal
+use Rattle.slot_cache.proofs.cache.Cache.victim.Goals.{in-Some+in_default-may_go, in_default}
 
 pub index-requires : goal.index-requires
 index-requires g c =
@@ -30,7 +30,7 @@ returns-in-Some-may_go-clause-victim g c =
     let slot = subst (λ (p : ℕ × ℕ). p.1 < length i.cells.items) at (listed_within nat_cmp (λ (x : Loaded g.row.T.Denot). x.ident.serial) i.cells.items places c.self.invariant.0.serials n place within) in
     let cell = read_cell i.cells.items place.1 c.index.result.now slot c.index.ensures in
     let go = subst (λ cell. MayGo cell c.args.keep.now c.in-Some-may_go.ident) (sym cell) c.in-Some-may_go.ensures.some in
-    rw (← c.self.view_is) (victim_padded i.cap i.cells.items c.args.keep.now c.in-Some-may_go.ident (is_victim i.kind i.cells.items places c.args.keep.now c.self.invariant.0.placed c.self.invariant.0.serials n place c.in-Some-may_go.ident within (sym at) c.loop-place.invariant go))
+    rw (← c.self.view_is) (victim_padded i.cap i.cells.items c.args.keep.now c.in-Some-may_go.ident (is_victim g.T.Descriptor.KIND i.cells.items places c.args.keep.now c.self.invariant.0.placed c.self.invariant.0.serials n place c.in-Some-may_go.ident within (sym at) c.loop-place.invariant go))
 
 pub loop-place-preserved : goal.loop-place-preserved
 loop-place-preserved g c =
@@ -54,14 +54,14 @@ loop-place-preserved g c =
 pub returns-clause-none : goal.returns-clause-none
 returns-clause-none g c =
     let i = c.self.inside in
-    rw (← c.self.view_is) (none_padded i.cap i.cells.items c.args.keep.now (none_may_go i.kind i.cells.items i.by_serial.entries c.args.keep.now c.self.invariant.0.placed c.self.invariant.0.serials c.loop-place.place (omega (arith, c.loop-place-test.false, c.len-place-end.ensures.len)) c.loop-place.invariant))
+    rw (← c.self.view_is) (none_padded i.cap i.cells.items c.args.keep.now (none_may_go g.T.Descriptor.KIND i.cells.items i.by_serial.entries c.args.keep.now c.self.invariant.0.placed c.self.invariant.0.serials c.loop-place.place (omega (arith, c.loop-place-test.false, c.len-place-end.ensures.len)) c.loop-place.invariant))
 
 pub returns-in-Some-may_go-clause-proper : goal.returns-in-Some-may_go-clause-proper
 returns-in-Some-may_go-clause-proper g c =
     let i = c.self.inside in
-    proper_seen g.T.Descriptor.called i.kind i.cap i.cells.items i.by_serial i.by_name i.free _ c.self.invariant.0 c.self.view_is
+    proper_seen g.T.Descriptor.called g.T.Descriptor.KIND i.cap i.cells.items i.by_serial i.by_name i.free _ c.self.invariant.0 c.self.view_is
 
 pub returns-clause-proper : goal.returns-clause-proper
 returns-clause-proper g c =
     let i = c.self.inside in
-    proper_seen g.T.Descriptor.called i.kind i.cap i.cells.items i.by_serial i.by_name i.free _ c.self.invariant.0 c.self.view_is
+    proper_seen g.T.Descriptor.called g.T.Descriptor.KIND i.cap i.cells.items i.by_serial i.by_name i.free _ c.self.invariant.0 c.self.view_is

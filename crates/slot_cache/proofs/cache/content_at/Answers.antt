@@ -1,6 +1,6 @@
 use Rattle.std.proofs.Common.{None, sym, ◌∙◌, refl}
 use Rattle.cache_ident.proofs.RollLemmas.{same_ident}
-use Rattle.slot_cache.proofs.slots.content_at.Goals as goal
+use Rattle.slot_cache.proofs.cache.content_at.Goals as goal
 
 -- the cell of the slot was read, and its identifier is the one that was asked for
 pub returns-in-Some-Some-clause-content : goal.returns-in-Some-Some-clause-content

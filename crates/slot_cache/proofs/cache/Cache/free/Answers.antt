@@ -2,7 +2,7 @@ use Rattle.std.proofs.Common.{ℕ, sym, ◌∙◌, arith}
 use Rattle.std.proofs.lemmas.Option.{get_or_from_slice_get, slice_get_within}
 use Rattle.slot_cache.proofs.PadLemmas.{full_padded, lowest_padded, lowest_unwritten, none_first, proper_seen}
 use Rattle.slot_cache.proofs.SlotLemmas.{is_full, is_lowest}
-use Rattle.slot_cache.proofs.slots.Slots.free.Goals as goal
+use Rattle.slot_cache.proofs.cache.Cache.free.Goals as goal
 
 -- the first that is listed is the lowest
 pub returns-in-Some-clause-lowest : goal.returns-in-Some-clause-lowest
@@ -30,14 +30,14 @@ returns-in-None-2-clause-full g c =
 pub returns-in-Some-clause-proper : goal.returns-in-Some-clause-proper
 returns-in-Some-clause-proper g c =
     let i = c.self.inside in
-    proper_seen g.T.Descriptor.called i.kind i.cap i.cells.items i.by_serial i.by_name i.free _ c.self.invariant.0 c.self.view_is
+    proper_seen g.T.Descriptor.called g.T.Descriptor.KIND i.cap i.cells.items i.by_serial i.by_name i.free _ c.self.invariant.0 c.self.view_is
 
 pub returns-in-None-clause-proper : goal.returns-in-None-clause-proper
 returns-in-None-clause-proper g c =
     let i = c.self.inside in
-    proper_seen g.T.Descriptor.called i.kind i.cap i.cells.items i.by_serial i.by_name i.free _ c.self.invariant.0 c.self.view_is
+    proper_seen g.T.Descriptor.called g.T.Descriptor.KIND i.cap i.cells.items i.by_serial i.by_name i.free _ c.self.invariant.0 c.self.view_is
 
 pub returns-in-None-2-clause-proper : goal.returns-in-None-2-clause-proper
 returns-in-None-2-clause-proper g c =
     let i = c.self.inside in
-    proper_seen g.T.Descriptor.called i.kind i.cap i.cells.items i.by_serial i.by_name i.free _ c.self.invariant.0 c.self.view_is
+    proper_seen g.T.Descriptor.called g.T.Descriptor.KIND i.cap i.cells.items i.by_serial i.by_name i.free _ c.self.invariant.0 c.self.view_is

@@ -9,7 +9,7 @@ use Rattle.slot_cache.specs.Cells.{cell_at}
 use Rattle.slot_cache.proofs.NameLemmas.{same_name}
 use Rattle.slot_cache.proofs.PadLemmas.{grown_none, pad_at, pad_grown_to, pad_length, pad_set, seen, sound-grown}
 use Rattle.slot_cache.proofs.SlotLemmas.{absent_key, count-put, free-put, keyed-put, placed-put, same_number}
-use Rattle.slot_cache.proofs.slots.Slots.put.Goals as goal
+use Rattle.slot_cache.proofs.cache.Cache.put.Goals as goal
 
 -- the slot is below the capacity
 pub reach-requires-clause-room : goal.reach-requires-clause-room
@@ -43,7 +43,7 @@ insert-requires-clause-room g c =
     let cells = c.reach.new.cells.items in
     let slot = c.args.ident.slot in
     let grown = c.reach.ensures.grown in
-    let s = sound-grown g.T.Descriptor.called i.kind i.cells.items cells slot i.by_serial i.by_name i.free c.reach.new.free grown c.self.invariant.0 c.reach.ensures.listed c.reach.ensures.len in
+    let s = sound-grown g.T.Descriptor.called g.T.Descriptor.KIND i.cells.items cells slot i.by_serial i.by_name i.free c.reach.new.free grown c.self.invariant.0 c.reach.ensures.listed c.reach.ensures.len in
     let e : Loaded g.row.T.Denot = record { ident = c.args.ident; value = c.args.value; locked = false } in
     let within : slot < length cells = grown.reaches in
     let none : cell_at cells slot ≡ None = grown_none i.cap i.cells.items cells slot grown (rw (← c.self.view_is) at c.requires.free) in
@@ -65,7 +65,7 @@ insert-requires-2-clause-room g c =
     let cells = c.reach.new.cells.items in
     let slot = c.args.ident.slot in
     let grown = c.reach.ensures.grown in
-    let s = sound-grown g.T.Descriptor.called i.kind i.cells.items cells slot i.by_serial i.by_name i.free c.reach.new.free grown c.self.invariant.0 c.reach.ensures.listed c.reach.ensures.len in
+    let s = sound-grown g.T.Descriptor.called g.T.Descriptor.KIND i.cells.items cells slot i.by_serial i.by_name i.free c.reach.new.free grown c.self.invariant.0 c.reach.ensures.listed c.reach.ensures.len in
     let e : Loaded g.row.T.Denot = record { ident = c.args.ident; value = c.args.value; locked = false } in
     let within : slot < length cells = grown.reaches in
     let none : cell_at cells slot ≡ None = grown_none i.cap i.cells.items cells slot grown (rw (← c.self.view_is) at c.requires.free) in
@@ -82,17 +82,17 @@ invariant_of-self g c =
     let cells = c.reach.new.cells.items in
     let slot = c.args.ident.slot in
     let grown = c.reach.ensures.grown in
-    let s = sound-grown g.T.Descriptor.called i.kind i.cells.items cells slot i.by_serial i.by_name i.free c.reach.new.free grown c.self.invariant.0 c.reach.ensures.listed c.reach.ensures.len in
+    let s = sound-grown g.T.Descriptor.called g.T.Descriptor.KIND i.cells.items cells slot i.by_serial i.by_name i.free c.reach.new.free grown c.self.invariant.0 c.reach.ensures.listed c.reach.ensures.len in
     let e : Loaded g.row.T.Denot = record { ident = c.args.ident; value = c.args.value; locked = false } in
     let within : slot < length cells = grown.reaches in
     let none : cell_at cells slot ≡ None = grown_none i.cap i.cells.items cells slot grown (rw (← c.self.view_is) at c.requires.free) in
     let count = count-put cells slot e within none in
     let r = c.self.invariant.1 in
     let below = rw (← c.self.view_is) at c.requires.below in
-    let of_kind : c.args.ident.kind ≡ i.kind = rw (← c.self.view_is) at c.requires.kind in
+    let of_kind : c.args.ident.kind ≡ g.T.Descriptor.KIND = c.requires.kind in
     let n = length-set cells slot (Some e) in (
       record {
-        placed = placed-put i.kind cells slot e within refl of_kind s.placed;
+        placed = placed-put g.T.Descriptor.KIND cells slot e within refl of_kind s.placed;
         serials = keyed-put nat_cmp (λ (x : Loaded g.row.T.Denot). x.ident.serial) cells slot e i.by_serial.entries c.insert.new.index.entries within none s.serials c.insert.ensures.rising c.insert.ensures.inserted;
         names = keyed-put (name.ghosts).cmp (λ (x : Loaded g.row.T.Denot). g.T.Descriptor.called x.value) cells slot e i.by_name.entries c.insert-2.new.index.entries within none s.names c.insert-2.ensures.rising (rw c.name-name.ensures at c.insert-2.ensures.inserted);
         gaps = free-put cells slot e c.reach.new.free.entries c.remove.new.index.entries within s.gaps c.remove.ensures.rising c.remove.ensures.removed;
@@ -116,7 +116,7 @@ returns g c =
     let cells = c.reach.new.cells.items in
     let slot = c.args.ident.slot in
     let grown = c.reach.ensures.grown in
-    let s = sound-grown g.T.Descriptor.called i.kind i.cells.items cells slot i.by_serial i.by_name i.free c.reach.new.free grown c.self.invariant.0 c.reach.ensures.listed c.reach.ensures.len in
+    let s = sound-grown g.T.Descriptor.called g.T.Descriptor.KIND i.cells.items cells slot i.by_serial i.by_name i.free c.reach.new.free grown c.self.invariant.0 c.reach.ensures.listed c.reach.ensures.len in
     let e : Loaded g.row.T.Denot = record { ident = c.args.ident; value = c.args.value; locked = false } in
     let within : slot < length cells = grown.reaches in
     let none : cell_at cells slot ≡ None = grown_none i.cap i.cells.items cells slot grown (rw (← c.self.view_is) at c.requires.free) in
@@ -125,4 +125,4 @@ returns g c =
     let below = rw (← c.self.view_is) at c.requires.below in
     let few = grown.few i.cap r.few (omega (arith, below, pad_length i.cap i.cells.items r.few)) in
     let edit = λ (l : List (Option (Loaded g.row.T.Denot))). slice_set l slot (Some e) in
-    seen edit i.kind _ _ c.args.self.now c.self.view_is (pad_set i.cap cells slot (Some e) within ∙ ap edit (pad_grown_to i.cap i.cells.items cells slot grown few))
+    seen edit _ _ c.args.self.now c.self.view_is (pad_set i.cap cells slot (Some e) within ∙ ap edit (pad_grown_to i.cap i.cells.items cells slot grown few))

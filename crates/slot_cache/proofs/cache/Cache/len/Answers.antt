@@ -1,6 +1,6 @@
 use Rattle.std.proofs.Common.{◌∙◌}
 use Rattle.slot_cache.proofs.PadLemmas.{pad_count, proper_seen}
-use Rattle.slot_cache.proofs.slots.Slots.len.Goals as goal
+use Rattle.slot_cache.proofs.cache.Cache.len.Goals as goal
 
 pub returns-clause-len : goal.returns-clause-len
 returns-clause-len g c =
@@ -10,4 +10,4 @@ returns-clause-len g c =
 pub returns-clause-proper : goal.returns-clause-proper
 returns-clause-proper g c =
     let i = c.self.inside in
-    proper_seen g.T.Descriptor.called i.kind i.cap i.cells.items i.by_serial i.by_name i.free _ c.self.invariant.0 c.self.view_is
+    proper_seen g.T.Descriptor.called g.T.Descriptor.KIND i.cap i.cells.items i.by_serial i.by_name i.free _ c.self.invariant.0 c.self.view_is
