@@ -1,5 +1,5 @@
 -- A run ahead: what it has come to, what a step makes of it, and where it pauses.
-use Rattle.std.specs.Prelude.{◌≡◌, ℕ, zero, suc, ◌+◌, ◌%◌, ◌<◌, ◌&&◌, Bool, false, if◌then◌else◌, nat_le, List, [], ◌∷◌, Option, Some, None}
+use Rattle.std.specs.Prelude.{◌≡◌, ℕ, zero, suc, ◌+◌, ◌%◌, ◌<◌, ◌&&◌, Bool, false, if◌then◌else◌, nat_le, List, [], ◌∷◌, replicate, Option, Some, None}
 use Rattle.std.specs.Option.{option_or}
 use Rattle.signal_pages.specs.Signals.{is_signalling}
 use Rattle.rv32_exec.specs.declared.contexts.Context.{Context}
@@ -24,6 +24,17 @@ pub record Ahead : Type 0 where
   pub views : List View
   pub steps : ℕ
   pub paused : Option Paused
+
+-- nothing was begun yet: all registers are 0, and so is pc
+abbrev pub unbegun : Ahead
+unbegun =
+    record {
+      first = record { regs = replicate 32 0; pc = 0 };
+      context = record { regs = replicate 32 0; pc = 0 };
+      views = [];
+      steps = 0;
+      paused = None;
+    }
 
 -- the views, when their pages are these
 abbrev pub views_with : List View → List Page → List View

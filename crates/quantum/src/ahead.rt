@@ -4,7 +4,7 @@ ghost use Rattle.std.specs.Prelude.{◌≡◌, ◌+◌, ◌%◌, ◌^◌, ◌<�
 ghost use Rattle.page_views.specs.Views.{can_fill, filled, pages_of_views, HaveOneViewAPage};
 ghost use Rattle.rv32_exec.specs.Steps.{after_step, OnMiss};
 ghost use Rattle.flat_state.specs.Signals.{next_action};
-ghost use Rattle.quantum.specs.Ahead.{advanced, answer_of, pause_after as pause_after_def, pause_before, signals_by, standing as standing_def, views_with, HasGone, IsRun};
+ghost use Rattle.quantum.specs.Ahead.{advanced, answer_of, pause_after as pause_after_def, pause_before, signals_by, standing as standing_def, unbegun, views_with, HasGone, IsRun};
 ghost use Rattle.quantum.specs.LocalRun.{IsLocalRun};
 
 use crate::paused::Paused;
@@ -41,9 +41,9 @@ impl Model for Quantum {
 }
 
 impl Quantum {
-    /// No view and no step. The one call that takes memory, some 100 KiB.
+    /// Begun with registers and pc of 0, without views and steps. The one call that takes memory, some 100 KiB.
     pub fn new(alloc: Global) -> Result<Quantum, NoMemory>
-        ensures { IfOk result (λ q. (q.views ≡ []) × (q.steps ≡ 0) × (q.paused ≡ None)) }
+        ensures { IfOk result (λ quantum. quantum ≡ unbegun) }
     {
         let context = Context {
             regs: [0; 32],
