@@ -2,10 +2,12 @@
 //! thread may take its steps, and whether its call may be completed.
 #![tactic(auto)]
 
+mod calls;
 mod follow;
 mod names;
 mod steps;
 
+pub use calls::complete;
 pub use follow::is_followed;
 pub use names::{cap, class, has_parents, limit, owner, stands, stays_good};
 pub use steps::{may_step, run};
