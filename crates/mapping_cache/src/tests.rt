@@ -1,7 +1,7 @@
 //! Rows that are loaded, changed and taken out.
 
-ghost use Rattle.std.specs.Prelude.{◌+◌};
-ghost use Rattle.slot_cache.specs.Cells.{IsOlder};
+ghost use Rattle.std.specs.Prelude.{◌+◌, IsTrue};
+ghost use Rattle.slot_cache.specs.Cells.{IsLoaded, IsOlder};
 
 use crate::MappingCache;
 use cache_ident::{Frame, Ident, Kind, Name, SpaceNo, Vpn};
@@ -44,12 +44,18 @@ fn load(rt: &impl Abort, cache: &mut MappingCache, serial: u64, page: u32, frame
     }
 }
 
+fn is_there(cache: &MappingCache, ident: Ident) -> bool
+    ensures { IsTrue result → IsLoaded cache.now ident }
+{
+    cache.get(ident).is_some()
+}
+
 // Takes a row out, and gives its page.
 fn unload(rt: &impl Abort, cache: &mut MappingCache, ident: Ident, next: u64) -> Vpn
     requires { IsOlder cache.old next }
     ensures { IsOlder cache.new next }
 {
-    assert!(rt; cache.get(ident).is_some());
+    assert!(rt; is_there(cache, ident));
     cache.take(ident).vpn
 }
 
@@ -100,15 +106,15 @@ fn a_row_is_locked_and_changed(rt: HostRuntime) -> Result<(), Fail> {
     };
     let mut value = row(7, 2);
     cache.put(ident, value);
-    assert!(rt; cache.get(ident).is_some());
+    assert!(rt; is_there(&cache, ident));
     assert!(rt; !cache.is_locked(ident));
     cache.set_lock(ident, true);
     assert_eq!(rt; cache.victim(&[]), None);
     value.modified = true;
-    assert!(rt; cache.get(ident).is_some());
+    assert!(rt; is_there(&cache, ident));
     assert!(rt; !cache.replace(ident, value).modified);
     assert!(rt; lists(&cache, 2, &[ident]));
-    assert!(rt; cache.get(ident).is_some());
+    assert!(rt; is_there(&cache, ident));
     assert!(rt; cache.is_locked(ident));
     assert_eq!(rt; cache.take(ident), value);
     Ok(())
@@ -116,7 +122,7 @@ fn a_row_is_locked_and_changed(rt: HostRuntime) -> Result<(), Fail> {
 
 // Notes a store to the page of a row in its place, and gives whether one was noted before.
 fn note_store(rt: &impl Abort, cache: &mut MappingCache, ident: Ident) -> bool {
-    assert!(rt; cache.get(ident).is_some());
+    assert!(rt; is_there(cache, ident));
     cache.update(ident, |row| std::mem::replace(&mut row.modified, true))
 }
 
