@@ -14,7 +14,7 @@
 set -euo pipefail
 source "$(dirname "$0")/program.sh"
 begin_program displacement_times 'cache_ident phys_groups sorted_list slot_cache mapping_cache depend_lists' anyhow
-mkdir -p "$program"/proofs/{depend,lock_oldest_few,displace_often,filled,best_of,measured}
+mkdir -p "$program"/proofs/{depend,lock_oldest,lock_oldest_few,displace_often,filled,best_of,measured}
 cat > "$program/src/main.rt" <<'MAIN'
 #![tactic(auto)]
 
@@ -238,6 +238,33 @@ abbrev pub invariant-loop-no : goal.invariant-loop-no
 invariant-loop-no l = record { serials : IsOlder l.cache ($([ "$loop" = filled ] || echo 'l.from + ')l.no); caps : l.depends.caps ≡ CAPS }
 PROOF
 done
+cat > "$program/proofs/lock_oldest/Answers.antt" <<'PROOF'
+use Rattle.std.proofs.Common.{◌≡◌, ◌<◌, ℕ, Option, Some, List, set, refl, sym, ◌∙◌, ap, subst, inl, inr}
+use Rattle.std.proofs.lemmas.Bool.{cases_eq}
+use Rattle.cache_ident.specs.declared.idents.Ident.{Ident}
+use Rattle.phys_groups.specs.declared.rows.Row.{Row}
+use Rattle.slot_cache.specs.declared.loaded.Loaded.{Loaded}
+use Rattle.slot_cache.specs.Cells.{cell_at, IsOlder}
+use Rattle.slot_cache.proofs.SlotLemmas.{cell_within, elsewhere, here, some_same}
+use Rattle.displacement_times.proofs.lock_oldest.Goals as goal
+
+-- what is put over a row with the row's identifier is as old
+older_same : (cells : List (Option (Loaded Row))) (slot serial : ℕ) (e new : Loaded Row) → cell_at cells slot ≡ Some e → new.ident ≡ e.ident → IsOlder cells serial → IsOlder (set cells slot (Some new)) serial
+older_same cells slot serial e new some same older at loaded there =
+    let after = set cells slot (Some new) in
+    elim (cases_eq at slot) [
+      | inl is ↦
+          let one = some_same new loaded (sym (here cells slot (Some new) (cell_within cells slot e some)) ∙ ap (cell_at after) (sym is) ∙ there) in
+          subst (λ (i : Ident). i.serial < serial) (sym same ∙ ap (λ (l : Loaded Row). l.ident) one) (older slot e some)
+      | inr other ↦ older at loaded (sym (elsewhere cells slot at (Some new) other) ∙ there)
+    ]
+
+pub returns-in-Some : goal.returns-in-Some
+returns-in-Some c =
+    let victim = rw c.in-Some.is at c.victim.ensures.victim in
+    let held = victim.candidate in
+    rw (c.set_lock.ensures, held.1) (older_same c.args.cache.now c.in-Some.ident.slot c.args.serial held.0 _ held.1 refl c.requires)
+PROOF
 cat > "$program/proofs/lock_oldest_few/Invariants.antt" <<'PROOF'
 use Rattle.slot_cache.specs.Cells.{IsOlder}
 use Rattle.displacement_times.proofs.lock_oldest_few.Given as goal
