@@ -1,7 +1,7 @@
 //! What depends on what, by name.
 
 ghost use Rattle.std.specs.Prelude.{◌≡◌, ◌≢◌, ◌⊎◌, ◌↔◌, Contains, IsTrue, OnOk};
-ghost use Rattle.cache_ident.specs.declared.names.Name.{Name as NameLem};
+ghost use Rattle.cache_ident.specs.declared.names.Name.{Name};
 
 use cache_ident::{KernelNo, Name, NoMemory};
 use std::alloc::Global;
@@ -20,7 +20,7 @@ impl Dependents {
 
     /// No pair.
     pub fn new(alloc: Global) -> Dependents
-        ensures { (parent child : NameLem) → IsPair result parent child → ⊥ }
+        ensures { (parent child : Name) → IsPair result parent child → ⊥ }
     {
         Dependents {
             pairs: BTreeSet::new(alloc),
@@ -29,7 +29,7 @@ impl Dependents {
 
     /// From now on the child depends on these parents too. Where memory is wanted it may depend on some of them.
     pub fn add(&mut self, child: Name, parents: &[Name]) -> Result<(), NoMemory>
-        ensures { OnOk result ((parent other : NameLem) → IsPair self.new parent other ↔ (IsPair self.old parent other ⊎ ((other ≡ child) × Contains parents.now parent))) }
+        ensures { OnOk result ((parent other : Name) → IsPair self.new parent other ↔ (IsPair self.old parent other ⊎ ((other ≡ child) × Contains parents.now parent))) }
     {
         for parent in parents {
             self.pairs.insert((*parent, child))?;
@@ -39,7 +39,7 @@ impl Dependents {
 
     /// From now on the child doesn't depend on these parents.
     pub fn remove(&mut self, child: Name, parents: &[Name])
-        ensures { (parent other : NameLem) → IsPair self.new parent other ↔ (IsPair self.old parent other × (((other ≡ child) × Contains parents.now parent) → ⊥)) }
+        ensures { (parent other : Name) → IsPair self.new parent other ↔ (IsPair self.old parent other × (((other ≡ child) × Contains parents.now parent) → ⊥)) }
     {
         for parent in parents {
             let _ = self.pairs.remove(&(*parent, child));
@@ -48,7 +48,7 @@ impl Dependents {
 
     /// Whether something depends on the parent.
     pub fn has(&self, parent: Name) -> bool
-        ensures { IsTrue result ↔ ((child : NameLem) × IsPair self.now parent child) }
+        ensures { IsTrue result ↔ ((child : Name) × IsPair self.now parent child) }
     {
         let least = (parent, Name::Kernel(KernelNo(0)));
         match self.pairs.range(least..).next() {

@@ -1,7 +1,7 @@
 //! What is resident, by name and by serial.
 
 ghost use Rattle.std.specs.Prelude.{◌≡◌, ◌↔◌, [], List, Contains, IsTrue, IfOk, MatchOption, OnOk, OnErr};
-ghost use Rattle.cache_ident.specs.declared.names.Name.{Name as NameLem};
+ghost use Rattle.cache_ident.specs.declared.names.Name.{Name};
 ghost use Rattle.cache_ident.specs.Residents.{Resident, IsNameResident, with_loaded, without, with_lock};
 
 use cache_ident::{Ident, Name, NoMemory};
@@ -101,7 +101,7 @@ impl Residents {
     /// The names of all. It takes time and memory for each.
     pub fn names(&self, alloc: Global) -> Result<Vec<Name>, NoMemory>
         ensures all { IfOk result (λ names. (rs : List Resident) → AreThose self.now rs → (r : Resident) → Contains rs r → Contains names.items r.name) }
-        ensures only { IfOk result (λ names. (rs : List Resident) → AreThose self.now rs → (name : NameLem) → Contains names.items name → IsNameResident rs name) }
+        ensures only { IfOk result (λ names. (rs : List Resident) → AreThose self.now rs → (name : Name) → Contains names.items name → IsNameResident rs name) }
     {
         let mut names = Vec::new(alloc);
         for name in self.by_name.keys() {

@@ -1,8 +1,7 @@
-use Rattle.std.proofs.Common.{◌≡◌, true, sym, ◌∙◌, subst}
+use Rattle.std.proofs.Common.{sym, ◌∙◌, subst}
 use Rattle.std.proofs.lemmas.Bool.{false≢true}
-use Rattle.std.specs.BTreeSet.{contains}
 use Rattle.cache_ident.specs.declared.names.Name.{Name}
-use Rattle.residents.specs.Pairs.{pair_cmp, IsPair}
+use Rattle.residents.specs.Pairs.{IsPair}
 use Rattle.residents.proofs.NameLemmas.{equal_names, names_equal}
 use Rattle.residents.proofs.PairLemmas.{first_pair, least_pair}
 use Rattle.residents.proofs.dependents.Dependents.has.Goals as goal
