@@ -9,7 +9,7 @@ mod scenario;
 mod standing;
 
 pub use fault::ScenarioFault;
-pub use scenario::{Scenario, read};
+pub use scenario::{Scenario, read, what_is_read_fits};
 
 #[cfg(test)]
 mod tests;

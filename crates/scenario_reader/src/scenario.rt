@@ -1,6 +1,9 @@
 //! A scenario, and the reading of one.
 
-ghost use Rattle.std.specs.Prelude.{◌≡◌};
+ghost use Rattle.std.specs.Prelude.{◌≡◌, ℕ, List, Ok};
+ghost use Rattle.flat_state.specs.declared.events.Decl.{Decl as DeclLem};
+ghost use Rattle.flat_state.specs.State.{nothing_declared};
+ghost use Rattle.flat_state.specs.Events.{AllFit};
 ghost use Rattle.scenario_reader.specs.Readings.{Takes, Answers};
 ghost use Rattle.scenario_reader.specs.Scenarios.{step as step_lem, finish as finish_lem, scenario};
 ghost use Rattle.scenario_reader.specs.Views.{reader_view};
@@ -106,3 +109,8 @@ pub fn read(alloc: Global, text: &[u8]) -> Result<Scenario, ScenarioFault>
         }
     }
 }
+
+/// What a scenario declares breaks no rule: each declaration fits the machine that those before it make.
+pub fn what_is_read_fits()
+    ensures { (text : List ℕ) (ds : List DeclLem) → scenario text ≡ Ok ds → AllFit nothing_declared ds }
+{}
