@@ -2,7 +2,7 @@
 
 ghost use Rattle.std.specs.Prelude.{◌≡◌, List, IfOk, IfSome, IfNone, IsSome, false};
 ghost use Rattle.std.specs.Bool.{MatchBool};
-ghost use Rattle.cache_ident.specs.declared.names.Name.{Name as NameLem};
+ghost use Rattle.cache_ident.specs.declared.names.Name.{Name};
 ghost use Rattle.cache_ident.specs.Residents.{Resident};
 ghost use Rattle.flat_state.specs.declared.events.Event.TheVariants.{Complete};
 ghost use Rattle.flat_state.specs.Events.{after_event, applied};
@@ -44,7 +44,7 @@ pub fn complete(
 
 // Whether the call of the thread adds a row, takes one away or sets rights; nothing where it can't be completed.
 fn touching(flat: &Flat, thread: ThreadNo) -> Option<bool>
-    ensures some { IfSome result (λ touches. IsSome (after_event flat.now (Complete thread)) × (touches ≡ false → (name : NameLem) → Touches flat.now thread name → ⊥)) }
+    ensures some { IfSome result (λ touches. IsSome (after_event flat.now (Complete thread)) × (touches ≡ false → (name : Name) → Touches flat.now thread name → ⊥)) }
     ensures none { IfNone result (IsSome (after_event flat.now (Complete thread)) → ⊥) }
 {
     match flat.thread(thread) {

@@ -3,8 +3,8 @@
 ghost use Rattle.std.specs.Prelude.{◌≡◌, ◌↔◌, List, IsTrue, Some};
 ghost use Rattle.std.specs.Bool.{MatchBool};
 ghost use Rattle.cache_ident.specs.Residents.{Resident};
-ghost use Rattle.flat_state.specs.Dependence.{owner as owner_lem};
-ghost use Rattle.flat_state.specs.Names.{class_of, class_of_row, is_fit_name, stands as stands_lem};
+ghost use Rattle.flat_state.specs.Dependence.{owner};
+ghost use Rattle.flat_state.specs.Names.{class_of, class_of_row, is_fit_name, stands};
 ghost use Rattle.residents.specs.Tables.{AreThose};
 ghost use Rattle.run_journal.specs.Groups.{HasParents};
 ghost use Rattle.run_journal.specs.Legal.{StaysGood, cap_of, limit_of};
@@ -18,7 +18,7 @@ use residents::Residents;
 
 /// Whether there is a descriptor of that name. It costs the logarithm of the rows.
 pub fn stands(flat: &Flat, name: Name) -> bool
-    ensures { result ≡ stands_lem flat.now name }
+    ensures { result ≡ stands flat.now name }
 {
     match name {
         Name::Kernel(kernel) => flat.limits(kernel).is_some(),
@@ -42,7 +42,7 @@ fn is_fit(flat: &Flat, name: Name) -> bool
 
 /// The kernel that owns what has the name. It costs the logarithm of the rows.
 pub fn owner(flat: &Flat, name: Name) -> Option<KernelNo>
-    ensures { result ≡ owner_lem flat.now name }
+    ensures { result ≡ owner flat.now name }
 {
     match name {
         Name::Kernel(kernel) => {
