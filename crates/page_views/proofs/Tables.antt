@@ -1,11 +1,11 @@
 -- What a change of each view is for their pages, and what it leaves.
 use Rattle.std.proofs.Common.{◌≡◌, ◌≢◌, ℕ, zero, suc, ◌+◌, ◌<◌, ◌≤◌, ◌/◌, ◌%◌, Bool, true, false, cond, List, [], ◌∷◌, ◌++◌, map, length, take, drop, set, get_or, Option, Some, None, refl, ap, ap₂, sym, ◌∙◌, subst, arith, eq-eqb, length-append, length-drop}
-use Rattle.std.specs.Prelude.{◌==◌, not, ◌&&◌, is_some, if◌then◌else◌}
+use Rattle.std.specs.Prelude.{◌==◌, not, ◌&&◌, ◌||◌, is_some, if◌then◌else◌}
 use Rattle.std.specs.List.{find}
 use Rattle.std.specs.Option.{option_map}
-use Rattle.std.proofs.lemmas.List.{get_or-map, take_all, take_more_set, length-take-le, take-append-le}
+use Rattle.std.proofs.lemmas.List.{get_or-map, get_or-take, take_all, take_more_set, length-take-le, take-append-le}
 use Rattle.std.proofs.Math.ListN.{length-set}
-use Rattle.std.proofs.lemmas.Bool.{ltb-true}
+use Rattle.std.proofs.lemmas.Bool.{eqb-true, ltb-true}
 use Rattle.std.proofs.lemmas.List.Quantifiers.{all_pairs_push}
 use Rattle.cache_ident.specs.declared.names.Vpn.{Vpn}
 use Rattle.cache_ident.specs.declared.names.Frame.{Frame}
@@ -14,7 +14,7 @@ use Rattle.rv32_exec.specs.declared.statuses.Access.TheVariants.{Fetch, Read, Wr
 use Rattle.rv32_exec.specs.declared.spaces.Width.{Width}
 use Rattle.rv32_exec.specs.declared.spaces.Width.TheVariants.{Byte, Half, Word}
 use Rattle.rv32_exec.specs.Pages.{Page, allows, where_allowed, translation, translates, read_through, number_at, stored_through, stored, touched_at, put_bytes, put_in_frame, mark, mark_page, size_of}
-use Rattle.page_views.specs.Views.{View, page_of, pages_of_views, Copied, copied, copies_of, is_of_page, can_fill, put_in_view, mark_view, mark_view_of, allows_flags, where_flagged, view_through, HaveOneViewAPage, IsTable}
+use Rattle.page_views.specs.Views.{View, page_of, pages_of_views, Copied, copied, copies_of, has_message, is_of_page, can_fill, put_in_view, mark_view, mark_view_of, allows_flags, where_flagged, view_through, HaveOneViewAPage, IsTable}
 
 pub pages_mapped : (f : View → View) (g : Page → Page) → ((v : View) → page_of (f v) ≡ g (page_of v)) → (vs : List View) → pages_of_views (map f vs) ≡ map g (pages_of_views vs)
 pages_mapped f g same [] = refl
@@ -38,6 +38,24 @@ one_mapped f same vs one = λ i j d below within.
     (sym (ap (λ (c : Copied). c.vpn.0) (same (get_or vs i d)))
     ∙ (ap (λ (v : View). v.vpn.0) (sym (get_or-map f vs i d d first)) ∙ both
     ∙ ap (λ (v : View). v.vpn.0) (get_or-map f vs j d d last) ∙ ap (λ (c : Copied). c.vpn.0) (same (get_or vs j d))))
+
+-- what is kept of each view keeps the message flags
+messages_mapped : (f : View → View) → ((v : View) → copied (f v) ≡ copied v) → (vs : List View) → has_message (map f vs) ≡ has_message vs
+messages_mapped f same [] = refl
+messages_mapped f same (v ∷ vs) = ap₂ (λ (a b : Bool). a || b) (ap (λ (c : Copied). c.flags.m) (same v)) (messages_mapped f same vs)
+
+-- a view more
+messages_more : (vs : List View) (v : View) → has_message (vs ++ v ∷ []) ≡ (has_message vs || v.flags.m)
+messages_more [] v = or_false v.flags.m
+  where
+    or_false : (b : Bool) → (b || false) ≡ b
+    or_false true = refl
+    or_false false = refl
+messages_more (u ∷ vs) v = ap (λ (b : Bool). u.flags.m || b) (messages_more vs v) ∙ grouped u.flags.m (has_message vs) v.flags.m
+  where
+    grouped : (a b c : Bool) → (a || (b || c)) ≡ ((a || b) || c)
+    grouped true b c = refl
+    grouped false b c = refl
 
 pub put_page : (frame : Frame) (count at value : ℕ) (v : View) → page_of (put_in_view frame count at value v) ≡ put_in_frame frame.0 count at value (page_of v)
 put_page frame count at value v = by (v.frame.0 == frame.0)
@@ -100,15 +118,16 @@ length-mapped : (f : View → View) (count : ℕ) (xs : List View) → count ≤
 length-mapped f count xs within =
     omega (arith, length-append (map f (take count xs)) (drop count xs), length-map f (take count xs), length-take-le count xs within, length-drop count xs)
 
-pub table_mapped : (f : View → View) → ((v : View) → copied (f v) ≡ copied v) → (n count : ℕ) (xs ys : List View) → n ≡ length xs → IsTable xs count → ys ≡ map f (take count xs) ++ drop count xs
-    → IsTable (take n (ys ++ drop (length ys) xs)) count
-table_mapped f same n count xs ys whole table became =
+pub table_mapped : (f : View → View) → ((v : View) → copied (f v) ≡ copied v) → (n count : ℕ) (messages : Bool) (xs ys : List View) → n ≡ length xs → IsTable xs count messages → ys ≡ map f (take count xs) ++ drop count xs
+    → IsTable (take n (ys ++ drop (length ys) xs)) count messages
+table_mapped f same n count messages xs ys whole table became =
     let within : count ≤ length xs = omega (arith, table.eight, table.within) in
     let size : length ys ≡ length xs = ap length became ∙ length-mapped f count xs within in
     rw (written_over n xs ys whole size) (record {
       eight = size ∙ table.eight;
       within = table.within;
       one_a_page = subst HaveOneViewAPage (sym (ap (take count) became ∙ first_mapped f count xs within)) (one_mapped f same (take count xs) table.one_a_page);
+      flagged = table.flagged ∙ sym (ap has_message (ap (take count) became ∙ first_mapped f count xs within) ∙ messages_mapped f same (take count xs));
     })
 
 -- no view is that of a page where none is found
@@ -124,6 +143,53 @@ not_found vpn (v ∷ vs) none k d within = by (v.vpn.0 == vpn.0) refl none (λ a
     by true e none others k within = λ same. cc
     by false e none others zero within = λ same. true_false (sym (eq-eqb v.vpn.0 vpn.0 same) ∙ e)
     by false e none others (suc k) within = others none k (omega (arith, within))
+
+-- what a comparison with the page of a view answers
+pub same_page : (v : View) (vpn seen : Vpn) (b : Bool) → seen ≡ v.vpn → b ≡ (seen.0 == vpn.0) → b ≡ true → v.vpn.0 ≡ vpn.0
+same_page v vpn seen b is equal told = sym (ap (λ (n : Vpn). n.0) is) ∙ eqb-true seen.0 vpn.0 (sym equal ∙ told)
+
+neq-eqb : (a b : ℕ) → a ≢ b → (a == b) ≡ false
+neq-eqb a b other = by (a == b) refl
+  where
+    by : (c : Bool) → (a == b) ≡ c → (a == b) ≡ false
+    by true e = absurd (other (eqb-true a b e))
+    by false e = e
+
+-- what stands at a place doesn't depend on what stands nowhere
+pub same_at : (i : ℕ) (vs : List View) (d e : View) → i < length vs → get_or vs i d ≡ get_or vs i e
+same_at i [] d e within = absurd (omega (arith, within))
+same_at zero (v ∷ vs) d e within = refl
+same_at (suc i) (v ∷ vs) d e within = same_at i vs d e (omega (arith, within))
+
+-- the view at a place is the one of its page
+pub found_at : (vpn : Vpn) (i : ℕ) (vs : List View) (d : View) → HaveOneViewAPage vs → i < length vs → (get_or vs i d).vpn.0 ≡ vpn.0 → find (is_of_page vpn) vs ≡ Some (get_or vs i d)
+found_at vpn i [] d one within same = absurd (omega (arith, within))
+found_at vpn zero (v ∷ vs) d one within same = ap (λ (b : Bool). cond b (Some v) (find (is_of_page vpn) vs)) (eq-eqb v.vpn.0 vpn.0 same)
+found_at vpn (suc i) (v ∷ vs) d one within same =
+    ap (λ (b : Bool). cond b (Some v) (find (is_of_page vpn) vs)) (neq-eqb v.vpn.0 vpn.0 (λ e. one zero (suc i) d (omega arith) (omega (arith, within)) (e ∙ sym same)))
+    ∙ found_at vpn i vs d (λ j k e below last. one (suc j) (suc k) e (omega (arith, below)) (omega (arith, last))) (omega (arith, within)) same
+
+-- views of other pages aren't marked
+unmarked : (vpn : Vpn) (access : Access) (n : ℕ) (vs : List View) → ((k : ℕ) (d : View) → k < length (take n vs) → (get_or (take n vs) k d).vpn.0 ≢ vpn.0) → map (mark_view_of vpn access) (take n vs) ++ drop n vs ≡ vs
+unmarked vpn access zero vs others = refl
+unmarked vpn access (suc n) [] others = refl
+unmarked vpn access (suc n) (v ∷ vs) others =
+    ap₂ (λ (w : View) (ws : List View). w ∷ ws) (ap (λ (b : Bool). if b then mark_view access v else v) (neq-eqb v.vpn.0 vpn.0 (others zero v (omega arith))))
+    (unmarked vpn access n vs (λ k d within. others (suc k) d (omega (arith, within))))
+
+-- the mark of the one view of a page
+pub marked_at : (vpn : Vpn) (access : Access) (i n : ℕ) (vs : List View) (d : View) → HaveOneViewAPage (take n vs) → i < n → n ≤ length vs → (get_or vs i d).vpn.0 ≡ vpn.0
+    → set vs i (mark_view access (get_or vs i d)) ≡ map (mark_view_of vpn access) (take n vs) ++ drop n vs
+marked_at vpn access i zero vs d one here within same = absurd (omega (arith, here))
+marked_at vpn access i (suc n) [] d one here within same = absurd (omega (arith, within))
+marked_at vpn access zero (suc n) (v ∷ vs) d one here within same =
+    ap₂ (λ (w : View) (ws : List View). w ∷ ws) (sym (ap (λ (b : Bool). if b then mark_view access v else v) (eq-eqb v.vpn.0 vpn.0 same)))
+    (sym (unmarked vpn access n vs (λ k e last. λ other. one zero (suc k) e (omega arith) (omega (arith, last)) (same ∙ sym other))))
+marked_at vpn access (suc i) (suc n) (v ∷ vs) d one here within same =
+    let size : length (take n vs) ≡ n = length-take-le n vs (omega (arith, within)) in
+    let there : get_or (take n vs) i d ≡ get_or vs i d = get_or-take n vs i d (omega (arith, here)) in
+    ap₂ (λ (w : View) (ws : List View). w ∷ ws) (sym (ap (λ (b : Bool). if b then mark_view access v else v) (neq-eqb v.vpn.0 vpn.0 (λ e. one zero (suc i) d (omega arith) (omega (arith, here, size)) (e ∙ (sym same ∙ ap (λ (w : View). w.vpn.0) (sym there)))))))
+    (marked_at vpn access i n vs d (λ j k e below last. one (suc j) (suc k) e (omega (arith, below)) (omega (arith, last))) (omega (arith, here)) (omega (arith, within)) same)
 
 first_true : (a b : Bool) → (a && b) ≡ true → a ≡ true
 first_true true b e = refl
@@ -145,9 +211,9 @@ no_view vs vpn room = is_none_where (find (is_of_page vpn) vs) (second_true _ _ 
 pub one_filled : (vs : List View) (v : View) → can_fill vs v.vpn ≡ true → HaveOneViewAPage vs → HaveOneViewAPage (vs ++ v ∷ [])
 one_filled vs v room one = all_pairs_push (λ (a b : View). a.vpn.0 ≢ b.vpn.0) vs v one (not_found v.vpn vs (no_view vs v.vpn room))
 
-pub table_filled : (n count : ℕ) (xs ys : List View) (v : View) → n ≡ length xs → IsTable xs count → can_fill (take count xs) v.vpn ≡ true → ys ≡ set xs count v
-    → IsTable (take n (ys ++ drop (length ys) xs)) (count + 1)
-table_filled n count xs ys v whole table room became =
+pub table_filled : (n count : ℕ) (messages now : Bool) (xs ys : List View) (v : View) → n ≡ length xs → IsTable xs count messages → now ≡ (messages || v.flags.m) → can_fill (take count xs) v.vpn ≡ true → ys ≡ set xs count v
+    → IsTable (take n (ys ++ drop (length ys) xs)) (count + 1) now
+table_filled n count messages now xs ys v whole table is room became =
     let size : length ys ≡ length xs = ap length became ∙ length-set xs count v in
     let taken : length (take count xs) ≡ count = length-take-le count xs (omega (arith, table.eight, table.within)) in
     let free : count < 8 = omega (arith, ltb-true (length (take count xs)) 8 (first_true _ _ room), taken) in
@@ -158,6 +224,7 @@ table_filled n count xs ys v whole table room became =
       within = more;
       one_a_page = subst HaveOneViewAPage (sym (ap (take (count + 1)) became ∙ take_more_set xs count v below))
           (one_filled (take count xs) v room table.one_a_page);
+      flagged = is ∙ (ap (λ (b : Bool). b || v.flags.m) table.flagged ∙ sym (ap has_message (ap (take (count + 1)) became ∙ take_more_set xs count v below) ∙ messages_more (take count xs) v));
     })
 
 -- the part before a place and the rest with its first element replaced

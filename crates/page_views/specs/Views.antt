@@ -1,5 +1,5 @@
 -- Copied pages: what one is, and the pages that a step sees in them.
-use Rattle.std.specs.Prelude.{◌≡◌, ◌≢◌, ℕ, ◌/◌, ◌≤◌, Bool, true, false, ◌&&◌, ◌==◌, if◌then◌else◌, List, map, find, length, take, Option, Some, None, is_some, nat_lt, not}
+use Rattle.std.specs.Prelude.{◌≡◌, ◌≢◌, ℕ, ◌/◌, ◌≤◌, Bool, true, false, ◌&&◌, ◌||◌, ◌==◌, if◌then◌else◌, List, [], ◌∷◌, map, find, length, take, Option, Some, None, is_some, nat_lt, not}
 use Rattle.std.specs.List.{AllPairs}
 use Rattle.cache_ident.specs.declared.idents.Ident.{Ident}
 use Rattle.cache_ident.specs.declared.names.Vpn.{Vpn}
@@ -106,11 +106,17 @@ allows_flags Fetch flags = flags.x
 allows_flags Read flags = flags.r
 allows_flags Write flags = flags.w
 
--- eight views, of which the first so many are present
-pub record IsTable (views : List View) (count : ℕ) : Type 0 where
+-- some view has the message flag
+abbrev pub has_message : List View → Bool
+has_message [] = false
+has_message (v ∷ vs) = v.flags.m || has_message vs
+
+-- eight views, of which the first so many are present, and whether some of these has the message flag
+pub record IsTable (views : List View) (count : ℕ) (messages : Bool) : Type 0 where
   pub eight : length views ≡ 8
   pub within : count ≤ 8
   pub one_a_page : HaveOneViewAPage (take count views)
+  pub flagged : messages ≡ has_message (take count views)
 
 abbrev pub where_flagged : Access → Option View → Option View
 where_flagged access None = None

@@ -51,6 +51,7 @@ impl PageView {
     }
 
     /// The page.
+    #[inline]
     pub fn vpn(&self) -> Vpn
         ensures { result ≡ self.now.vpn }
     {
@@ -58,6 +59,7 @@ impl PageView {
     }
 
     /// The frame that was copied.
+    #[inline]
     pub fn frame(&self) -> Frame
         ensures { result ≡ self.now.frame }
     {
@@ -65,6 +67,7 @@ impl PageView {
     }
 
     /// The flags of the row that it was copied through.
+    #[inline]
     pub fn flags(&self) -> Flags
         ensures { result ≡ self.now.flags }
     {
@@ -109,6 +112,7 @@ impl PageView {
     }
 
     // The number from a place on.
+    #[inline]
     pub(crate) fn number(&self, at: usize, width: Width) -> u32
         requires { at + size_of width < 4097 }
         ensures { result ≡ number_at width self.now.present at }
@@ -124,6 +128,7 @@ impl PageView {
     }
 
     // Puts the low bytes of a number from a place on.
+    #[inline]
     pub(crate) fn put(&mut self, at: usize, width: Width, value: u32)
         requires { at + size_of width < 4097 }
         ensures { self.new ≡ record self.old { present = put_bytes (size_of width) self.old.present at value } }
@@ -144,6 +149,7 @@ impl PageView {
     }
 
     // Leaves the mark of an access.
+    #[inline]
     pub(crate) fn mark(&mut self, access: Access)
         ensures { self.new ≡ mark_view access self.old }
     {

@@ -14,6 +14,7 @@ use rv32_exec::{Access, Hole, Space, Width};
 use rv32_isa::Instr;
 
 // Whether flags let an access through.
+#[inline]
 fn allows(flags: Flags, access: Access) -> bool
     ensures { result ≡ allows_flags access flags }
 {
@@ -25,6 +26,7 @@ fn allows(flags: Flags, access: Access) -> bool
 }
 
 // The place of an address in its page, with room for the width.
+#[inline]
 fn place(va: u32, width: Width) -> usize
     requires { va % size_of width ≡ 0 }
     ensures place { result ≡ va % 4096 }
@@ -35,6 +37,7 @@ fn place(va: u32, width: Width) -> usize
 
 impl PageViews {
     /// The view that an access goes through: that of the page of `va`, where its flags let the access through.
+    #[inline]
     pub fn through(&self, va: u32, access: Access) -> Option<&PageView>
         ensures { option_copied result ≡ view_through self.now access va }
     {
@@ -45,6 +48,7 @@ impl PageViews {
     }
 
     // The number that an access reads.
+    #[inline]
     fn read(&self, va: u32, access: Access, width: Width) -> Result<u32, Hole>
         requires { va % size_of width ≡ 0 }
         ensures { result_ok result ≡ read_through access (pages_of_views self.now) va width }
@@ -63,18 +67,22 @@ impl Space for PageViews {
 
     ghost kept = { copies_of };
 
+    #[inline]
     fn fetch(&self, va: u32) -> Result<u32, Hole> {
         self.read(va, Access::Fetch, Width::Word)
     }
 
+    #[inline]
     fn instruction(&mut self, va: u32, word: u32) -> Option<Instr> {
         self.decoded.instruction(va, word)
     }
 
+    #[inline]
     fn load(&self, va: u32, width: Width) -> Result<u32, Hole> {
         self.read(va, Access::Read, width)
     }
 
+    #[inline]
     fn store(&mut self, va: u32, width: Width, value: u32) -> Result<(), Hole> {
         let frame = match self.through(va, Access::Write) {
             Some(view) => view.frame(),
@@ -84,6 +92,7 @@ impl Space for PageViews {
         Ok(())
     }
 
+    #[inline]
     fn touch(&mut self, va: u32, access: Access) {
         self.mark(Vpn(va / 4_096), access);
     }

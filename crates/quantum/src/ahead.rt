@@ -136,6 +136,7 @@ impl Quantum {
     }
 
     // Takes steps up to the first pause, and answers it.
+    #[inline]
     fn go(&mut self, limit: u32) -> Paused
         ensures { HasGone limit self.old self.new result }
     {
@@ -151,6 +152,7 @@ impl Quantum {
     }
 
     // Takes one step more, and answers whether the run pauses before it or after it.
+    #[inline]
     fn advance(&mut self) -> Option<Paused>
         requires going { standing_def self.old.paused ≡ None }
         requires room { self.old.steps + 1 < 2 ^ 32 }
@@ -182,6 +184,7 @@ fn standing(paused: Option<Paused>) -> Option<Paused>
 }
 
 // The pause that a step leaves.
+#[inline]
 fn pause_after(stepped: Stepped) -> Option<Paused>
     ensures { result ≡ pause_after_def stepped }
 {
@@ -193,6 +196,7 @@ fn pause_after(stepped: Stepped) -> Option<Paused>
 }
 
 // Takes a step over the views.
+#[inline]
 fn take(context: &mut Context, views: &mut PageViews) -> Stepped
     requires { context.old.pc % 4 ≡ 0 }
     ensures aligned { context.new.pc % 4 ≡ 0 }
@@ -205,11 +209,15 @@ fn take(context: &mut Context, views: &mut PageViews) -> Stepped
 }
 
 // Whether the next step is a store that signals.
+#[inline]
 fn signals_next(context: &Context, views: &mut PageViews) -> bool
     requires { context.now.pc % 4 ≡ 0 }
     ensures answer { result ≡ signals_by views.old (next_action context.now (pages_of_views views.old)) }
     ensures views { views.new ≡ views.old }
 {
+    if !views.has_message() {
+        return false;
+    }
     let Ok(word) = views.fetch(context.pc) else {
         return false;
     };
