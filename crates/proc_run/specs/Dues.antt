@@ -4,13 +4,12 @@ use Rattle.std.specs.Io.KnownBytes.{IsAtEnd}
 use Rattle.flat_state.specs.declared.events.Decl.{Decl}
 use Rattle.flat_state.specs.declared.records.Settled.{Settled}
 use Rattle.flat_state.specs.declared.records.Settled.TheVariants as settled
-use Rattle.scenario_text.specs.Spelling.{IsBuilt}
 use Rattle.proc_run.specs.declared.outcome.RunStatus.{RunStatus}
 use Rattle.proc_run.specs.declared.outcome.RunStatus.TheVariants.{Done, Stalled, Spent, NoMemory}
 use Rattle.proc_run.specs.declared.outcome.Kept.{Kept}
 use Rattle.proc_run.specs.declared.machine.NoText.{NoText}
 use Rattle.proc_run.specs.declared.machine.NoText.TheVariants as none
-use Rattle.proc_run.specs.Outcomes.{IsDue, most_bytes}
+use Rattle.proc_run.specs.Outcomes.{IsDue, IsScenario, most_bytes}
 
 -- the status of a run that is settled so
 abbrev pub status_of : Settled → RunStatus
@@ -29,9 +28,9 @@ abbrev pub UnlessFailed : {X : Type 0} → Result X NoText → Type 0 → Type 0
 UnlessFailed (Err none.ReadFault) P = Unit {0}
 UnlessFailed _ P = P
 
--- due without words for whatever bytes are not too many and a built scenario with these declarations, once they are read to their end
+-- due without words for whatever bytes are not too many and a scenario with these declarations, once they are read to their end
 abbrev pub IsDueFor : List Decl → RunStatus → Kept → List ℕ → Type 0
-IsDueFor ds status kept text = (bytes left : Option (List ℕ)) → IfSome bytes (λ bs. length bs ≤ most_bytes) → IfSome bytes (λ bs. IsBuilt bs ds) → IsAtEnd left
+IsDueFor ds status kept text = (bytes left : Option (List ℕ)) → IfSome bytes (λ bs. length bs ≤ most_bytes) → IfSome bytes (λ bs. IsScenario bs ds) → IsAtEnd left
     → IsDue [] bytes left status kept text
 
 -- due without words for these bytes, where they are those that the source had, once they are read to their end

@@ -1,17 +1,17 @@
 //! The whole run.
 
 ghost use Rattle.std.specs.Prelude.{◌≡◌, ◌≢◌, ◌<◌, ◌≤◌, [], List, ℕ, IfOk, OnOk, Some, length};
+ghost use Rattle.std.specs.String.{string_bytes};
 ghost use Rattle.std.specs.Io.KnownBytes.{Appends, Keeps};
 ghost use Rattle.byte_ports.specs.Faults.{HasRisen};
 ghost use Rattle.byte_ports.specs.Whole.{AppendsFront};
-ghost use Rattle.flat_state.specs.declared.events.Decl.{Decl as DeclLem};
 ghost use Rattle.flat_state.specs.State.{nothing_declared};
 ghost use Rattle.flat_state.specs.Events.{AllFit};
-ghost use Rattle.scenario_text.specs.Spelling.{IsBuilt};
+ghost use Rattle.scenario_reader.specs.Scenarios.{scenario};
 ghost use Rattle.proc_run.specs.declared.outcome.RunStatus.{RunStatus as RunStatusLem};
 ghost use Rattle.proc_run.specs.declared.outcome.Kept.TheVariants.{Nothing};
 ghost use Rattle.proc_run.specs.declared.machine.NoText.TheVariants.{NoMemory as NoMemoryLem};
-ghost use Rattle.proc_run.specs.Outcomes.{IsDue, OnWritten, OnWriteFault, OnReadFault, OnNothingDue, UnlessReadFault, UnlessWriteFault, IsRan, IsRanOrNoMemory, IsRefusal, most_bytes, usage_line, too_long_line, unbuilt_line};
+ghost use Rattle.proc_run.specs.Outcomes.{IsDue, OnWritten, OnWriteFault, OnReadFault, OnNothingDue, UnlessReadFault, UnlessWriteFault, IsRan, ComesOut, ComesOutOrNoMemory, IsRefusal, most_bytes, usage_line, too_long_line, fault_line};
 ghost use Rattle.proc_run.specs.Dues.{OnFailed, UnlessFailed, IsDueFor, IsDueOf, status_of};
 
 use crate::outcome::{Kept, Outcome, RunStatus};
@@ -20,7 +20,7 @@ use crate::run::{Finished, run};
 use crate::words::Words;
 use byte_ports::{ReadError, Sink, Source, read_to_end, write_all};
 use flat_machine::{Decl, NoMemory, Settled};
-use scenario_text::{ScenarioFault, read};
+use scenario_reader::{ScenarioFault, read};
 use std::alloc::{AllocError, Global};
 
 /// How many bytes a scenario may have.
@@ -80,13 +80,24 @@ fn line(alloc: Global, status: RunStatus, text: &[u8]) -> Result<DueText, AllocE
     })
 }
 
-fn unbuilt(alloc: Global, number: u64) -> Result<DueText, AllocError>
-    ensures status { IfOk result (λ d. d.status ≡ RunStatus.Unbuilt number) }
-    ensures kept { IfOk result (λ d. d.kept ≡ Nothing) }
-    ensures text { IfOk result (λ d. d.text.items ≡ unbuilt_line number) }
+fn fault_line(alloc: Global, number: u64, rule: u32) -> Result<String, AllocError>
+    ensures { IfOk result (λ line. string_bytes line ≡ fault_line number rule) }
 {
-    let text = format!(in alloc; "unbuilt line {number}\n")?;
-    line(alloc, RunStatus::Unbuilt { line: number }, text.as_bytes())
+    format!(in alloc; "scenario fault line {number} rule {rule}\n")
+}
+
+// The first fault of a text that is no scenario.
+fn faulty(alloc: Global, number: u64, rule: u32) -> Result<DueText, AllocError>
+    ensures status { IfOk result (λ d. d.status ≡ RunStatus.BadScenario number rule) }
+    ensures kept { IfOk result (λ d. d.kept ≡ Nothing) }
+    ensures text { IfOk result (λ d. d.text.items ≡ fault_line number rule) }
+{
+    let text = fault_line(alloc, number, rule)?;
+    line(
+        alloc,
+        RunStatus::BadScenario { line: number, rule },
+        text.as_bytes(),
+    )
 }
 
 // The report of the run of a scenario.
@@ -115,12 +126,12 @@ fn answered(alloc: Global, decls: &[Decl]) -> Result<DueText, NoMemory>
 fn due_for(alloc: Global, bytes: &[u8]) -> Result<DueText, NoText>
     requires { length bytes.now ≤ most_bytes }
     ensures due { IfOk result (λ d. IsDueOf bytes.now d.status d.kept d.text.items) }
-    ensures ran { (ds : List DeclLem) → IsBuilt bytes.now ds → IfOk result (λ d. IsRan d.status) }
+    ensures comes_out { IfOk result (λ d. ComesOut (scenario bytes.now) d.status) }
     ensures unfailed { OnFailed result ⊥ }
 {
     match read(alloc, bytes) {
         Ok(scenario) => Ok(answered(alloc, scenario.decls())?),
-        Err(ScenarioFault::Unbuilt { line }) => Ok(unbuilt(alloc, line)?),
+        Err(ScenarioFault::Bad { line, rule }) => Ok(faulty(alloc, line, rule)?),
         Err(ScenarioFault::NoMemory) => Err(NoText::NoMemory),
     }
 }
@@ -128,7 +139,7 @@ fn due_for(alloc: Global, bytes: &[u8]) -> Result<DueText, NoText>
 // Reads the source, and says what is to be written.
 fn due<S: Source>(alloc: Global, words: &Words, source: &mut S) -> Result<DueText, NoText>
     ensures due { IfOk result (λ d. IsDue words.now (S.bytes_left source.old) (S.bytes_left source.new) d.status d.kept d.text.items) }
-    ensures ran { words.now ≡ [] → (bytes : List ℕ) (ds : List DeclLem) → S.bytes_left source.old ≡ Some bytes → length bytes ≤ most_bytes → IsBuilt bytes ds → IfOk result (λ d. IsRan d.status) }
+    ensures comes_out { words.now ≡ [] → (bytes : List ℕ) → S.bytes_left source.old ≡ Some bytes → length bytes ≤ most_bytes → IfOk result (λ d. ComesOut (scenario bytes) d.status) }
     ensures refused { words.now ≢ [] → IfOk result (λ d. d.status ≡ RunStatus.Usage) × OnFailed result ⊥ × Keeps (S.bytes_left source.old) (S.bytes_left source.new) }
     ensures fault { OnFailed result (HasRisen (S.faults source.old) (S.faults source.new)) }
     ensures faultless { UnlessFailed result (S.faults source.new ≡ S.faults source.old) }
@@ -145,8 +156,8 @@ fn due<S: Source>(alloc: Global, words: &Words, source: &mut S) -> Result<DueTex
 }
 
 /// Reads a scenario from the source to its end, runs it on the machine with unlimited tables until all its threads
-/// have ended, none can go on, or 1,000,000 steps are taken, and writes the report to the sink. No words are
-/// accepted. All text is made before the first write.
+/// have ended, none can go on, or 1,000,000 steps are taken, and writes the report to the sink. For a text that is no
+/// scenario it writes its first fault. No words are accepted. All text is made before the first write.
 ///
 /// It costs the steps, each of them the logarithm of the rows, a pass over the threads for each entry of the journal,
 /// and memory for the scenario, the machine, one entry for every 256 steps and each thread call, and the report.
@@ -175,10 +186,11 @@ pub fn run_machine<S: Source, W: Sink>(
     // Words are refused before anything is read.
     ensures refused { words.now ≢ [] → IsRefusal result.status × Keeps (S.bytes_left source.old) (S.bytes_left source.new) }
 
-    // Without words, a built scenario runs to its end, unless an end fails or memory runs out.
-    ensures complete { words.now ≡ [] → (bytes : List ℕ) (ds : List DeclLem) → S.bytes_left source.old ≡ Some bytes
-        → length bytes ≤ most_bytes → IsBuilt bytes ds → (HasRisen (S.faults source.old) (S.faults source.new) → ⊥)
-        → (HasRisen (W.faults sink.old) (W.faults sink.new) → ⊥) → IsRanOrNoMemory result.status }
+    // Without words, a scenario runs to its end, and any other text that isn't too long is answered by its first fault,
+    // unless an end fails or memory runs out.
+    ensures complete { words.now ≡ [] → (bytes : List ℕ) → S.bytes_left source.old ≡ Some bytes
+        → length bytes ≤ most_bytes → (HasRisen (S.faults source.old) (S.faults source.new) → ⊥)
+        → (HasRisen (W.faults sink.old) (W.faults sink.new) → ⊥) → ComesOutOrNoMemory (scenario bytes) result.status }
 {
     match due(alloc, words, source) {
         Err(NoText::ReadFault) => Outcome {

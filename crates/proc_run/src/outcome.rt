@@ -18,14 +18,15 @@ pub enum RunStatus {
     ReadFault,
     /// The sink failed. What was written is the beginning of the text that was due.
     WriteFault,
+    /// The bytes are no scenario. The line is the first that breaks a rule, counted from 1, and the rule is the lowest
+    /// that it breaks.
+    BadScenario { line: u64, rule: u32 },
     /// Memory ran out. Nothing was written.
     NoMemory,
     /// There were words, and none is accepted.
     Usage,
     /// More than 4,194,304 bytes came.
     TooLong,
-    /// The bytes are no built scenario: that line, counted from 1, is the first that isn't built.
-    Unbuilt { line: u64 },
 }
 
 impl RunStatus {
@@ -39,10 +40,10 @@ impl RunStatus {
             RunStatus::Spent => 2,
             RunStatus::ReadFault => 3,
             RunStatus::WriteFault => 4,
+            RunStatus::BadScenario { .. } => 5,
             RunStatus::NoMemory => 6,
             RunStatus::Usage => 7,
             RunStatus::TooLong => 8,
-            RunStatus::Unbuilt { .. } => 9,
         }
     }
 }

@@ -5,7 +5,7 @@ use byte_ports::{MemSink, MemSource};
 use cache_ident::{Caps, Frame, KernelNo, NoMemory, SpaceNo, Vpn};
 use flat_machine::{Decl, Event, Flat, Machine, Settled};
 use phys_groups::Flags;
-use scenario_text::read;
+use scenario_reader::read;
 use std::alloc::Global;
 use std::test::Fail;
 
@@ -64,8 +64,8 @@ word 0 0 00a00893 00000073\nend\n",
             b"status done\nsteps 2\nspace 0 rows 1 referenced 1 modified 0\n\
 thread 0 badcall 10 out 0\n",
         ),
-        (b"mem 1\nkernel 1\n", 9, b"unbuilt line 2\n"),
-        (b"", 9, b"unbuilt line 1\n"),
+        (b"mem 1\nkernel 1\n", 5, b"scenario fault line 2 rule 8\n"),
+        (b"", 5, b"scenario fault line 1 rule 24\n"),
     ];
     for (bytes, status, text) in cases {
         let (found, held) = run_over(&rt, &no_words, bytes, &[], &[])?;
@@ -180,8 +180,11 @@ fn a_word_and_too_many_bytes(rt: HostRuntime) -> Result<(), Fail> {
     assert_eq!(rt; status, 8);
     assert_eq!(rt; held.as_slice(), b"too long\n".as_slice());
     let (status, held) = run_over(&rt, &Words::new(rt.alloc()), &long[1..], &[], &[])?;
-    assert_eq!(rt; status, 9);
-    assert_eq!(rt; held.as_slice(), b"unbuilt line 1\n".as_slice());
+    assert_eq!(rt; status, 5);
+    assert_eq!(rt;
+        held.as_slice(),
+        b"scenario fault line 1 rule 24\n".as_slice()
+    );
     Ok(())
 }
 

@@ -1,2 +1,2 @@
 pub mod Goes
-pub mod Fits
+pub mod Whole

@@ -9,7 +9,7 @@ mod scenario;
 mod standing;
 
 pub use fault::ScenarioFault;
-pub use scenario::{Scenario, read, what_is_read_fits};
+pub use scenario::{Scenario, read};
 
 #[cfg(test)]
 mod tests;

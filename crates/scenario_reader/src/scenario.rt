@@ -1,7 +1,6 @@
 //! A scenario, and the reading of one.
 
-ghost use Rattle.std.specs.Prelude.{◌≡◌, ℕ, List, Ok};
-ghost use Rattle.flat_state.specs.declared.events.Decl.{Decl as DeclLem};
+ghost use Rattle.std.specs.Prelude.{◌≡◌, ◌<◌, IfOk, length};
 ghost use Rattle.flat_state.specs.State.{nothing_declared};
 ghost use Rattle.flat_state.specs.Events.{AllFit};
 ghost use Rattle.scenario_reader.specs.Readings.{Takes, Answers};
@@ -94,7 +93,10 @@ impl Reader {
 /// stand for two million words.
 pub fn read(alloc: Global, text: &[u8]) -> Result<Scenario, ScenarioFault>
     // The text is a scenario with these declarations; or it has that first fault, unless memory runs out.
-    ensures { Answers (λ s. s) result (scenario text.now) }
+    ensures meant { Answers (λ s. s) result (scenario text.now) }
+
+    // They fit one after another, and there are some.
+    ensures fit { IfOk result (λ s. AllFit nothing_declared s × (0 < length s)) }
 {
     let mut reader = Reader::new(alloc);
     let mut number = 1u64;
@@ -109,8 +111,3 @@ pub fn read(alloc: Global, text: &[u8]) -> Result<Scenario, ScenarioFault>
         }
     }
 }
-
-/// What a scenario declares breaks no rule: each declaration fits the machine that those before it make.
-pub fn what_is_read_fits()
-    ensures { (text : List ℕ) (ds : List DeclLem) → scenario text ≡ Ok ds → AllFit nothing_declared ds }
-{}

@@ -1,8 +1,10 @@
-use Rattle.std.proofs.Common.{◌≡◌, ◌∙◌, ℕ, List, sym, subst}
-use Rattle.scenario_text.specs.Spelling.{IsBuilt}
+use Rattle.std.proofs.Common.{◌≡◌, ◌∙◌, ℕ, List, subst}
+use Rattle.std.specs.Prelude.{IfOk}
+use Rattle.scenario_reader.specs.Scenarios.{scenario}
+use Rattle.proc_run.specs.Outcomes.{ComesOut}
 use Rattle.proc_run.proofs.machine.due.Goals as goal
 
-pub returns-in-Ok-clause-ran : goal.returns-in-Ok-clause-ran
-returns-in-Ok-clause-ran g c none bytes ds told short built =
+pub returns-in-Ok-clause-comes_out : goal.returns-in-Ok-clause-comes_out
+returns-in-Ok-clause-comes_out g c none bytes told short =
     let whole : c.in-Ok.bytes.items ≡ bytes = rw told at c.in-Ok.ensures.whole in
-    c.due_for.ensures.ran ds (subst (λ (x : List ℕ). IsBuilt x ds) (sym (c.deref.ensures.value ∙ whole)) built)
+    subst (λ (x : List ℕ). IfOk c.due_for.result (λ d. ComesOut (scenario x) d.status)) (c.deref.ensures.value ∙ whole) c.due_for.ensures.comes_out
