@@ -49,7 +49,7 @@ fn touching(flat: &Flat, thread: ThreadNo) -> Option<bool>
 {
     match flat.thread(thread) {
         Some(caller) => {
-            if !caller.is_completable() {
+            if !flat_rules::is_completable::<Flat>(caller) {
                 return None;
             }
             Some(touches(caller))
