@@ -3,8 +3,9 @@ use Rattle.std.proofs.Common.{◌≡◌, ℕ, ◌+◌, ◌*◌, ◌/◌, ◌≤�
 use Rattle.std.specs.Prelude.{if◌then◌else◌, ◌==◌, ◌||◌, ◌&&◌, not}
 use Rattle.std.specs.List.{find}
 use Rattle.std.specs.Option.{option_map}
-use Rattle.std.proofs.lemmas.Bool.{eqb-true, eq-eqb, and_parts}
+use Rattle.std.proofs.lemmas.Bool.{eqb-true, eq-eqb, and_parts, or_right}
 use Rattle.std.proofs.lemmas.Option.{same_Some}
+use Rattle.std.proofs.Math.Bool.{or-false, or_assoc}
 use Rattle.cache_ident.specs.declared.names.SpaceNo.{SpaceNo}
 use Rattle.cache_ident.specs.declared.names.Vpn.{Vpn}
 use Rattle.cache_ident.specs.declared.names.Frame.{Frame}
@@ -61,22 +62,10 @@ length-changed (Put frame count at value ∷ cs) m = length-changed cs (put_byte
 abbrev pub after_marks : SpaceNo → List Change → Row → Row
 after_marks space cs row = if is_in space row then record row { referenced = row.referenced || has_mark row.vpn.0 cs; modified = row.modified || has_store_mark row.vpn.0 cs } else row
 
-or_assoc : (a b c : Bool) → ((a || b) || c) ≡ (a || (b || c))
-or_assoc true b c = refl
-or_assoc false b c = refl
-
-or_false : (b : Bool) → (b || false) ≡ b
-or_false true = refl
-or_false false = refl
-
-or_true : (b : Bool) → (b || true) ≡ true
-or_true true = refl
-or_true false = refl
-
 one_mark : (space : SpaceNo) (n : ℕ) (access : Access) (cs : List Change) (row : Row) (b d : Bool) → is_in space row ≡ b → (row.vpn.0 == n) ≡ d
     → after_marks space cs (marked space n (writes access) row) ≡ after_marks space (Marked n access ∷ cs) row
 one_mark space n access cs row true true inside own =
-    rw (inside, own, inside) (ap₂ (λ (t w : Bool). record row { referenced = t; modified = w }) (sym (or_true row.referenced)) (or_assoc row.modified (writes access) (has_store_mark row.vpn.0 cs)))
+    rw (inside, own, inside) (ap₂ (λ (t w : Bool). record row { referenced = t; modified = w }) (sym (or_right row.referenced true refl)) (or_assoc row.modified (writes access) (has_store_mark row.vpn.0 cs)))
 one_mark space n access cs row true false inside own = rw (inside, own, inside) refl
 one_mark space n access cs row false d inside own = rw (inside, inside) refl
 
@@ -85,7 +74,7 @@ marks_map space n access cs [] = refl
 marks_map space n access cs (row ∷ rows) = ap₂ (λ (r : Row) (rs : List Row). r ∷ rs) (one_mark space n access cs row (is_in space row) (row.vpn.0 == n) refl refl) (marks_map space n access cs rows)
 
 no_mark : (space : SpaceNo) (row : Row) (b : Bool) → row ≡ (if b then record row { referenced = row.referenced || false; modified = row.modified || false } else row)
-no_mark space row true = ap₂ (λ (t w : Bool). record row { referenced = t; modified = w }) (sym (or_false row.referenced)) (sym (or_false row.modified))
+no_mark space row true = ap₂ (λ (t w : Bool). record row { referenced = t; modified = w }) (sym (or-false row.referenced)) (sym (or-false row.modified))
 no_mark space row false = refl
 
 no_marks : (space : SpaceNo) (rows : List Row) → rows ≡ map (after_marks space []) rows

@@ -2,6 +2,7 @@
 use Rattle.std.proofs.Common.{◌≡◌, ◌≢◌, ℕ, ◌+◌, Bool, true, false, ◌||◌, List, [], ◌∷◌, ◌++◌, map, Option, Some, None, Contains, refl, ap, ap₂, sym, ◌∙◌, subst}
 use Rattle.std.specs.Prelude.{◌==◌, ◌&&◌, ◌*◌, if◌then◌else◌}
 use Rattle.std.proofs.lemmas.Bool.{eqb-true}
+use Rattle.std.proofs.Math.Bool.{or_assoc}
 use Rattle.phys_groups.specs.declared.rows.Row.{Row}
 use Rattle.phys_groups.specs.Memory.{page_at}
 use Rattle.phys_groups.specs.Rows.{marked}
@@ -79,10 +80,6 @@ module _ (vs ws : List View) (grows : Grows vs ws) where
       shows_as s space v w.0 w.2 (all w.0 w.1)
 
 -- ---- changes one after another
-
-or_assoc : (a b c : Bool) → ((a || b) || c) ≡ (a || (b || c))
-or_assoc true b c = refl
-or_assoc false b c = refl
 
 pub mark-append : (n : ℕ) (cs ds : List Change) → has_mark n (cs ++ ds) ≡ (has_mark n cs || has_mark n ds)
 mark-append n [] ds = refl

@@ -3,7 +3,7 @@ use Rattle.std.proofs.Common.{◌≡◌, ℕ, ◌/◌, ◌%◌, Bool, true, fals
 use Rattle.std.specs.Prelude.{◌==◌, if◌then◌else◌}
 use Rattle.std.specs.List.{filter}
 use Rattle.std.specs.Option.{option_map}
-use Rattle.std.proofs.lemmas.Bool.{and_from, and_parts, cases_Bool, eq-eqb, eqb-true}
+use Rattle.std.proofs.lemmas.Bool.{and_from, and_parts, cases_Bool, eq-eqb, eqb-true, or_right}
 use Rattle.cache_ident.specs.declared.names.Frame.{Frame}
 use Rattle.cache_ident.specs.declared.names.Name.TheVariants.{Mapping}
 use Rattle.cache_ident.specs.declared.names.SpaceNo.{SpaceNo}
@@ -78,10 +78,6 @@ status_after Call = Trapped
 status_after (Stop reason) = Ended reason
 status_after (Miss va access) = Ready
 
-or_true : (b : Bool) → (b || true) ≡ true
-or_true true = refl
-or_true false = refl
-
 true_false : {P : Type 0} → true ≡ false → P
 true_false e = absurd (cc)
 
@@ -89,7 +85,7 @@ true_false e = absurd (cc)
 module _ (vs : List View) (ds : List Change) where
   -- a view that the step touches is touched then
   touched_then : (v : View) → Contains vs v → has_mark v.vpn.0 ds ≡ true → Contains (touched_views (map (after_changes ds) vs)) (after_changes ds v)
-  touched_then v there mark = contains_filter (λ (w : View). w.touched) (map (after_changes ds) vs) (after_changes ds v) (Contains-map (after_changes ds) vs v there) (ap (λ (b : Bool). v.touched || b) mark ∙ or_true v.touched)
+  touched_then v there mark = contains_filter (λ (w : View). w.touched) (map (after_changes ds) vs) (after_changes ds v) (Contains-map (after_changes ds) vs v there) (ap (λ (b : Bool). v.touched || b) mark ∙ or_right v.touched true refl)
 
   view_of_page : (p : Page) → Contains (pages_of_views vs) p → (v : View) × Contains vs v × (page_of v ≡ p)
   view_of_page p there = Contains-from_map page_of vs p there
@@ -106,7 +102,7 @@ module _ (vs : List View) (ds : List Change) where
 
   module _ (s : FlatState) (space : SpaceNo) (shows : (v : View) → Contains vs v → (v.touched || has_mark v.vpn.0 ds) ≡ true → Shows s space v v.present) where
     marked_shows : (v : View) → Contains vs v → has_mark v.vpn.0 ds ≡ true → Shows s space v v.present
-    marked_shows v there mark = shows v there (ap (λ (b : Bool). v.touched || b) mark ∙ or_true v.touched)
+    marked_shows v there mark = shows v there (ap (λ (b : Bool). v.touched || b) mark ∙ or_right v.touched true refl)
 
     mark_of : (access : Access) (va : ℕ) (v : View) → v.vpn.0 ≡ va / 4096 → has_mark (va / 4096) ds ≡ true → has_mark v.vpn.0 ds ≡ true
     mark_of access va v page mark = ap (λ (n : ℕ). has_mark n ds) page ∙ mark

@@ -3,7 +3,7 @@ use Rattle.std.proofs.Common.{◌≡◌, ℕ, ◌+◌, ◌/◌, ◌%◌, ◌≤�
 use Rattle.std.specs.Prelude.{if◌then◌else◌, ◌==◌, ◌||◌, is_some}
 use Rattle.std.specs.List.{find}
 use Rattle.std.specs.Option.{option_map, option_and_then}
-use Rattle.std.proofs.lemmas.Bool.{eqb-true, eq-eqb}
+use Rattle.std.proofs.lemmas.Bool.{eqb-true, eq-eqb, or_right}
 use Rattle.rv32_isa.specs.declared.forms.Instr.{Instr}
 use Rattle.rv32_isa.specs.Table.{instruction_of}
 use Rattle.rv32_ma.specs.declared.atomics.AmoOp.{AmoOp}
@@ -89,15 +89,11 @@ pub record Acts (ps : List Page) (accesses : List (Access × ℕ)) (a : After) (
   pub puts : ArePuts changes ps changes
   pub there : (qs : List Page) → AllShow ps qs accesses → b qs ≡ record { context = a.context; pages = all_changed changes qs; answer = a.answer }
 
-or_true : (b : Bool) → (b || true) ≡ true
-or_true true = refl
-or_true false = refl
-
 marked_here : (n : ℕ) (access : Access) (cs : List Change) → has_mark n (Marked n access ∷ cs) ≡ true
 marked_here n access cs = ap (λ (b : Bool). b || has_mark n cs) (eq-eqb n n refl)
 
 marked_behind : (n k : ℕ) (access : Access) (cs : List Change) → has_mark n cs ≡ true → has_mark n (Marked k access ∷ cs) ≡ true
-marked_behind n k access cs behind = ap (λ (b : Bool). (n == k) || b) behind ∙ or_true (n == k)
+marked_behind n k access cs behind = ap (λ (b : Bool). (n == k) || b) behind ∙ or_right (n == k) true refl
 
 module _ (ps : List Page) (c : Context) where
   abbrev Good : List (Access × ℕ) → After → (List Page → After) → Type 0

@@ -1,6 +1,8 @@
 -- Views, by their pages: what changes of the pages are in the views.
 use Rattle.std.proofs.Common.{◌≡◌, ℕ, Bool, true, false, List, [], ◌∷◌, map, refl, ap, ap₂, sym, ◌∙◌}
 use Rattle.std.specs.Prelude.{if◌then◌else◌, ◌==◌, ◌||◌, ◌&&◌}
+use Rattle.std.proofs.lemmas.Bool.{or_right}
+use Rattle.std.proofs.Math.Bool.{or-false, or_assoc}
 use Rattle.rv32_exec.specs.declared.statuses.Access.{Access}
 use Rattle.rv32_exec.specs.declared.statuses.Access.TheVariants.{Fetch, Read, Write}
 use Rattle.rv32_exec.specs.Pages.{Page, put_bytes, mark}
@@ -41,23 +43,11 @@ abbrev changed_once : Change → Page → Page
 changed_once (Marked n access) p = record p { touched = p.touched || (p.number == n); written = p.written || ((p.number == n) && writes access) }
 changed_once (Put frame count at value) p = record p { bytes = if p.frame == frame then put_bytes count p.bytes at value else p.bytes }
 
-or_assoc : (a b c : Bool) → ((a || b) || c) ≡ (a || (b || c))
-or_assoc true b c = refl
-or_assoc false b c = refl
-
-or_false : (b : Bool) → (b || false) ≡ b
-or_false true = refl
-or_false false = refl
-
-or_true : (b : Bool) → (b || true) ≡ true
-or_true true = refl
-or_true false = refl
-
 marked_page : (p : Page) (access : Access) (b : Bool) → (if b then mark access p else p) ≡ record p { touched = p.touched || b; written = p.written || (b && writes access) }
-marked_page p access false = ap₂ (λ (t w : Bool). record p { touched = t; written = w }) (sym (or_false p.touched)) (sym (or_false p.written))
-marked_page p Fetch true = ap₂ (λ (t w : Bool). record p { touched = t; written = w }) (sym (or_true p.touched)) (sym (or_false p.written))
-marked_page p Read true = ap₂ (λ (t w : Bool). record p { touched = t; written = w }) (sym (or_true p.touched)) (sym (or_false p.written))
-marked_page p Write true = ap₂ (λ (t w : Bool). record p { touched = t; written = w }) (sym (or_true p.touched)) (sym (or_true p.written))
+marked_page p access false = ap₂ (λ (t w : Bool). record p { touched = t; written = w }) (sym (or-false p.touched)) (sym (or-false p.written))
+marked_page p Fetch true = ap₂ (λ (t w : Bool). record p { touched = t; written = w }) (sym (or_right p.touched true refl)) (sym (or-false p.written))
+marked_page p Read true = ap₂ (λ (t w : Bool). record p { touched = t; written = w }) (sym (or_right p.touched true refl)) (sym (or-false p.written))
+marked_page p Write true = ap₂ (λ (t w : Bool). record p { touched = t; written = w }) (sym (or_right p.touched true refl)) (sym (or_right p.written true refl))
 
 put_page : (p : Page) (count at value : ℕ) (b : Bool) → (if b then record p { bytes = put_bytes count p.bytes at value } else p) ≡ record p { bytes = if b then put_bytes count p.bytes at value else p.bytes }
 put_page p count at value true = refl
@@ -79,7 +69,7 @@ changes_map c cs (p ∷ ps) = ap₂ (λ (q : Page) (qs : List Page). q ∷ qs) (
 
 none_map : (ps : List Page) → ps ≡ map (page_after []) ps
 none_map [] = refl
-none_map (p ∷ ps) = ap₂ (λ (q : Page) (qs : List Page). q ∷ qs) (ap₂ (λ (t w : Bool). record p { touched = t; written = w }) (sym (or_false p.touched)) (sym (or_false p.written))) (none_map ps)
+none_map (p ∷ ps) = ap₂ (λ (q : Page) (qs : List Page). q ∷ qs) (ap₂ (λ (t w : Bool). record p { touched = t; written = w }) (sym (or-false p.touched)) (sym (or-false p.written))) (none_map ps)
 
 -- pages after some changes are each the page after them
 pub pages_after : (cs : List Change) (ps : List Page) → all_changed cs ps ≡ map (page_after cs) ps

@@ -237,7 +237,7 @@ fn signals(views: &PageViews, action: Action) -> bool
             width: Width::Word,
             ..
         } => match views.through(va, Access::Write) {
-            Some(view) => view.flags().m && va % 4_096 % 64 == 60,
+            Some(view) => view.flags().m && signal_pages::signals(va % 4_096),
             None => false,
         },
         _ => false,
