@@ -34,3 +34,30 @@ run_program() {
     fi
     grep "$1" "$place/log"
 }
+
+# answer_depend NAME: writes what proves the function depend of that program, which makes a child of a parent in a
+# Depends with room for 69,000 pairs.
+answer_depend() {
+    mkdir -p "$program/proofs/depend"
+    cat > "$program/proofs/depend/Answers.antt" <<PROOF
+use Rattle.std.proofs.Common.{◌≡◌, ◌∙◌, ap, arith}
+use Rattle.depend_lists.specs.Pairs.{Dependence}
+use Rattle.depend_lists.proofs.RoomyLemmas.{absent_without, parents_none, within_more}
+use Rattle.$1.specs.declared.TheConstants.{CAPS}
+use Rattle.$1.proofs.depend.Goals as goal
+
+pub add-requires-clause-absent : goal.add-requires-clause-absent
+add-requires-clause-absent c = rw c.remove.ensures (absent_without c.args.depends.now.pairs _ c.args.child)
+
+pub add-requires-clause-class : goal.add-requires-clause-class
+add-requires-clause-class c = rw c.remove.ensures (parents_none c.args.depends.now.pairs c.args.child).one_class
+
+pub add-requires-clause-parents : goal.add-requires-clause-parents
+add-requires-clause-parents c = rw c.remove.ensures (omega (arith, (parents_none c.args.depends.now.pairs c.args.child).count))
+
+pub add-requires-clause-within : goal.add-requires-clause-within
+add-requires-clause-within c =
+    let caps : c.remove.new.self.caps ≡ CAPS = ap (λ (d : Dependence). d.caps) c.remove.ensures ∙ c.requires in
+    rw caps (within_more CAPS 69000 _ c.remove.new.self.pairs (omega (arith, c.len.ensures.len, c.if-len-lt69000.true)) (omega arith, omega arith, omega arith, omega arith))
+PROOF
+}
