@@ -82,13 +82,6 @@ pub ran_unchanged : (s u : FlatState) (formed : IsWellFormed s) (after_formed : 
 ran_unchanged s u formed after_formed space name kept same =
     went_back s u formed after_formed space name kept ∙ ap (written_back s space) same ∙ sym (went_back s s formed formed space name refl)
 
--- a fact that follows from another where a step was missed
-pub missed-map : (answer : Stepped) {P Q : Type 0} → (P → Q) → OnMiss answer P → OnMiss answer Q
-missed-map Next f p = tt
-missed-map Call f p = tt
-missed-map (Stop reason) f p = tt
-missed-map (Miss va access) f p = f p
-
 -- what a step leaves of its thread
 pub step_state : (old now : FlatState) (n : ℕ) (t : FlatThread) (context : Context) (answer : Stepped) (status : Status) → RanIn old t.space t.context now context answer → OnMiss answer ((context ≡ t.context) × (now ≡ old)) → status ≡ status_so now t answer → with_thread now n (record t { context = context; status = status }) ≡ unsignalled old n t
 step_state old now n t context answer status ran missed is =

@@ -21,7 +21,7 @@ use Rattle.flat_state.proofs.Finding.{find-contains}
 use Rattle.flat_laws.proofs.Members.{Contains-cases, contains_nothing, Contains-from_map, Contains-option_map}
 use Rattle.flat_laws.proofs.ShortChains.{own_row, signal_row, no_signals, received}
 
-there_is : {X : Type 0} (xs : List X) (n : ℕ) → n < length xs → is_some (slice_get xs n) ≡ true
+pub there_is : {X : Type 0} (xs : List X) (n : ℕ) → n < length xs → is_some (slice_get xs n) ≡ true
 there_is [] n lt = absurd (omega arith)
 there_is (x ∷ xs) zero lt = refl
 there_is (x ∷ xs) (suc n) lt = there_is xs n (omega arith)

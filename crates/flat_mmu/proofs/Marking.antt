@@ -10,11 +10,10 @@ use Rattle.phys_groups.specs.Memory.{page_at}
 use Rattle.phys_groups.specs.Translation.{is_row_of}
 use Rattle.rv32_exec.specs.declared.statuses.Access.{Access}
 use Rattle.rv32_exec.specs.declared.statuses.Access.TheVariants.{Fetch, Read, Write}
-use Rattle.rv32_exec.specs.Pages.{Page, mark, mark_page}
+use Rattle.rv32_exec.specs.Pages.{Page, is_write, mark, mark_page}
 use Rattle.flat_state.specs.Pages.{is_in, page_of, pages_in}
 use Rattle.flat_state.specs.Rest.{is_mapped, rest_of, unmarked}
 use Rattle.phys_groups.specs.Rows.{marked}
-use Rattle.flat_mmu.specs.Seen.{writes}
 
 or_false : (b : Bool) → (b || false) ≡ b
 or_false false = refl
@@ -42,7 +41,7 @@ module _ (space : SpaceNo) (n : ℕ) where
   marked-space w row = elim (cases_Bool (is_row_of space n row)) [ inl own ↦ ap (is_in space) (marked-row w row own) | inr other ↦ ap (is_in space) (marked-other w row other) ]
 
   module _ (rights : List (Bool × Bool)) (memory : List ℕ) where
-    mark-own : (access : Access) (row : Row) → page_of rights memory (record row { referenced = true; modified = row.modified || writes access }) ≡ mark access (page_of rights memory row)
+    mark-own : (access : Access) (row : Row) → page_of rights memory (record row { referenced = true; modified = row.modified || is_write access }) ≡ mark access (page_of rights memory row)
     mark-own Fetch row = ap (λ (b : Bool). record (page_of rights memory row) { touched = true; written = b }) (or_false row.modified)
     mark-own Read row = ap (λ (b : Bool). record (page_of rights memory row) { touched = true; written = b }) (or_false row.modified)
     mark-own Write row = ap (λ (b : Bool). record (page_of rights memory row) { touched = true; written = b }) (or_true row.modified)
@@ -50,17 +49,17 @@ module _ (space : SpaceNo) (n : ℕ) where
     marked_page : (access : Access) (p : Page) (b : Bool) → eqb p.number n ≡ b → mark_page n access p ≡ cond b (mark access p) p
     marked_page access p b e = rw e refl
 
-    mark-page : (access : Access) (row : Row) → is_in space row ≡ true → page_of rights memory (marked space n (writes access) row) ≡ mark_page n access (page_of rights memory row)
+    mark-page : (access : Access) (row : Row) → is_in space row ≡ true → page_of rights memory (marked space n (is_write access) row) ≡ mark_page n access (page_of rights memory row)
     mark-page access row inside = elim (cases_Bool (eqb row.vpn.0 n)) [
-      | inl own ↦ ap (page_of rights memory) (marked-row (writes access) row (rw (inside, own) refl)) ∙ mark-own access row ∙ sym (marked_page access (page_of rights memory row) true own)
-      | inr other ↦ ap (page_of rights memory) (marked-other (writes access) row (rw (inside, other) refl)) ∙ sym (marked_page access (page_of rights memory row) false other)
+      | inl own ↦ ap (page_of rights memory) (marked-row (is_write access) row (rw (inside, own) refl)) ∙ mark-own access row ∙ sym (marked_page access (page_of rights memory row) true own)
+      | inr other ↦ ap (page_of rights memory) (marked-other (is_write access) row (rw (inside, other) refl)) ∙ sym (marked_page access (page_of rights memory row) false other)
     ]
 
-    pub mark-pages : (access : Access) (rows : List Row) → pages_in rights memory (map (marked space n (writes access)) rows) space ≡ map (mark_page n access) (pages_in rights memory rows space)
+    pub mark-pages : (access : Access) (rows : List Row) → pages_in rights memory (map (marked space n (is_write access)) rows) space ≡ map (mark_page n access) (pages_in rights memory rows space)
     mark-pages access [] = refl
     mark-pages access (row ∷ rows) = elim (cases_Bool (is_in space row)) [
-      | inl inside ↦ both (page_of rights memory) (mark_page n access) (marked space n (writes access) row) row (filter (is_in space) (map (marked space n (writes access)) rows)) (filter (is_in space) rows) (is_in space (marked space n (writes access) row)) (is_in space row) (marked-space (writes access) row ∙ inside) inside (mark-page access row inside) (mark-pages access rows)
-      | inr beside ↦ neither (page_of rights memory) (mark_page n access) (marked space n (writes access) row) row (filter (is_in space) (map (marked space n (writes access)) rows)) (filter (is_in space) rows) (is_in space (marked space n (writes access) row)) (is_in space row) (marked-space (writes access) row ∙ beside) beside (mark-pages access rows)
+      | inl inside ↦ both (page_of rights memory) (mark_page n access) (marked space n (is_write access) row) row (filter (is_in space) (map (marked space n (is_write access)) rows)) (filter (is_in space) rows) (is_in space (marked space n (is_write access) row)) (is_in space row) (marked-space (is_write access) row ∙ inside) inside (mark-page access row inside) (mark-pages access rows)
+      | inr beside ↦ neither (page_of rights memory) (mark_page n access) (marked space n (is_write access) row) row (filter (is_in space) (map (marked space n (is_write access)) rows)) (filter (is_in space) rows) (is_in space (marked space n (is_write access) row)) (is_in space row) (marked-space (is_write access) row ∙ beside) beside (mark-pages access rows)
     ]
 
   unmarked-marked : (w : Bool) (row : Row) → unmarked space (marked space n w row) ≡ unmarked space row

@@ -9,7 +9,7 @@ use Rattle.rv32_exec.specs.declared.statuses.Access.{Access}
 use Rattle.rv32_exec.specs.declared.statuses.Access.TheVariants.{Write}
 use Rattle.rv32_exec.specs.declared.spaces.Width.{Width}
 use Rattle.rv32_exec.specs.declared.spaces.Width.TheVariants.{Byte, Half, Word}
-use Rattle.rv32_exec.specs.Pages.{number_at, put_bytes, read_through, size_of, stored, touched_at, translates}
+use Rattle.rv32_exec.specs.Pages.{is_write, number_at, put_bytes, read_through, size_of, stored, touched_at, translates}
 use Rattle.flat_state.specs.State.{FlatState}
 use Rattle.flat_state.specs.Translation.{wants}
 use Rattle.flat_state.specs.Pages.{page_of, pages_of}
@@ -20,7 +20,7 @@ use Rattle.flat_state.proofs.Storing.{fits, read-none, read-pages, stored-none, 
 use Rattle.flat_state.proofs.Translating.{translation-pages}
 use Rattle.phys_groups.specs.Rows.{marked}
 use Rattle.flat_rules.specs.Readings.{IsInMemory}
-use Rattle.flat_mmu.specs.Seen.{Seen, beside, pages_seen, rest_seen, seen, seen_row, writes}
+use Rattle.flat_mmu.specs.Seen.{Seen, beside, pages_seen, rest_seen, seen, seen_row}
 use Rattle.flat_mmu.proofs.Marking.{mark-pages, rest-marked}
 
 pub read_seen : (m : Seen) (access : Access) (va : ℕ) (width : Width) (row : Row) → va % size_of width ≡ 0 → seen_row m access va ≡ Some row → Some (number_at width m.memory (place_in row.frame va)) ≡ read_through access (pages_seen m) va width
@@ -42,12 +42,12 @@ unstored_seen m va width value lost = sym (stored-none m.rights m.space m.memory
 pub kept_seen : (m : Seen) (va : ℕ) (width : Width) (value : ℕ) (row : Row) → va % size_of width ≡ 0 → seen_row m Write va ≡ Some row → rest_seen (record m { memory = put_bytes (size_of width) m.memory (place_in row.frame va) value }) ≡ rest_seen m
 kept_seen m va width value row aligned found = rest-put_bytes m.rights m.rows m.space (size_of width) m.memory row.frame (va % 4096) value (fits width va aligned) (found-mapped m.rights m.rows (wants Write) m.space va row found)
 
-pub marked_seen : (m : Seen) (va : ℕ) (access : Access) → pages_seen (record m { rows = map (marked m.space (va / 4096) (writes access)) m.rows }) ≡ touched_at (pages_seen m) va access
+pub marked_seen : (m : Seen) (va : ℕ) (access : Access) → pages_seen (record m { rows = map (marked m.space (va / 4096) (is_write access)) m.rows }) ≡ touched_at (pages_seen m) va access
 unfolding touched_at
 marked_seen m va access = mark-pages m.space (va / 4096) m.rights m.memory access m.rows
 
-pub marks_keep : (m : Seen) (va : ℕ) (access : Access) → rest_seen (record m { rows = map (marked m.space (va / 4096) (writes access)) m.rows }) ≡ rest_seen m
-marks_keep m va access = rest-marked m.space (va / 4096) m.rights m.memory (writes access) m.rows
+pub marks_keep : (m : Seen) (va : ℕ) (access : Access) → rest_seen (record m { rows = map (marked m.space (va / 4096) (is_write access)) m.rows }) ≡ rest_seen m
+marks_keep m va access = rest-marked m.space (va / 4096) m.rights m.memory (is_write access) m.rows
 
 -- the place of an aligned access lies in the frame, and is aligned
 pub place_within : (memory : List ℕ) (frame : Frame) (va : ℕ) (width : Width) (at : ℕ) → va % size_of width ≡ 0 → IsInMemory memory frame → at ≡ place_in frame va → at + size_of width ≤ length memory
@@ -73,8 +73,8 @@ module _ (s u : FlatState) (space : SpaceNo) where
         ap (λ (v : FlatState). beside v space name) there
         ∙ ap (λ (r : Rest). record { rest = r; others = record s { memory = []; rows = [] }; borrowed = name }) (kept_seen (seen s space) va width value row aligned found)
 
-  module _ (va : ℕ) (access : Access) (w : Bool) (is : w ≡ writes access) (after : u ≡ record s { rows = map (marked space (va / 4096) w) s.rows }) where
-    marks : u ≡ record s { rows = map (marked space (va / 4096) (writes access)) s.rows }
+  module _ (va : ℕ) (access : Access) (w : Bool) (is : w ≡ is_write access) (after : u ≡ record s { rows = map (marked space (va / 4096) w) s.rows }) where
+    marks : u ≡ record s { rows = map (marked space (va / 4096) (is_write access)) s.rows }
     marks = after ∙ ap (λ (b : Bool). record s { rows = map (marked space (va / 4096) b) s.rows }) is
 
     pub touch_pages : pages_of u space ≡ touched_at (pages_of s space) va access

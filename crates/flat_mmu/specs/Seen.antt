@@ -1,10 +1,9 @@
 -- What the threads of a space see of a machine, and what stands beside that.
-use Rattle.std.specs.Prelude.{ℕ, Bool, true, false, List, [], Option}
+use Rattle.std.specs.Prelude.{ℕ, Bool, List, [], Option}
 use Rattle.cache_ident.specs.declared.names.SpaceNo.{SpaceNo}
 use Rattle.phys_groups.specs.declared.rows.Row.{Row}
 use Rattle.phys_groups.specs.Translation.{translated}
 use Rattle.rv32_exec.specs.declared.statuses.Access.{Access}
-use Rattle.rv32_exec.specs.declared.statuses.Access.TheVariants.{Fetch, Read, Write}
 use Rattle.rv32_exec.specs.Pages.{Page}
 use Rattle.flat_state.specs.State.{FlatState}
 use Rattle.flat_state.specs.Translation.{rights_of, row_through, wants}
@@ -42,9 +41,3 @@ pub record Beside : Type 0 where
 
 abbrev pub beside : FlatState → SpaceNo → ℕ → Beside
 beside s space name = record { rest = rest_seen (seen s space); others = record s { memory = []; rows = [] }; borrowed = name }
-
--- a store leaves a mark of its own
-abbrev pub writes : Access → Bool
-writes Fetch = false
-writes Read = false
-writes Write = true

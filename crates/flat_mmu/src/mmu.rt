@@ -2,10 +2,10 @@
 
 ghost use Rattle.std.specs.Prelude.{◌≡◌, ◌%◌, ◌<◌, IfSome};
 ghost use Rattle.phys_groups.specs.Translation.{place_in as place_in_def};
-ghost use Rattle.rv32_exec.specs.Pages.{number_at, size_of};
+ghost use Rattle.rv32_exec.specs.Pages.{is_write, number_at, size_of};
 ghost use Rattle.flat_state.specs.Pages.{pages_of};
 ghost use Rattle.flat_rules.specs.Readings.{IsInMemory};
-ghost use Rattle.flat_mmu.specs.Seen.{Beside, beside, seen, seen_row, writes as writes_def};
+ghost use Rattle.flat_mmu.specs.Seen.{Beside, beside, seen, seen_row};
 
 use cache_ident::{Frame, SpaceNo, Vpn};
 use flat_rules::{Changes, Records, reached};
@@ -68,7 +68,7 @@ fn place_in(frame: Frame, va: u32) -> u32
 
 // Whether the access leaves the mark of a store.
 fn writes(access: Access) -> bool
-    ensures { result ≡ writes_def access }
+    ensures { result ≡ is_write access }
 {
     matches!(access, Access::Write)
 }

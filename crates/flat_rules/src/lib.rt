@@ -23,4 +23,4 @@ pub use records::Records;
 pub use settling::{settled, settled_by};
 pub use signals::{full_among, full_receiver, receivers_for};
 pub use threads::{has_ended, is_completable, is_ready, queued, thread_at};
-pub use translation::{is_fit, is_fit_row, reached, rights_of};
+pub use translation::{is_fit, is_fit_row, reached, rights_of, wants};

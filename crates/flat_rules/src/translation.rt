@@ -46,8 +46,9 @@ pub fn is_fit<T: Records>(tables: &T, space: SpaceNo, vpn: Vpn) -> bool
     }
 }
 
-// Whether the flags have the one that the access asks for.
-fn wants(access: Access, flags: Flags) -> bool
+/// Whether the flags have the one that the access asks for: x for a fetch, r for a load, w for a store.
+#[inline]
+pub fn wants(access: Access, flags: Flags) -> bool
     ensures { result ≡ wants_def access flags }
 {
     match access {

@@ -12,18 +12,13 @@ use Rattle.rv32_exec.specs.declared.actions.Action.{Action}
 use Rattle.rv32_exec.specs.declared.actions.Action.TheVariants as actions
 use Rattle.rv32_exec.specs.declared.steps.Stepped.{Stepped}
 use Rattle.rv32_exec.specs.declared.steps.Stepped.TheVariants.{Next, Call, Stop, Miss}
-use Rattle.rv32_exec.specs.Pages.{Page, size_of, where_allowed, translation, translates, put_bytes, put_in_frame, mark, mark_page}
+use Rattle.rv32_exec.specs.Pages.{Page, size_of, where_allowed, translation, translates, put_bytes, put_in_frame, mark, mark_page, is_write}
 use Rattle.rv32_exec.specs.Changes.{Change, Marked, Put}
 use Rattle.rv32_exec.specs.Steps.{After, after_step}
 use Rattle.rv32_exec.proofs.StepChanges.{IsMark, AreMade, marks_in, marks_of, OnHit, is_step, changed_by, all_changed-is}
 use Rattle.flat_state.specs.declared.records.DataAccess.{DataAccess}
 use Rattle.flat_state.specs.Signals.{next_action}
 use Rattle.flat_state.specs.NextSteps.{data_access, stores, is_miss}
-
-abbrev is_write : Access → Bool
-is_write Fetch = false
-is_write Read = false
-is_write Write = true
 
 -- The pages became others, each with its number. Those whose number passes the first test are touched, those whose
 -- number passes the second are written, and no other mark changes.

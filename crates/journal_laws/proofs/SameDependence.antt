@@ -30,16 +30,12 @@ use Rattle.flat_laws.specs.Rows.{IsButForBits}
 use Rattle.flat_laws.proofs.EventKeeps.{Keeps, event_keeps}
 use Rattle.flat_laws.proofs.Members.{contains_nothing, Contains-here, Contains-behind, Contains-cases, Contains-filter, Contains-map, Contains-from_map}
 use Rattle.flat_laws.proofs.ShortChains.{own_row}
+use Rattle.flat_laws.proofs.ParentLaws.{there_is}
 use Rattle.run_journal.proofs.Others.{Contains-from_filter}
 use Rattle.journal_laws.specs.Staying.{AreGood}
 
 abbrev kernel_zero : KernelNo
 kernel_zero = record { 0 = 0 }
-
-there_is : {X : Type 0} (xs : List X) (n : ℕ) → n < length xs → is_some (slice_get xs n) ≡ true
-there_is [] n lt = absurd (omega arith)
-there_is (x ∷ xs) zero lt = refl
-there_is (x ∷ xs) (suc n) lt = there_is xs n (omega arith)
 
 test_below : (m n : ℕ) → m < n → nat_lt m n ≡ true
 test_below m n lt = grind (arith, nat_tests)

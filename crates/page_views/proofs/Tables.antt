@@ -14,7 +14,8 @@ use Rattle.rv32_exec.specs.declared.statuses.Access.TheVariants.{Fetch, Read, Wr
 use Rattle.rv32_exec.specs.declared.spaces.Width.{Width}
 use Rattle.rv32_exec.specs.declared.spaces.Width.TheVariants.{Byte, Half, Word}
 use Rattle.rv32_exec.specs.Pages.{Page, allows, where_allowed, translation, translates, read_through, number_at, stored_through, stored, touched_at, put_bytes, put_in_frame, mark, mark_page, size_of}
-use Rattle.page_views.specs.Views.{View, page_of, pages_of_views, Copied, copied, copies_of, has_message, is_of_page, can_fill, put_in_view, mark_view, mark_view_of, allows_flags, where_flagged, view_through, HaveOneViewAPage, IsTable}
+use Rattle.flat_state.specs.Translation.{wants}
+use Rattle.page_views.specs.Views.{View, page_of, pages_of_views, Copied, copied, copies_of, has_message, is_of_page, can_fill, put_in_view, mark_view, mark_view_of, where_flagged, view_through, HaveOneViewAPage, IsTable}
 
 pub pages_mapped : (f : View → View) (g : Page → Page) → ((v : View) → page_of (f v) ≡ g (page_of v)) → (vs : List View) → pages_of_views (map f vs) ≡ map g (pages_of_views vs)
 pages_mapped f g same [] = refl
@@ -234,7 +235,7 @@ set_between zero (x ∷ xs) v within = refl
 set_between (suc n) [] v within = absurd (omega (arith, within))
 set_between (suc n) (x ∷ xs) v within = ap (λ (ys : List View). x ∷ ys) (set_between n xs v (omega (arith, within)))
 
-flags_allow : (access : Access) (v : View) → allows access (page_of v) ≡ allows_flags access v.flags
+flags_allow : (access : Access) (v : View) → allows access (page_of v) ≡ wants access v.flags
 flags_allow Fetch v = refl
 flags_allow Read v = refl
 flags_allow Write v = refl
@@ -250,7 +251,7 @@ translation_is vs access va = ap (where_allowed access) (find_page (va / 4096) v
 
     by : (o : Option View) → where_allowed access (option_map page_of o) ≡ option_map page_of (where_flagged access o)
     by None = refl
-    by (Some v) = ap (λ (b : Bool). if b then Some (page_of v) else None) (flags_allow access v) ∙ test v (allows_flags access v.flags)
+    by (Some v) = ap (λ (b : Bool). if b then Some (page_of v) else None) (flags_allow access v) ∙ test v (wants access v.flags)
 
 pub translates_is : (vs : List View) (access : Access) (va : ℕ) → translates (pages_of_views vs) va access ≡ is_some (view_through vs access va)
 unfolding translates

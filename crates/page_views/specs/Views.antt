@@ -8,6 +8,7 @@ use Rattle.phys_groups.specs.declared.rows.Flags.{Flags}
 use Rattle.rv32_exec.specs.declared.statuses.Access.{Access}
 use Rattle.rv32_exec.specs.declared.statuses.Access.TheVariants.{Fetch, Read, Write}
 use Rattle.rv32_exec.specs.Pages.{Page, put_bytes}
+use Rattle.flat_state.specs.Translation.{wants}
 
 -- A copied page: its number, the frame that it was copied from, what may be done with it, the row that it was copied
 -- through, its bytes as they were copied and as they are now, and whether an access and whether a store went through it.
@@ -100,12 +101,6 @@ mark_view Write v = record v { touched = true; written = true }
 abbrev pub mark_view_of : Vpn → Access → View → View
 mark_view_of vpn access v = if v.vpn.0 == vpn.0 then mark_view access v else v
 
--- whether flags let an access through
-abbrev pub allows_flags : Access → Flags → Bool
-allows_flags Fetch flags = flags.x
-allows_flags Read flags = flags.r
-allows_flags Write flags = flags.w
-
 -- some view has the message flag
 abbrev pub has_message : List View → Bool
 has_message [] = false
@@ -120,7 +115,7 @@ pub record IsTable (views : List View) (count : ℕ) (messages : Bool) : Type 0 
 
 abbrev pub where_flagged : Access → Option View → Option View
 where_flagged access None = None
-where_flagged access (Some v) = if allows_flags access v.flags then Some v else None
+where_flagged access (Some v) = if wants access v.flags then Some v else None
 
 -- the view that an access to an address goes through: that of its page, where its flag is there
 abbrev pub view_through : List View → Access → ℕ → Option View

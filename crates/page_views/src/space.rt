@@ -4,26 +4,14 @@ ghost use Rattle.std.specs.Prelude.{◌≡◌, ◌+◌, ◌%◌, ◌<◌, List};
 ghost use Rattle.std.specs.Result.{result_ok};
 ghost use Rattle.std.specs.Option.{option_copied};
 ghost use Rattle.rv32_exec.specs.Pages.{read_through, size_of};
-ghost use Rattle.page_views.specs.Views.{allows_flags, copies_of, pages_of_views, view_through, Copied};
+ghost use Rattle.page_views.specs.Views.{copies_of, pages_of_views, view_through, Copied};
 
 use crate::page::PageView;
 use crate::table::PageViews;
 use cache_ident::Vpn;
-use phys_groups::Flags;
+use flat_rules::wants;
 use rv32_exec::{Access, Hole, Space, Width};
 use rv32_isa::Instr;
-
-// Whether flags let an access through.
-#[inline]
-fn allows(flags: Flags, access: Access) -> bool
-    ensures { result ≡ allows_flags access flags }
-{
-    match access {
-        Access::Fetch => flags.x,
-        Access::Read => flags.r,
-        Access::Write => flags.w,
-    }
-}
 
 // The place of an address in its page, with room for the width.
 #[inline]
@@ -42,7 +30,7 @@ impl PageViews {
         ensures { option_copied result ≡ view_through self.now access va }
     {
         match self.find(Vpn(va / 4_096)) {
-            Some(view) if allows(view.flags(), access) => Some(view),
+            Some(view) if wants(access, view.flags()) => Some(view),
             _ => None,
         }
     }

@@ -16,7 +16,7 @@ use Rattle.phys_groups.specs.Rows.{marked}
 use Rattle.phys_groups.specs.Translation.{Translated, through, no_flag, no_right, judged, covers, is_fit, is_row_of, row_of}
 use Rattle.rv32_exec.specs.declared.statuses.Access.{Access}
 use Rattle.rv32_exec.specs.declared.statuses.Access.TheVariants.{Fetch, Read, Write}
-use Rattle.rv32_exec.specs.Pages.{Page, put_bytes, translation}
+use Rattle.rv32_exec.specs.Pages.{Page, put_bytes, translation, is_write}
 use Rattle.rv32_exec.specs.Changes.{Change, Marked, Put}
 use Rattle.flat_state.specs.State.{FlatState}
 use Rattle.flat_state.specs.Translation.{is_fit_row, reached, rights_of, row_through, wants}
@@ -25,10 +25,10 @@ use Rattle.flat_state.proofs.Finding.{find-contains, find-passes}
 use Rattle.flat_state.proofs.Storing.{length-put_bytes, page_at-put_bytes, page_at-put_bytes_other}
 use Rattle.flat_state.proofs.Translating.{translation-pages}
 use Rattle.flat_laws.proofs.Members.{find-map}
-use Rattle.page_views.specs.Views.{View, page_of, pages_of_views, allows_flags, is_of_page, where_flagged, view_through}
+use Rattle.page_views.specs.Views.{View, page_of, pages_of_views, is_of_page, where_flagged, view_through}
 use Rattle.page_views.proofs.Tables.{translation_is}
 use Rattle.quantum.specs.LocalRun.{Shows}
-use Rattle.quantum.specs.Made.{writes, put_on, has_mark, has_store_mark, AreOf, changed_memory, changed_rows, changed_state}
+use Rattle.quantum.specs.Made.{put_on, has_mark, has_store_mark, AreOf, changed_memory, changed_rows, changed_state}
 use Rattle.quantum.proofs.StepsIn.{ShowsAt}
 
 -- ---- memory
@@ -63,13 +63,13 @@ abbrev pub after_marks : SpaceNo → List Change → Row → Row
 after_marks space cs row = if is_in space row then record row { referenced = row.referenced || has_mark row.vpn.0 cs; modified = row.modified || has_store_mark row.vpn.0 cs } else row
 
 one_mark : (space : SpaceNo) (n : ℕ) (access : Access) (cs : List Change) (row : Row) (b d : Bool) → is_in space row ≡ b → (row.vpn.0 == n) ≡ d
-    → after_marks space cs (marked space n (writes access) row) ≡ after_marks space (Marked n access ∷ cs) row
+    → after_marks space cs (marked space n (is_write access) row) ≡ after_marks space (Marked n access ∷ cs) row
 one_mark space n access cs row true true inside own =
-    rw (inside, own, inside) (ap₂ (λ (t w : Bool). record row { referenced = t; modified = w }) (sym (or_right row.referenced true refl)) (or_assoc row.modified (writes access) (has_store_mark row.vpn.0 cs)))
+    rw (inside, own, inside) (ap₂ (λ (t w : Bool). record row { referenced = t; modified = w }) (sym (or_right row.referenced true refl)) (or_assoc row.modified (is_write access) (has_store_mark row.vpn.0 cs)))
 one_mark space n access cs row true false inside own = rw (inside, own, inside) refl
 one_mark space n access cs row false d inside own = rw (inside, inside) refl
 
-marks_map : (space : SpaceNo) (n : ℕ) (access : Access) (cs : List Change) (rows : List Row) → map (after_marks space cs) (map (marked space n (writes access)) rows) ≡ map (after_marks space (Marked n access ∷ cs)) rows
+marks_map : (space : SpaceNo) (n : ℕ) (access : Access) (cs : List Change) (rows : List Row) → map (after_marks space cs) (map (marked space n (is_write access)) rows) ≡ map (after_marks space (Marked n access ∷ cs)) rows
 marks_map space n access cs [] = refl
 marks_map space n access cs (row ∷ rows) = ap₂ (λ (r : Row) (rs : List Row). r ∷ rs) (one_mark space n access cs row (is_in space row) (row.vpn.0 == n) refl refl) (marks_map space n access cs rows)
 
@@ -83,7 +83,7 @@ no_marks space (row ∷ rows) = ap₂ (λ (r : Row) (rs : List Row). r ∷ rs) (
 
 pub rows_changed : (space : SpaceNo) (cs : List Change) (rows : List Row) → changed_rows space cs rows ≡ map (after_marks space cs) rows
 rows_changed space [] rows = no_marks space rows
-rows_changed space (Marked n access ∷ cs) rows = rows_changed space cs (map (marked space n (writes access)) rows) ∙ marks_map space n access cs rows
+rows_changed space (Marked n access ∷ cs) rows = rows_changed space cs (map (marked space n (is_write access)) rows) ∙ marks_map space n access cs rows
 rows_changed space (Put frame count at value ∷ cs) rows = rows_changed space cs rows ∙ puts_map rows
   where
     puts_map : (rows : List Row) → map (after_marks space cs) rows ≡ map (after_marks space (Put frame count at value ∷ cs)) rows
@@ -140,37 +140,32 @@ pub record Reaches (s : FlatState) (space : SpaceNo) (access : Access) (va : ℕ
   pub flags : row.flags ≡ v.flags
   pub holds : page_at s.memory row.frame ≡ bytes
 
-allowed : (access : Access) (flags : Flags) → wants access flags ≡ allows_flags access flags
-allowed Fetch flags = refl
-allowed Read flags = refl
-allowed Write flags = refl
-
 abbrev page_no : ℕ → Vpn
 page_no va = record { 0 = va / 4096 }
 
 -- a view that an access goes through is that of the page, and has the flag
-pub through_parts : (vs : List View) (access : Access) (va : ℕ) (v : View) → view_through vs access va ≡ Some v → Contains vs v × (v.vpn.0 ≡ va / 4096) × (allows_flags access v.flags ≡ true)
+pub through_parts : (vs : List View) (access : Access) (va : ℕ) (v : View) → view_through vs access va ≡ Some v → Contains vs v × (v.vpn.0 ≡ va / 4096) × (wants access v.flags ≡ true)
 through_parts vs access va v e = by (find (is_of_page (page_no va)) vs) refl e
   where
-    with_flag : (w : View) (b : Bool) → allows_flags access w.flags ≡ b → find (is_of_page (page_no va)) vs ≡ Some w → (if b then Some w else None) ≡ Some v → Contains vs v × (v.vpn.0 ≡ va / 4096) × (allows_flags access v.flags ≡ true)
+    with_flag : (w : View) (b : Bool) → wants access w.flags ≡ b → find (is_of_page (page_no va)) vs ≡ Some w → (if b then Some w else None) ≡ Some v → Contains vs v × (v.vpn.0 ≡ va / 4096) × (wants access v.flags ≡ true)
     with_flag w false flag found e = absurd (cc)
     with_flag w true flag found e =
         let same : w ≡ v = same_Some w v e in
-        subst (λ (u : View). Contains vs u × (u.vpn.0 ≡ va / 4096) × (allows_flags access u.flags ≡ true)) same
+        subst (λ (u : View). Contains vs u × (u.vpn.0 ≡ va / 4096) × (wants access u.flags ≡ true)) same
         (find-contains (is_of_page (page_no va)) vs w found, eqb-true w.vpn.0 (va / 4096) (find-passes (is_of_page (page_no va)) vs w found), flag)
 
-    by : (o : Option View) → find (is_of_page (page_no va)) vs ≡ o → where_flagged access o ≡ Some v → Contains vs v × (v.vpn.0 ≡ va / 4096) × (allows_flags access v.flags ≡ true)
+    by : (o : Option View) → find (is_of_page (page_no va)) vs ≡ o → where_flagged access o ≡ Some v → Contains vs v × (v.vpn.0 ≡ va / 4096) × (wants access v.flags ≡ true)
     by None found e = absurd (cc)
-    by (Some w) found e = with_flag w (allows_flags access w.flags) refl found e
+    by (Some w) found e = with_flag w (wants access w.flags) refl found e
 
-pub reaches : (s : FlatState) (space : SpaceNo) (access : Access) (va : ℕ) (v : View) (bytes : List ℕ) → Shows s space v bytes → v.vpn.0 ≡ va / 4096 → allows_flags access v.flags ≡ true → Reaches s space access va v bytes
+pub reaches : (s : FlatState) (space : SpaceNo) (access : Access) (va : ℕ) (v : View) (bytes : List ℕ) → Shows s space v bytes → v.vpn.0 ≡ va / 4096 → wants access v.flags ≡ true → Reaches s space access va v bytes
 reaches s space access va v bytes shows page flag =
     let row = shows.row in
     let own = find-passes (is_row_of space v.vpn.0) s.rows row shows.its in
     let parts = and_parts (row.space.0 == space.0) (row.vpn.0 == v.vpn.0) own in
     let at : row.space.0 ≡ space.0 = eqb-true row.space.0 space.0 parts.0 in
     let fits : is_fit (rights_of s space) row ≡ true = ap (λ (n : ℕ). is_fit (rights_of s (record { 0 = n })) row) (sym at) ∙ shows.fit in
-    let wanted : wants access row.flags ≡ true = allowed access row.flags ∙ (ap (allows_flags access) shows.flags ∙ flag) in
+    let wanted : wants access row.flags ≡ true = ap (wants access) shows.flags ∙ flag in
     let found : row_of s.rows space (va / 4096) ≡ Some row = ap (row_of s.rows space) (sym page) ∙ shows.its in
     record {
       row = row;

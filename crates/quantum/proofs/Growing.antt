@@ -7,7 +7,7 @@ use Rattle.phys_groups.specs.declared.rows.Row.{Row}
 use Rattle.phys_groups.specs.Memory.{page_at}
 use Rattle.phys_groups.specs.Rows.{marked}
 use Rattle.phys_groups.specs.Translation.{row_of}
-use Rattle.rv32_exec.specs.Pages.{put_bytes}
+use Rattle.rv32_exec.specs.Pages.{put_bytes, is_write}
 use Rattle.cache_ident.specs.declared.names.Name.{Name}
 use Rattle.cache_ident.specs.declared.names.Name.TheVariants.{Mapping}
 use Rattle.cache_ident.specs.declared.names.SpaceNo.{SpaceNo}
@@ -16,7 +16,7 @@ use Rattle.flat_state.specs.State.{FlatState}
 use Rattle.flat_laws.proofs.Members.{Contains-filter}
 use Rattle.page_views.specs.Views.{View, Copied, copied}
 use Rattle.quantum.specs.LocalRun.{touched_views, GoesThrough, IsViewed, Shows}
-use Rattle.quantum.specs.Made.{put_on, has_mark, has_store_mark, writes, AreOf, changed_memory, changed_rows}
+use Rattle.quantum.specs.Made.{put_on, has_mark, has_store_mark, AreOf, changed_memory, changed_rows}
 use Rattle.quantum.proofs.OneStep.{contains_filter}
 
 -- each view is there still, and stays touched
@@ -88,7 +88,7 @@ mark-append n (Put frame count at value ∷ cs) ds = mark-append n cs ds
 
 pub store_mark-append : (n : ℕ) (cs ds : List Change) → has_store_mark n (cs ++ ds) ≡ (has_store_mark n cs || has_store_mark n ds)
 store_mark-append n [] ds = refl
-store_mark-append n (Marked k access ∷ cs) ds = ap (λ (b : Bool). ((n == k) && writes access) || b) (store_mark-append n cs ds) ∙ sym (or_assoc ((n == k) && writes access) (has_store_mark n cs) (has_store_mark n ds))
+store_mark-append n (Marked k access ∷ cs) ds = ap (λ (b : Bool). ((n == k) && is_write access) || b) (store_mark-append n cs ds) ∙ sym (or_assoc ((n == k) && is_write access) (has_store_mark n cs) (has_store_mark n ds))
 store_mark-append n (Put frame count at value ∷ cs) ds = store_mark-append n cs ds
 
 pub put-append : (cs ds : List Change) (f : ℕ) (bytes : List ℕ) → put_on (cs ++ ds) f bytes ≡ put_on ds f (put_on cs f bytes)
@@ -108,7 +108,7 @@ memory-append (Put frame count at value ∷ cs) ds m = memory-append cs ds (put_
 
 pub rows-append : (space : SpaceNo) (cs ds : List Change) (rows : List Row) → changed_rows space (cs ++ ds) rows ≡ changed_rows space ds (changed_rows space cs rows)
 rows-append space [] ds rows = refl
-rows-append space (Marked n access ∷ cs) ds rows = rows-append space cs ds (map (marked space n (writes access)) rows)
+rows-append space (Marked n access ∷ cs) ds rows = rows-append space cs ds (map (marked space n (is_write access)) rows)
 rows-append space (Put frame count at value ∷ cs) ds rows = rows-append space cs ds rows
 
 -- a page of no view has no mark
@@ -123,7 +123,7 @@ not_marked vs n (Put frame count at value ∷ cs) of apart = not_marked vs n cs 
 
 pub not_stored : (vs : List View) (n : ℕ) (cs : List Change) → AreOf vs cs → ((v : View) → Contains vs v → v.vpn.0 ≢ n) → has_store_mark n cs ≡ false
 not_stored vs n [] of apart = refl
-not_stored vs n (Marked k access ∷ cs) of apart = ap₂ (λ (a b : Bool). (a && writes access) || b) (by (n == k) refl) (not_stored vs n cs of.1 apart)
+not_stored vs n (Marked k access ∷ cs) of apart = ap₂ (λ (a b : Bool). (a && is_write access) || b) (by (n == k) refl) (not_stored vs n cs of.1 apart)
   where
     by : (b : Bool) → (n == k) ≡ b → (n == k) ≡ false
     by true e = absurd (apart of.0.0 of.0.1 (of.0.2 ∙ sym (eqb-true n k e)))

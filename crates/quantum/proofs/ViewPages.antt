@@ -5,11 +5,11 @@ use Rattle.std.proofs.lemmas.Bool.{or_right}
 use Rattle.std.proofs.Math.Bool.{or-false, or_assoc}
 use Rattle.rv32_exec.specs.declared.statuses.Access.{Access}
 use Rattle.rv32_exec.specs.declared.statuses.Access.TheVariants.{Fetch, Read, Write}
-use Rattle.rv32_exec.specs.Pages.{Page, put_bytes, mark}
+use Rattle.rv32_exec.specs.Pages.{Page, put_bytes, mark, is_write}
 use Rattle.rv32_exec.specs.Changes.{Change, Marked, Put, changed, all_changed}
 use Rattle.page_views.specs.Views.{View, Copied, page_of, pages_of_views, copied, copies_of}
 use Rattle.quantum.specs.Ahead.{views_with}
-use Rattle.quantum.specs.Made.{writes, put_on, has_mark, has_store_mark}
+use Rattle.quantum.specs.Made.{put_on, has_mark, has_store_mark}
 
 -- a view that is copied from where the other is, with the page of that
 view_from : (v w : View) → copied w ≡ copied v → record v { present = (page_of w).bytes; touched = (page_of w).touched; written = (page_of w).written } ≡ w
@@ -40,10 +40,10 @@ abbrev pub after_changes : List Change → View → View
 after_changes cs v = record v { present = put_on cs v.frame.0 v.present; touched = v.touched || has_mark v.vpn.0 cs; written = v.written || has_store_mark v.vpn.0 cs }
 
 abbrev changed_once : Change → Page → Page
-changed_once (Marked n access) p = record p { touched = p.touched || (p.number == n); written = p.written || ((p.number == n) && writes access) }
+changed_once (Marked n access) p = record p { touched = p.touched || (p.number == n); written = p.written || ((p.number == n) && is_write access) }
 changed_once (Put frame count at value) p = record p { bytes = if p.frame == frame then put_bytes count p.bytes at value else p.bytes }
 
-marked_page : (p : Page) (access : Access) (b : Bool) → (if b then mark access p else p) ≡ record p { touched = p.touched || b; written = p.written || (b && writes access) }
+marked_page : (p : Page) (access : Access) (b : Bool) → (if b then mark access p else p) ≡ record p { touched = p.touched || b; written = p.written || (b && is_write access) }
 marked_page p access false = ap₂ (λ (t w : Bool). record p { touched = t; written = w }) (sym (or-false p.touched)) (sym (or-false p.written))
 marked_page p Fetch true = ap₂ (λ (t w : Bool). record p { touched = t; written = w }) (sym (or_right p.touched true refl)) (sym (or-false p.written))
 marked_page p Read true = ap₂ (λ (t w : Bool). record p { touched = t; written = w }) (sym (or_right p.touched true refl)) (sym (or-false p.written))
@@ -60,7 +60,7 @@ changed_page (Put frame count at value) p = put_page p count at value (p.frame =
 one_change : (c : Change) (cs : List Change) (p : Page) → page_after cs (changed_once c p) ≡ page_after (c ∷ cs) p
 one_change (Marked n access) cs p =
     ap₂ (λ (t w : Bool). record p { bytes = put_on cs p.frame p.bytes; touched = t; written = w })
-    (or_assoc p.touched (p.number == n) (has_mark p.number cs)) (or_assoc p.written ((p.number == n) && writes access) (has_store_mark p.number cs))
+    (or_assoc p.touched (p.number == n) (has_mark p.number cs)) (or_assoc p.written ((p.number == n) && is_write access) (has_store_mark p.number cs))
 one_change (Put frame count at value) cs p = refl
 
 changes_map : (c : Change) (cs : List Change) (ps : List Page) → map (page_after cs) (map (changed c) ps) ≡ map (page_after (c ∷ cs)) ps

@@ -5,7 +5,7 @@ use Rattle.phys_groups.specs.declared.rows.Row.{Row}
 use Rattle.phys_groups.specs.Rows.{marked}
 use Rattle.rv32_exec.specs.declared.statuses.Access.{Access}
 use Rattle.rv32_exec.specs.declared.statuses.Access.TheVariants.{Fetch, Read, Write}
-use Rattle.rv32_exec.specs.Pages.{put_bytes}
+use Rattle.rv32_exec.specs.Pages.{put_bytes, is_write}
 use Rattle.rv32_exec.specs.Changes.{Change, Marked, Put}
 use Rattle.flat_state.specs.declared.records.FlatThread.{FlatThread}
 use Rattle.flat_state.specs.State.{FlatState, with_thread}
@@ -13,11 +13,6 @@ use Rattle.flat_state.specs.WellFormed.{IsWellFormed}
 use Rattle.page_views.specs.Views.{View, HaveOneViewAPage}
 use Rattle.quantum.specs.Ahead.{Ahead}
 use Rattle.quantum.specs.LocalRun.{touched_views, CouldRun, GoesThrough, state_after, status_by}
-
-abbrev pub writes : Access → Bool
-writes Fetch = false
-writes Read = false
-writes Write = true
 
 -- the bytes of a frame after changes
 abbrev pub put_on : List Change → ℕ → List ℕ → List ℕ
@@ -33,7 +28,7 @@ has_mark n (Put frame count at value ∷ cs) = has_mark n cs
 
 abbrev pub has_store_mark : ℕ → List Change → Bool
 has_store_mark n [] = false
-has_store_mark n (Marked k access ∷ cs) = ((n == k) && writes access) || has_store_mark n cs
+has_store_mark n (Marked k access ∷ cs) = ((n == k) && is_write access) || has_store_mark n cs
 has_store_mark n (Put frame count at value ∷ cs) = has_store_mark n cs
 
 -- each mark is that of a view, and each number was put within the frame of a touched one
@@ -50,7 +45,7 @@ changed_memory (Put frame count at value ∷ cs) m = changed_memory cs (put_byte
 
 abbrev pub changed_rows : SpaceNo → List Change → List Row → List Row
 changed_rows space [] rows = rows
-changed_rows space (Marked n access ∷ cs) rows = changed_rows space cs (map (marked space n (writes access)) rows)
+changed_rows space (Marked n access ∷ cs) rows = changed_rows space cs (map (marked space n (is_write access)) rows)
 changed_rows space (Put frame count at value ∷ cs) rows = changed_rows space cs rows
 
 abbrev pub changed_state : FlatState → SpaceNo → List Change → FlatState

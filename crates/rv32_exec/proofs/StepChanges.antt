@@ -264,6 +264,13 @@ module _ (c : Context) (ps qs : List Page) (alike : ReadAlike ps qs) where
 pub is_step : (c : Context) (ps : List Page) → IsStep c ps ps (marks_of (asked c (fetched ps c.pc))) (after_step c ps) (after_step c ps)
 is_step c ps = steps_alike c ps ps (record { fetches = λ va. refl; loads = λ va width. refl; stores = λ va. refl })
 
+-- a fact that follows from another where a step was missed
+pub missed-map : (answer : Stepped) {P Q : Type 0} → (P → Q) → OnMiss answer P → OnMiss answer Q
+missed-map Next f p = tt
+missed-map Call f p = tt
+missed-map (Stop reason) f p = tt
+missed-map (Miss va access) f p = f p
+
 pub missed_after : (c : Context) (ps : List Page) (d : Context) (qs : List Page) (r : Stepped) → d ≡ (after_step c ps).context → qs ≡ (after_step c ps).pages → r ≡ (after_step c ps).answer → OnMiss r ((d ≡ c) × (qs ≡ ps))
 missed_after c ps d qs r same_context same_pages same_answer = rw (same_answer, same_context, same_pages) (is_step c ps).missed
 

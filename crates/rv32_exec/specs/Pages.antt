@@ -76,6 +76,12 @@ stored_through (Some p) ps va width value = map (put_in_frame p.frame (size_of w
 unfoldable pub stored : List Page → ℕ → Width → ℕ → List Page
 stored ps va width value = stored_through (translation ps va Write) ps va width value
 
+-- whether an access is a write
+abbrev pub is_write : Access → Bool
+is_write Fetch = false
+is_write Read = false
+is_write Write = true
+
 -- the marks that an access leaves on its page
 abbrev pub mark : Access → Page → Page
 mark Fetch p = record p { touched = true }

@@ -1,4 +1,5 @@
-use Rattle.flat_events.proofs.RunLaws.{missed-map, ran_in, ran_unchanged}
+use Rattle.rv32_exec.proofs.StepChanges.{missed-map}
+use Rattle.flat_events.proofs.RunLaws.{ran_in, ran_unchanged}
 use Rattle.flat_events.proofs.steps.run_in.Goals as goal
 
 pub returns-clause-ran : goal.returns-clause-ran

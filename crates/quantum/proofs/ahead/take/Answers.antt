@@ -1,6 +1,6 @@
 use Rattle.std.proofs.Common.{ap, sym, ◌∙◌}
+use Rattle.rv32_exec.proofs.StepChanges.{missed-map}
 use Rattle.quantum.specs.Ahead.{views_with}
-use Rattle.quantum.proofs.Looking.{missed_map}
 use Rattle.quantum.proofs.ViewPages.{same_views, views_from}
 use Rattle.quantum.proofs.ahead.take.Goals as goal
 
@@ -11,4 +11,4 @@ returns-clause-views c =
 
 pub returns-clause-missed : goal.returns-clause-missed
 returns-clause-missed c =
-    missed_map c.step.result (λ both. (both.0, same_views c.args.views.now c.step.new.space c.step.ensures.kept both.1)) c.step.ensures.missed
+    missed-map c.step.result (λ both. (both.0, same_views c.args.views.now c.step.new.space c.step.ensures.kept both.1)) c.step.ensures.missed
