@@ -1,5 +1,5 @@
 -- What an address space means: a list of pages, seen as plain data.
-use Rattle.std.specs.Prelude.{ℕ, zero, suc, ◌+◌, ◌*◌, ◌/◌, ◌%◌, Bool, true, List, map, Option, Some, None, if◌then◌else◌, ◌==◌, is_some, slice_index, slice_set}
+use Rattle.std.specs.Prelude.{ℕ, zero, suc, ◌+◌, ◌*◌, ◌/◌, ◌%◌, Bool, true, false, List, map, Option, Some, None, if◌then◌else◌, ◌==◌, is_some, slice_index, slice_set}
 use Rattle.std.specs.List.{find}
 use Rattle.std.specs.Option.{option_map}
 use Rattle.rv32_exec.specs.declared.statuses.Access.{Access}
