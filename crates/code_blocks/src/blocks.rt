@@ -3,7 +3,7 @@
 ghost use Rattle.std.specs.Prelude.{◌≡◌, ◌<◌, ◌++◌, map, OnOk, MatchResult, codes, slice_index_or};
 ghost use Rattle.std.specs.String.{string_bytes};
 ghost use Rattle.code_blocks.specs.declared.fault.CodeFault.TheVariants.{NoMemory};
-ghost use Rattle.code_blocks.specs.Blocks.{no_lines, code_byte as code_byte_lem, with_line, with_unread, earlier as earlier_lem, fault_of as fault_of_lem, block_words, Answers};
+ghost use Rattle.code_blocks.specs.Blocks.{no_lines, code_byte, with_line, with_unread, earlier, fault_of, block_words, Answers};
 
 use crate::fault::CodeFault;
 use rv32_asm::{AsmFault, assemble};
@@ -33,7 +33,7 @@ impl Model for CodeBlock {
 
 // The byte as the assembler is to see it.
 fn code_byte(byte: u8) -> u8
-    ensures value { result ≡ code_byte_lem byte }
+    ensures value { result ≡ code_byte byte }
     ensures ascii { result < 128 }
 {
     if is_space(byte) {
@@ -47,7 +47,7 @@ fn code_byte(byte: u8) -> u8
 
 // Appends the bytes, as the assembler is to see them.
 fn push_code(text: &mut String, line: &[u8]) -> Result<(), CodeFault>
-    ensures ok { OnOk result (string_bytes text.new ≡ string_bytes text.old ++ map code_byte_lem line.now) }
+    ensures ok { OnOk result (string_bytes text.new ≡ string_bytes text.old ++ map code_byte line.now) }
     ensures err { MatchResult result (λ _. Unit {0}) (λ e. e ≡ NoMemory) }
 {
     for byte in line {
@@ -96,7 +96,7 @@ impl CodeBlock {
 
     // The fault on the earlier line, and on one line that of rule 1.
     fn earlier(&self, line: u64, rule: u32) -> CodeFault
-        ensures { result ≡ earlier_lem self.now.unread line rule }
+        ensures { result ≡ earlier self.now.unread line rule }
     {
         match self.unread {
             Some(unread) => {
@@ -121,7 +121,7 @@ impl CodeBlock {
     }
 
     fn fault(&self, fault: AsmFault) -> CodeFault
-        ensures { result ≡ fault_of_lem self.now fault }
+        ensures { result ≡ fault_of self.now fault }
     {
         match fault {
             AsmFault::NoMemory => CodeFault::NoMemory,

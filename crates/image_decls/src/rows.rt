@@ -2,7 +2,7 @@
 
 ghost use Rattle.std.specs.Prelude.{◌≡◌, ◌+◌, ◌^◌, ◌<◌, ◌≤◌, ◌++◌, OnOk};
 ghost use Rattle.std.specs.List.{sum_by, AllByRecursion};
-ghost use Rattle.image_decls.specs.Declarations.{HasAddresses, page_count as page_count_lem, part_rows, each};
+ghost use Rattle.image_decls.specs.Declarations.{HasAddresses, page_count, part_rows, each};
 
 use cache_ident::{Frame, SpaceNo, Vpn};
 use elf_image::{Image, Part};
@@ -23,7 +23,7 @@ pub(crate) fn last_address(part: &Part) -> u32
 /// How many pages a part has addresses in.
 pub(crate) fn page_count(part: &Part) -> u32
     requires { HasAddresses part.now }
-    ensures value { result ≡ page_count_lem part.now }
+    ensures value { result ≡ page_count part.now }
     ensures few { result ≤ part.now.size }
 {
     last_address(part) / PAGE_BYTES - part.vaddr / PAGE_BYTES + 1

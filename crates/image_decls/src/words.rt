@@ -3,7 +3,7 @@
 ghost use Rattle.std.specs.Prelude.{◌≡◌, ◌+◌, ◌^◌, ◌<◌, ◌≤◌, ◌++◌, ◌*◌, ◌/◌, ◌-◌, OnOk};
 ghost use Rattle.std.specs.List.{sum_by, AllByRecursion};
 ghost use Rattle.elf_image.specs.Elf.{LiesIn};
-ghost use Rattle.image_decls.specs.Declarations.{HasAddresses, first_page, byte_at as byte_at_lem, word_at as word_at_lem, word_decl as word_decl_lem, word_count as word_count_lem, part_words, each};
+ghost use Rattle.image_decls.specs.Declarations.{HasAddresses, first_page, byte_at, word_at, word_decl, word_count, part_words, each};
 
 use crate::rows::{PAGE_BYTES, last_address, page_count};
 use cache_ident::Frame;
@@ -14,7 +14,7 @@ use std::alloc::AllocError;
 // The byte at an address, 0 where the part has none of its own there.
 fn byte_at(bytes: &[u8], part: &Part, address: u32) -> u8
     requires { LiesIn bytes.now part.now }
-    ensures { result ≡ byte_at_lem bytes.now part.now address }
+    ensures { result ≡ byte_at bytes.now part.now address }
 {
     if address >= part.vaddr && address - part.vaddr < part.length {
         bytes[part.offset as usize + (address - part.vaddr) as usize]
@@ -27,7 +27,7 @@ fn byte_at(bytes: &[u8], part: &Part, address: u32) -> u8
 fn word_at(bytes: &[u8], part: &Part, address: u32) -> u32
     requires lies { LiesIn bytes.now part.now }
     requires in_space { address + 4 ≤ 2 ^ 32 }
-    ensures { result ≡ word_at_lem bytes.now part.now address }
+    ensures { result ≡ word_at bytes.now part.now address }
 {
     u32::from_le_bytes([
         byte_at(bytes, part, address),
@@ -43,7 +43,7 @@ fn word_decl(bytes: &[u8], part: &Part, frame: u32, address: u32) -> Decl
     requires in_space { address + 4 ≤ 2 ^ 32 }
     requires behind { first_page part.now ≤ address / 4096 }
     requires few { frame + (address / 4096 - first_page part.now) < 2 ^ 32 }
-    ensures { result ≡ word_decl_lem bytes.now frame part.now address }
+    ensures { result ≡ word_decl bytes.now frame part.now address }
 {
     let page = address / PAGE_BYTES - part.vaddr / PAGE_BYTES;
     Decl::Word {
@@ -56,7 +56,7 @@ fn word_decl(bytes: &[u8], part: &Part, frame: u32, address: u32) -> Decl
 // How many words have a byte of the part.
 fn word_count(part: &Part) -> u32
     requires { HasAddresses part.now }
-    ensures { result ≡ word_count_lem part.now }
+    ensures { result ≡ word_count part.now }
 {
     last_address(part) / 4 - part.vaddr / 4 + 1
 }

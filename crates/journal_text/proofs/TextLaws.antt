@@ -7,7 +7,8 @@ use Rattle.std.proofs.lemmas.Bool.{eqb-true}
 use Rattle.std.proofs.lemmas.Option.{same_Some}
 use Rattle.run_journal.specs.declared.entries.Entry.{Entry}
 use Rattle.journal_text.specs.Lines.{entry_text, line, journal_text}
-use Rattle.journal_text.specs.Reading.{after, entry_at}
+use Rattle.text_fields.specs.Reading.{after}
+use Rattle.journal_text.specs.Reading.{entry_at}
 use Rattle.journal_text.specs.Ranges.{IsInRange, AreInRange, BeginsWithNoLine}
 use Rattle.journal_text.proofs.FieldLaws.{after_again}
 use Rattle.journal_text.proofs.LineLaws.{entry_again}

@@ -4,6 +4,7 @@ use Rattle.std.specs.Str.{bytes_eq}
 use Rattle.std.specs.Int.{w32, from_be_bytes}
 use Rattle.hex.specs.declared.error.FromHexError.{FromHexError}
 use Rattle.hex.specs.Hex.{decode_sized}
+use Rattle.text_fields.specs.Reading.{◌>>=◌, after}
 use Rattle.cache_ident.specs.declared.idents.Cause.{Cause}
 use Rattle.cache_ident.specs.declared.idents.Cause.TheVariants as causes
 use Rattle.cache_ident.specs.declared.idents.Ident.{Ident}
@@ -19,24 +20,10 @@ use Rattle.flat_state.specs.declared.events.Decl.TheVariants as decls
 use Rattle.run_journal.specs.declared.entries.Entry.{Entry}
 use Rattle.run_journal.specs.declared.entries.Entry.TheVariants as entries
 
-infixl 10 ◌>>=◌
-abbrev pub ◌>>=◌ : {A B : Type 0} → Option A → (A → Option B) → Option B
-None >>= f = None
-(Some x) >>= f = f x
-
--- what a function returned, seen by view, is what reading gives
-abbrev pub Gives : {X Y : Type 0} → (X → Y) → Option X → Option Y → Type 0
-Gives view None read = read ≡ None
-Gives view (Some x) read = read ≡ Some (view x)
-
 -- one reading, where the bytes begin so, and else another
 abbrev pub first : {A B : Type 0} → Option A → (A → Option B) → Option B → Option B
 first None f other = other
 first (Some x) f other = f x
-
--- what follows a text that must stand at the front
-unfoldable pub after : List ℕ → List ℕ → Option (List ℕ)
-after text bytes = if bytes_eq (take (length text) bytes) text then Some (drop (length text) bytes) else None
 
 -- the number with a digit behind it, where it has 64 bits
 abbrev pub longer : ℕ → ℕ → Option ℕ

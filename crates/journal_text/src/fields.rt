@@ -2,18 +2,12 @@
 //! stands there in its one form is left to the comparison with the line of the entry that was read.
 
 ghost use Rattle.std.specs.Prelude.{◌≡◌, ◌<◌, ◌^◌, ◌*◌, ◌+◌};
-ghost use Rattle.journal_text.specs.Reading.{Gives, after, number_from, longer, number_at, small_at, field_at, caps_at, mark_at, rights_at, flags_at, receiver_at, word_at, kind_at, ident_at, mapping_at, name_at, cause_at, cpu_at};
+ghost use Rattle.text_fields.specs.Reading.{Gives, after};
+ghost use Rattle.journal_text.specs.Reading.{number_from, longer, number_at, small_at, field_at, caps_at, mark_at, rights_at, flags_at, receiver_at, word_at, kind_at, ident_at, mapping_at, name_at, cause_at, cpu_at};
 
 use cache_ident::{Caps, Cause, Ident, KernelNo, Kind, Name, SpaceNo, ThreadNo, Vpn};
 use phys_groups::Flags;
-
-/// What follows the text, where the bytes begin with it.
-#[tactic(auto, unfolding(crate::specs::Reading::after))]
-pub(crate) fn skip<'a>(bytes: &'a [u8], text: &[u8]) -> Option<&'a [u8]>
-    ensures { Gives (λ x. x.now) result (after text.now bytes.now) }
-{
-    bytes.strip_prefix(text)
-}
+use text_fields::skip;
 
 /// The number that the digits at the front write.
 #[tactic(auto, unfolding(crate::specs::Reading::number_from))]

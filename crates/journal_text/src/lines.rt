@@ -1,12 +1,14 @@
 //! The entry whose line stands at the front of the bytes.
 
 ghost use Rattle.std.specs.Prelude.{◌≡◌};
-ghost use Rattle.journal_text.specs.Reading.{Gives, machine_at, kernel_at, right_at, space_at, thread_at, map_at, word_decl_at, decl_at, loaded_at, back_at, lock_at, ran_at, thread_line_at, other_at, entry_at};
+ghost use Rattle.text_fields.specs.Reading.{Gives};
+ghost use Rattle.journal_text.specs.Reading.{machine_at, kernel_at, right_at, space_at, thread_at, map_at, word_decl_at, decl_at, loaded_at, back_at, lock_at, ran_at, thread_line_at, other_at, entry_at};
 
-use crate::fields::{caps, cause, cpu, field, flags, ident, name, receiver, rights, skip, word};
+use crate::fields::{caps, cause, cpu, field, flags, ident, name, receiver, rights, word};
 use cache_ident::{Frame, Ident, KernelNo, SpaceNo, ThreadNo, Vpn};
 use flat_state::{Decl, Machine};
 use run_journal::Entry;
+use text_fields::skip;
 
 #[tactic(auto, unfolding(crate::specs::Reading::machine_at))]
 fn machine(bytes: &[u8]) -> Option<Decl>

@@ -1,19 +1,19 @@
 //! A journal from its text.
 
 ghost use Rattle.std.specs.Prelude.{◌≡◌, ◌++◌, List, IfOk, IfErr, MatchResult, MatchOption, Some};
-ghost use Rattle.run_journal.specs.declared.entries.Entry.{Entry as EntryLem};
-ghost use Rattle.journal_text.specs.declared.fault.JournalFault.TheVariants.{NoMemory as NoMemoryLem};
+ghost use Rattle.run_journal.specs.declared.entries.Entry.{Entry};
+ghost use Rattle.journal_text.specs.declared.fault.JournalFault.TheVariants.{NoMemory};
 ghost use Rattle.journal_text.specs.Lines.{line, journal_text};
 ghost use Rattle.journal_text.specs.Reading.{entry_at};
 ghost use Rattle.journal_text.specs.Ranges.{AreInRange, BeginsWithNoLine, IsFault};
 
 use crate::fault::JournalFault;
-use crate::fields::skip;
 use crate::lines::entry_at;
 use crate::printing::put_line;
 use cache_ident::NoMemory;
 use run_journal::{Entry, Journal};
 use std::alloc::Global;
+use text_fields::skip;
 
 /// The journal whose text the bytes are, to the last one. Each line has to be the very line that `print` gives of an
 /// entry. Whether the journal is legal isn't asked. It costs one pass, and what the entries take.
@@ -22,7 +22,7 @@ pub fn read(alloc: Global, text: &[u8]) -> Result<Journal, JournalFault>
     ensures found { IfOk result (λ journal. text.now ≡ journal_text journal.entries) }
 
     // Each text of entries is read, unless memory runs out.
-    ensures only { (es : List EntryLem) → AreInRange es → text.now ≡ journal_text es → MatchResult result (λ journal. journal.entries ≡ es) (λ e. e ≡ NoMemoryLem) }
+    ensures only { (es : List Entry) → AreInRange es → text.now ≡ journal_text es → MatchResult result (λ journal. journal.entries ≡ es) (λ e. e ≡ NoMemory) }
 
     // The line of a fault is the first that isn't an entry's.
     ensures fault { IfErr result (IsFault text.now) }

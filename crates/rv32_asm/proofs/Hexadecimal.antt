@@ -2,7 +2,9 @@
 use Rattle.std.proofs.Common.{◌≡◌, ℕ, ◌+◌, ◌-◌, ◌*◌, ◌/◌, ◌%◌, ◌^◌, ◌<◌, ◌≤◌, true, false, eqb, ltb, leb, List, [], ◌∷◌, ◌++◌, Some, None, refl, ap, ◌∙◌, arith, inl, inr}
 use Rattle.std.specs.Prelude.{codes}
 use Rattle.std.proofs.lemmas.Bool.{cases_lt, lt-ltb, le-ltb, le-leb, ne_eqb}
-use Rattle.rv32_asm.specs.Fields.{after, cut, digit, digits_from, digits, number}
+use Rattle.text_fields.specs.Numbers.{digit, digits_from, digits, number}
+use Rattle.text_fields.specs.Reading.{after}
+use Rattle.rv32_asm.specs.Fields.{cut}
 use Rattle.rv32_asm.specs.Line.{Word, of_one, operation}
 use Rattle.rv32_asm.specs.Listing.{glyph, hexadecimal}
 use Rattle.rv32_asm.proofs.Tokens.{lacks, lacks_append, cut_found, cut_none, IsTight, tight_join, token_tight, trim_tight, label_none, code_named, name_token, IsToken, Reads}

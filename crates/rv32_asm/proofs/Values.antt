@@ -6,7 +6,9 @@ use Rattle.std.proofs.lemmas.Bool.{cases_Bool, cases_lt, lt-ltb, le-leb, ne_eqb,
 use Rattle.std.proofs.lemmas.List.{append-nil}
 use Rattle.std.proofs.lemmas.Fmt.{decimal_digit, decimal_step, decimal_by_steps, decimal_nonempty, length-decimal-le}
 use Rattle.rv32_isa.specs.Table.{LiesFrom}
-use Rattle.rv32_asm.specs.Fields.{◌>>=◌, after, digit, digits_from, digits, number, immediate, immediate_in, short_number, lettered, numbered, register, bracketed, is_name}
+use Rattle.text_fields.specs.Numbers.{digit, digits_from, digits, number}
+use Rattle.text_fields.specs.Reading.{◌>>=◌, after}
+use Rattle.rv32_asm.specs.Fields.{immediate, immediate_in, short_number, lettered, numbered, register, bracketed, is_name}
 use Rattle.rv32_asm.specs.Line.{Distance, target_at, IsEven}
 use Rattle.rv32_asm.specs.Listing.{register_text, based_text}
 use Rattle.rv32_asm.proofs.Tokens.{lacks, lacks_parts, lacks_append, cut_found, cut_none, IsToken}
@@ -151,7 +153,7 @@ from_end n = refl
 from_reads : (n : ℕ) → n < 2 ^ 32 → digits_from 10 0 (decimal n) ≡ Some n
 from_reads n small = ap (digits_from 10 0) (sym (append-nil (decimal n))) ∙ decimal_by_steps IsRead read_one read_more n (omega arith) [] small ∙ from_end n
 
-digits_reads : (n : ℕ) → n < 2 ^ 32 → digits 10 10 (decimal n) ≡ Some n
+digits_reads : (n : ℕ) → n < 2 ^ 32 → digits 10 1 10 (decimal n) ≡ Some n
 unfolding digits
 digits_reads n small =
     let some : leb 1 (length (decimal n)) ≡ true = le-leb _ _ (omega (arith, decimal_nonempty n (omega arith))) in

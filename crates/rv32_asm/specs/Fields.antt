@@ -3,26 +3,14 @@ use Rattle.std.specs.Prelude.{◌≡◌, ℕ, ◌+◌, ◌-◌, ◌*◌, ◌^◌
 use Rattle.std.specs.Option.{option_map}
 use Rattle.std.specs.List.{position, list_all}
 use Rattle.std.specs.Str.{bytes_eq}
-
-infixl 10 ◌>>=◌
-abbrev pub ◌>>=◌ : {A B : Type 0} → Option A → (A → Option B) → Option B
-None >>= f = None
-(Some x) >>= f = f x
-
--- What a function returned, seen by view, is what reading gives.
-abbrev pub Gives : {X Y : Type 0} → (X → Y) → Option X → Option Y → Type 0
-Gives view None read = read ≡ None
-Gives view (Some x) read = read ≡ Some (view x)
+use Rattle.text_fields.specs.Reading.{◌>>=◌, after}
+use Rattle.text_fields.specs.Numbers.{digit, number}
 
 -- ---- cutting
 
 -- what stands before the first such byte, and what follows it
 unfoldable pub cut : ℕ → List ℕ → Option (List ℕ × List ℕ)
 cut at bytes = option_map (λ i. (take i bytes, drop (i + 1) bytes)) (position (λ b. b == at) bytes)
-
--- what follows a text that must stand at the front
-unfoldable pub after : List ℕ → List ℕ → Option (List ℕ)
-after text bytes = if bytes_eq (take (length text) bytes) text then Some (drop (length text) bytes) else None
 
 unfoldable pub trim_front : List ℕ → List ℕ
 trim_front [] = []
@@ -37,36 +25,6 @@ abbrev pub trim : List ℕ → List ℕ
 trim bytes = trim_back (trim_front bytes)
 
 -- ---- numbers
-
--- the value of a digit of either case, before it is held against the base
-abbrev pub digit_value : ℕ → Option ℕ
-digit_value b =
-    if nat_le 48 b && nat_le b 57 then Some (b - 48) else
-    if nat_le 97 b && nat_le b 102 then Some (b - 87) else
-    if nat_le 65 b && nat_le b 70 then Some (b - 55) else
-    None
-
-unfoldable pub digit : ℕ → ℕ → Option ℕ
-digit base b = do
-  d ← digit_value b
-  if nat_lt d base then Some d else None
-
--- the number that the digits write behind those of n, of 32 bits
-unfoldable pub digits_from : ℕ → ℕ → List ℕ → Option ℕ
-digits_from base n [] = Some n
-digits_from base n (b ∷ bytes) = digit base b >>= λ d. if nat_lt (base * n + d) (2 ^ 32) then digits_from base (base * n + d) bytes else None
-
--- one digit up to so many
-unfoldable pub digits : ℕ → ℕ → List ℕ → Option ℕ
-digits base most bytes = if nat_le 1 (length bytes) && nat_le (length bytes) most then digits_from base 0 bytes else None
-
-abbrev pub number_from : Option (List ℕ) → List ℕ → Option ℕ
-number_from (Some hexadecimal) bytes = digits 16 8 hexadecimal
-number_from None bytes = digits 10 10 bytes
-
--- one to ten decimal digits, or 0x and one to eight hexadecimal ones
-unfoldable pub number : List ℕ → Option ℕ
-number bytes = number_from (after (codes "0x") bytes) bytes
 
 abbrev pub immediate_from : Option (List ℕ) → List ℕ → Option ℤ
 immediate_from (Some minus) bytes = option_map (λ n. neg_ℤ (pos n)) (number minus)

@@ -5,7 +5,8 @@ use Rattle.rv32_isa.specs.declared.forms.Instr.{Instr}
 use Rattle.rv32_isa.specs.declared.forms.Instr.TheVariants as forms
 use Rattle.rv32_asm.specs.declared.forms.Aim.{Aim}
 use Rattle.rv32_asm.specs.declared.forms.Aim.TheVariants as aims
-use Rattle.rv32_asm.specs.Fields.{◌>>=◌, cut, immediate_in, register, bracketed}
+use Rattle.text_fields.specs.Reading.{◌>>=◌}
+use Rattle.rv32_asm.specs.Fields.{cut, immediate_in, register, bracketed}
 
 -- ---- the table: for each shape of operands the mnemonics that have it, with what each makes of the operands
 

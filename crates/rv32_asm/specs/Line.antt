@@ -11,7 +11,9 @@ use Rattle.rv32_asm.specs.declared.line.Target.{Target as TargetValue}
 use Rattle.rv32_asm.specs.declared.line.Target.TheVariants as target_values
 use Rattle.rv32_asm.specs.declared.line.Statement.{Statement as StatementValue}
 use Rattle.rv32_asm.specs.declared.line.Statement.TheVariants as statement_values
-use Rattle.rv32_asm.specs.Fields.{◌>>=◌, cut, trim, number, immediate, register, is_name}
+use Rattle.text_fields.specs.Numbers.{number}
+use Rattle.text_fields.specs.Reading.{◌>>=◌}
+use Rattle.rv32_asm.specs.Fields.{cut, trim, immediate, register, is_name}
 use Rattle.rv32_asm.specs.Aims.{IsAim}
 use Rattle.rv32_asm.specs.Forms.{branch, of_two, of_three}
 

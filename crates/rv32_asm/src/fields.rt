@@ -4,7 +4,11 @@ ghost use Rattle.std.specs.Prelude.{◌≡◌, ◌<◌, ◌==◌, length, IfSome
 ghost use Rattle.std.specs.List.{position, list_all};
 ghost use Rattle.std.specs.Str.{bytes_eq};
 ghost use Rattle.rv32_isa.specs.Table.{LiesFrom};
-ghost use Rattle.rv32_asm.specs.Fields.{Gives, cut, after, trim_front, trim_back, trim, digit, digits_from, digits, number, immediate, immediate_in, short_number, lettered, numbered, register, bracketed, is_letter, is_name_byte, is_name};
+ghost use Rattle.text_fields.specs.Numbers.{digit, number};
+ghost use Rattle.text_fields.specs.Reading.{Gives, after};
+ghost use Rattle.rv32_asm.specs.Fields.{cut, trim_front, trim_back, trim, immediate, immediate_in, short_number, lettered, numbered, register, bracketed, is_letter, is_name_byte, is_name};
+
+use text_fields::{digit, number, skip};
 
 fn place(bytes: &[u8], at: u8) -> Option<usize>
     ensures is { result ≡ position (λ b. b == at) bytes.now }
@@ -26,14 +30,6 @@ pub(crate) fn cut(bytes: &[u8], at: u8) -> Option<(&[u8], &[u8])>
             Some((front, behind))
         }
     }
-}
-
-/// What follows the text, where the bytes begin with it.
-#[tactic(auto, unfolding(crate::specs::Fields::after))]
-fn skip<'a>(bytes: &'a [u8], text: &[u8]) -> Option<&'a [u8]>
-    ensures { Gives (λ x. x.now) result (after text.now bytes.now) }
-{
-    bytes.strip_prefix(text)
 }
 
 pub(crate) fn is(bytes: &[u8], text: &[u8]) -> bool
@@ -69,61 +65,6 @@ pub(crate) fn trim(bytes: &[u8]) -> &[u8]
     ensures { result.now ≡ trim bytes.now }
 {
     trim_back(trim_front(bytes))
-}
-
-#[tactic(auto, unfolding(crate::specs::Fields::digit))]
-fn digit(base: u32, byte: u8) -> Option<u32>
-    ensures is { result ≡ digit base byte }
-    ensures below { IfSome result (λ d. d < base) }
-{
-    let value = match byte {
-        b'0'..=b'9' => byte - b'0',
-        b'a'..=b'f' => byte - b'a' + 10,
-        b'A'..=b'F' => byte - b'A' + 10,
-        _ => return None,
-    };
-    let value = u32::from(value);
-    if value < base { Some(value) } else { None }
-}
-
-// The number that the digits write, none where it needs more than 32 bits.
-#[tactic(auto, unfolding(crate::specs::Fields::digits_from))]
-fn digits_from(base: u32, bytes: &[u8]) -> Option<u32>
-    ensures { result ≡ digits_from base 0 bytes.now }
-{
-    let mut number: u32 = 0;
-    let mut rest = bytes;
-    while let [byte, more @ ..] = rest {
-        let longer = u64::from(base) * u64::from(number) + u64::from(digit(base, *byte)?);
-        if longer > u64::from(u32::MAX) {
-            return None;
-        }
-        number = longer as u32;
-        rest = more;
-    }
-    Some(number)
-}
-
-// One digit up to `most` of them.
-#[tactic(auto, unfolding(crate::specs::Fields::digits))]
-fn digits(base: u32, most: usize, bytes: &[u8]) -> Option<u32>
-    ensures { result ≡ digits base most bytes.now }
-{
-    if bytes.is_empty() || bytes.len() > most {
-        return None;
-    }
-    digits_from(base, bytes)
-}
-
-/// A number of 32 bits, decimal or behind `0x` hexadecimal.
-#[tactic(auto, unfolding(crate::specs::Fields::number))]
-pub(crate) fn number(bytes: &[u8]) -> Option<u32>
-    ensures { result ≡ number bytes.now }
-{
-    match skip(bytes, b"0x") {
-        Some(hexadecimal) => digits(16, 8, hexadecimal),
-        None => digits(10, 10, bytes),
-    }
 }
 
 /// A number with or without a minus.

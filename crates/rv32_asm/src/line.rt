@@ -1,12 +1,13 @@
 //! What a line spells.
 
 ghost use Rattle.std.specs.Prelude.{◌≡◌, IfSome};
-ghost use Rattle.rv32_asm.specs.Fields.{Gives};
+ghost use Rattle.text_fields.specs.Reading.{Gives};
 ghost use Rattle.rv32_asm.specs.Line.{target_view, statement_view, IsTarget, IsStatement, target_at, of_one, pair, triple, operation, name_and_rest, code_of, label_of};
 
-use crate::fields::{cut, immediate, is, is_name, number, register, trim};
+use crate::fields::{cut, immediate, is, is_name, register, trim};
 use crate::forms::{Aim, branch, of_three, of_two};
 use rv32_isa::{Instr, encode};
+use text_fields::number;
 
 /// Where a jump or a branch goes.
 #[derive(Clone, Copy)]

@@ -2,9 +2,9 @@
 
 ghost use Rattle.std.specs.Prelude.{◌≡◌};
 ghost use Rattle.std.specs.List.{list_all};
-ghost use Rattle.hex.specs.Hex.{is_hex_digit as is_hex_digit_lem};
+ghost use Rattle.hex.specs.Hex.{is_hex_digit};
 ghost use Rattle.scenario_lines.specs.Rules.{Exactly};
-ghost use Rattle.scenario_lines.specs.Lines.{code_line_of, code_line_view, are_bytes as are_bytes_lem, image_line_of, image_line_view};
+ghost use Rattle.scenario_lines.specs.Lines.{code_line_of, code_line_view, are_bytes, image_line_of, image_line_view};
 
 use text_fields::{are_plain, is, is_blank, one, without_comment};
 
@@ -56,20 +56,20 @@ pub enum ImageLine<'a> {
 }
 
 fn is_hex_digit(byte: u8) -> bool
-    ensures { result ≡ is_hex_digit_lem byte }
+    ensures { result ≡ is_hex_digit byte }
 {
     matches!(byte, b'0'..=b'9' | b'a'..=b'f' | b'A'..=b'F')
 }
 
 fn are_hex_digits(field: &[u8]) -> bool
-    ensures { result ≡ list_all is_hex_digit_lem field.now }
+    ensures { result ≡ list_all is_hex_digit field.now }
 {
     field.iter().all(|byte| is_hex_digit(*byte))
 }
 
 // Whether the field is two digits for each of 1 to 64 bytes.
 fn are_bytes(field: &[u8]) -> bool
-    ensures { result ≡ are_bytes_lem field.now }
+    ensures { result ≡ are_bytes field.now }
 {
     field.len() % 2 == 0 && field.len() >= 2 && field.len() <= 128 && are_hex_digits(field)
 }

@@ -4,7 +4,7 @@ ghost use Rattle.std.specs.Prelude.{◌≡◌, map};
 ghost use Rattle.std.specs.List.{list_all};
 ghost use Rattle.text_fields.specs.Lines.{fields};
 ghost use Rattle.scenario_lines.specs.Rules.{Exactly};
-ghost use Rattle.scenario_lines.specs.Forms.{line_view, memory_line as memory_line_lem, amounts as amounts_lem, capacities_line as capacities_line_lem, limits as limits_lem, kernel_line as kernel_line_lem, right_line as right_line_lem, space_line as space_line_lem, thread_line as thread_line_lem, receiver as receiver_lem, row_line as row_line_lem, is_word as is_word_lem, words as words_lem, word_value, word_line as word_line_lem, code_line as code_line_lem, image_line as image_line_lem, bare_line as bare_line_lem};
+ghost use Rattle.scenario_lines.specs.Forms.{line_view, memory_line, amounts, capacities_line, limits, kernel_line, right_line, space_line, thread_line, receiver, row_line, is_word, words, word_value, word_line, code_line, image_line, bare_line};
 
 use crate::shapes::{
     locks, next, no_more, pair, quadruple, row_fields, single, thread_fields, triple, word_fields,
@@ -56,7 +56,7 @@ pub enum Line<'a> {
 /// `mem <groups>`
 #[tactic(auto, unfolding(crate::specs::Forms::memory_line))]
 pub(crate) fn memory_line(line: &[u8]) -> Result<Line<'_>, u32>
-    ensures { Exactly line_view result (memory_line_lem (fields line.now)) }
+    ensures { Exactly line_view result (memory_line (fields line.now)) }
 {
     let field = single(line)?;
     let groups = value(field)?;
@@ -65,7 +65,7 @@ pub(crate) fn memory_line(line: &[u8]) -> Result<Line<'_>, u32>
 
 #[tactic(auto, unfolding(crate::specs::Forms::amounts))]
 fn amounts(four: (&[u8], &[u8], &[u8], &[u8])) -> Result<Caps, u32>
-    ensures { result ≡ amounts_lem (four.entry.0.now, four.entry.1.now, four.entry.2.now, four.entry.3.now) }
+    ensures { result ≡ amounts (four.entry.0.now, four.entry.1.now, four.entry.2.now, four.entry.3.now) }
 {
     let kernels = value(four.0)?;
     let spaces = value(four.1)?;
@@ -82,7 +82,7 @@ fn amounts(four: (&[u8], &[u8], &[u8], &[u8])) -> Result<Caps, u32>
 /// `caps <kernels> <spaces> <threads> <mappings>`
 #[tactic(auto, unfolding(crate::specs::Forms::capacities_line))]
 pub(crate) fn capacities_line(line: &[u8]) -> Result<Line<'_>, u32>
-    ensures { Exactly line_view result (capacities_line_lem (fields line.now)) }
+    ensures { Exactly line_view result (capacities_line (fields line.now)) }
 {
     let four = quadruple(line)?;
     let caps = amounts(four)?;
@@ -92,7 +92,7 @@ pub(crate) fn capacities_line(line: &[u8]) -> Result<Line<'_>, u32>
 // The lock limits of a kernel. Kernel 0 may lock one kernel, itself, where nothing else is said.
 #[tactic(auto, unfolding(crate::specs::Forms::limits))]
 fn limits(kernel: u32, four: (&[u8], &[u8], &[u8], &[u8])) -> Result<Caps, u32>
-    ensures { result ≡ limits_lem kernel (four.entry.0.now, four.entry.1.now, four.entry.2.now, four.entry.3.now) }
+    ensures { result ≡ limits kernel (four.entry.0.now, four.entry.1.now, four.entry.2.now, four.entry.3.now) }
 {
     let own = if kernel == 0 { 1 } else { 0 };
     let kernels = value_or(own, four.0)?;
@@ -110,7 +110,7 @@ fn limits(kernel: u32, four: (&[u8], &[u8], &[u8], &[u8])) -> Result<Caps, u32>
 /// `kernel <k> [locks <kernels> <spaces> <threads> <mappings>]`
 #[tactic(auto, unfolding(crate::specs::Forms::kernel_line))]
 pub(crate) fn kernel_line(line: &[u8]) -> Result<Line<'_>, u32>
-    ensures { Exactly line_view result (kernel_line_lem (fields line.now)) }
+    ensures { Exactly line_view result (kernel_line (fields line.now)) }
 {
     let (field, rest) = next(line)?;
     let four = locks(rest)?;
@@ -125,7 +125,7 @@ pub(crate) fn kernel_line(line: &[u8]) -> Result<Line<'_>, u32>
 /// `right <kernel> <group> <rights>`
 #[tactic(auto, unfolding(crate::specs::Forms::right_line))]
 pub(crate) fn right_line(line: &[u8]) -> Result<Line<'_>, u32>
-    ensures { Exactly line_view result (right_line_lem (fields line.now)) }
+    ensures { Exactly line_view result (right_line (fields line.now)) }
 {
     let (kernel, group, right) = triple(line)?;
     let kernel = value(kernel)?;
@@ -142,7 +142,7 @@ pub(crate) fn right_line(line: &[u8]) -> Result<Line<'_>, u32>
 /// `space <s> <kernel>`
 #[tactic(auto, unfolding(crate::specs::Forms::space_line))]
 pub(crate) fn space_line(line: &[u8]) -> Result<Line<'_>, u32>
-    ensures { Exactly line_view result (space_line_lem (fields line.now)) }
+    ensures { Exactly line_view result (space_line (fields line.now)) }
 {
     let (no, kernel) = pair(line)?;
     let no = value(no)?;
@@ -156,7 +156,7 @@ pub(crate) fn space_line(line: &[u8]) -> Result<Line<'_>, u32>
 /// `thread <t> <space> <pc> [prio <priority>] [a0 <value>] [a1 <value>]`
 #[tactic(auto, unfolding(crate::specs::Forms::thread_line))]
 pub(crate) fn thread_line(line: &[u8]) -> Result<Line<'_>, u32>
-    ensures { Exactly line_view result (thread_line_lem (fields line.now)) }
+    ensures { Exactly line_view result (thread_line (fields line.now)) }
 {
     let fields = thread_fields(line)?;
     let no = value(fields.no)?;
@@ -178,7 +178,7 @@ pub(crate) fn thread_line(line: &[u8]) -> Result<Line<'_>, u32>
 // The thread that receives signals, if one does.
 #[tactic(auto, unfolding(crate::specs::Forms::receiver))]
 fn receiver(field: &[u8]) -> Result<Option<ThreadNo>, u32>
-    ensures { result ≡ receiver_lem field.now }
+    ensures { result ≡ receiver field.now }
 {
     if field.is_empty() {
         return Ok(None);
@@ -190,7 +190,7 @@ fn receiver(field: &[u8]) -> Result<Option<ThreadNo>, u32>
 /// `map <space> <page> <frame> <flags> [signal <thread>]`
 #[tactic(auto, unfolding(crate::specs::Forms::row_line))]
 pub(crate) fn row_line(line: &[u8]) -> Result<Line<'_>, u32>
-    ensures { Exactly line_view result (row_line_lem (fields line.now)) }
+    ensures { Exactly line_view result (row_line (fields line.now)) }
 {
     let row = row_fields(line)?;
     let space = value(row.space)?;
@@ -209,7 +209,7 @@ pub(crate) fn row_line(line: &[u8]) -> Result<Line<'_>, u32>
 
 // Nothing, where each field is a word.
 fn are_words(line: &[u8]) -> bool
-    ensures { result ≡ list_all is_word_lem (fields line.now) }
+    ensures { result ≡ list_all is_word (fields line.now) }
 {
     let mut rest = line;
     while let Some((field, more)) = next_field(rest) {
@@ -224,7 +224,7 @@ fn are_words(line: &[u8]) -> bool
 // The bytes themselves, where each field is a word.
 #[tactic(auto, unfolding(crate::specs::Forms::words))]
 fn words(line: &[u8]) -> Result<&[u8], u32>
-    ensures { Exactly (λ x. map word_value (fields x.now)) result (words_lem (fields line.now)) }
+    ensures { Exactly (λ x. map word_value (fields x.now)) result (words (fields line.now)) }
 {
     if are_words(line) { Ok(line) } else { Err(4) }
 }
@@ -232,7 +232,7 @@ fn words(line: &[u8]) -> Result<&[u8], u32>
 /// `word <frame> <offset> <word> ..`
 #[tactic(auto, unfolding(crate::specs::Forms::word_line))]
 pub(crate) fn word_line(line: &[u8]) -> Result<Line<'_>, u32>
-    ensures { Exactly line_view result (word_line_lem (fields line.now)) }
+    ensures { Exactly line_view result (word_line (fields line.now)) }
 {
     let (frame, offset, rest) = word_fields(line)?;
     let frame = value(frame)?;
@@ -248,7 +248,7 @@ pub(crate) fn word_line(line: &[u8]) -> Result<Line<'_>, u32>
 /// `code <frame> <offset>`
 #[tactic(auto, unfolding(crate::specs::Forms::code_line))]
 pub(crate) fn code_line(line: &[u8]) -> Result<Line<'_>, u32>
-    ensures { Exactly line_view result (code_line_lem (fields line.now)) }
+    ensures { Exactly line_view result (code_line (fields line.now)) }
 {
     let (frame, offset) = pair(line)?;
     let frame = value(frame)?;
@@ -262,7 +262,7 @@ pub(crate) fn code_line(line: &[u8]) -> Result<Line<'_>, u32>
 /// `elf <space> <frame> <thread>`
 #[tactic(auto, unfolding(crate::specs::Forms::image_line))]
 pub(crate) fn image_line(line: &[u8]) -> Result<Line<'_>, u32>
-    ensures { Exactly line_view result (image_line_lem (fields line.now)) }
+    ensures { Exactly line_view result (image_line (fields line.now)) }
 {
     let (space, frame, thread) = triple(line)?;
     let space = value(space)?;
@@ -278,7 +278,7 @@ pub(crate) fn image_line(line: &[u8]) -> Result<Line<'_>, u32>
 /// What a line says that is its word alone.
 #[tactic(auto, unfolding(crate::specs::Forms::bare_line))]
 pub(crate) fn bare_line<'a>(is: Line<'a>, line: &[u8]) -> Result<Line<'a>, u32>
-    ensures { Exactly line_view result (bare_line_lem (line_view is.entry) (fields line.now)) }
+    ensures { Exactly line_view result (bare_line (line_view is.entry) (fields line.now)) }
 {
     no_more(line)?;
     Ok(is)

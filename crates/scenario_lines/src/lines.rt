@@ -4,7 +4,7 @@ ghost use Rattle.std.specs.Prelude.{◌≡◌};
 ghost use Rattle.text_fields.specs.Lines.{fields};
 ghost use Rattle.scenario_lines.specs.Rules.{Exactly};
 ghost use Rattle.scenario_lines.specs.Forms.{line_view};
-ghost use Rattle.scenario_lines.specs.Lines.{by_word as by_word_lem, line_of};
+ghost use Rattle.scenario_lines.specs.Lines.{by_word, line_of};
 
 use crate::forms::{
     Line, bare_line, capacities_line, code_line, image_line, kernel_line, memory_line, right_line,
@@ -15,7 +15,7 @@ use text_fields::{are_plain, is, next_field, without_comment};
 // By the line's word, and the bytes behind it.
 #[tactic(auto, unfolding(crate::specs::Lines::by_word))]
 fn by_word<'a>(name: &[u8], line: &'a [u8]) -> Result<Line<'a>, u32>
-    ensures { Exactly line_view result (by_word_lem name.now (fields line.now)) }
+    ensures { Exactly line_view result (by_word name.now (fields line.now)) }
 {
     if is(name, b"mem") {
         memory_line(line)

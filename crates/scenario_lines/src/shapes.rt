@@ -3,7 +3,7 @@
 ghost use Rattle.std.specs.Prelude.{◌≡◌, ◌<◌, length, IfOk};
 ghost use Rattle.text_fields.specs.Lines.{fields};
 ghost use Rattle.scenario_lines.specs.Rules.{Exactly};
-ghost use Rattle.scenario_lines.specs.Shapes.{next as next_lem, no_more as no_more_lem, single as single_lem, pair as pair_lem, triple as triple_lem, quadruple as quadruple_lem, option as option_lem, locks as locks_lem, thread_fields as thread_fields_lem, row_fields as row_fields_lem, word_fields as word_fields_lem};
+ghost use Rattle.scenario_lines.specs.Shapes.{next, no_more, single, pair, triple, quadruple, option, locks, thread_fields, row_fields, word_fields};
 ghost use Rattle.scenario_lines.specs.ShapeViews.{thread_view, row_view};
 
 use text_fields::{four, is, is_blank, next_field, one, three, two};
@@ -11,7 +11,7 @@ use text_fields::{four, is, is_blank, next_field, one, three, two};
 /// The next field, and the bytes behind it.
 #[tactic(auto, unfolding(crate::specs::Shapes::next))]
 pub(crate) fn next(line: &[u8]) -> Result<(&[u8], &[u8]), u32>
-    ensures { Exactly (λ x. (x.0.now, fields x.1.now)) result (next_lem (fields line.now)) }
+    ensures { Exactly (λ x. (x.0.now, fields x.1.now)) result (next (fields line.now)) }
 {
     match next_field(line) {
         Some(parts) => Ok(parts),
@@ -22,7 +22,7 @@ pub(crate) fn next(line: &[u8]) -> Result<(&[u8], &[u8]), u32>
 /// Nothing, where no field is left.
 #[tactic(auto, unfolding(crate::specs::Shapes::no_more))]
 pub(crate) fn no_more(line: &[u8]) -> Result<(), u32>
-    ensures { result ≡ no_more_lem (fields line.now) }
+    ensures { result ≡ no_more (fields line.now) }
 {
     if is_blank(line) { Ok(()) } else { Err(3) }
 }
@@ -30,7 +30,7 @@ pub(crate) fn no_more(line: &[u8]) -> Result<(), u32>
 /// The only field.
 #[tactic(auto, unfolding(crate::specs::Shapes::single))]
 pub(crate) fn single(line: &[u8]) -> Result<&[u8], u32>
-    ensures { Exactly (λ x. x.now) result (single_lem (fields line.now)) }
+    ensures { Exactly (λ x. x.now) result (single (fields line.now)) }
 {
     match one(line) {
         Some(field) => Ok(field),
@@ -41,7 +41,7 @@ pub(crate) fn single(line: &[u8]) -> Result<&[u8], u32>
 /// The two fields.
 #[tactic(auto, unfolding(crate::specs::Shapes::pair))]
 pub(crate) fn pair(line: &[u8]) -> Result<(&[u8], &[u8]), u32>
-    ensures { Exactly (λ x. (x.0.now, x.1.now)) result (pair_lem (fields line.now)) }
+    ensures { Exactly (λ x. (x.0.now, x.1.now)) result (pair (fields line.now)) }
 {
     match two(line) {
         Some(parts) => Ok(parts),
@@ -52,7 +52,7 @@ pub(crate) fn pair(line: &[u8]) -> Result<(&[u8], &[u8]), u32>
 /// The three fields.
 #[tactic(auto, unfolding(crate::specs::Shapes::triple))]
 pub(crate) fn triple(line: &[u8]) -> Result<(&[u8], &[u8], &[u8]), u32>
-    ensures { Exactly (λ x. (x.0.now, x.1.now, x.2.now)) result (triple_lem (fields line.now)) }
+    ensures { Exactly (λ x. (x.0.now, x.1.now, x.2.now)) result (triple (fields line.now)) }
 {
     match three(line) {
         Some(parts) => Ok(parts),
@@ -63,7 +63,7 @@ pub(crate) fn triple(line: &[u8]) -> Result<(&[u8], &[u8], &[u8]), u32>
 /// The four fields.
 #[tactic(auto, unfolding(crate::specs::Shapes::quadruple))]
 pub(crate) fn quadruple(line: &[u8]) -> Result<(&[u8], &[u8], &[u8], &[u8]), u32>
-    ensures { Exactly (λ x. (x.0.now, x.1.now, x.2.now, x.3.now)) result (quadruple_lem (fields line.now)) }
+    ensures { Exactly (λ x. (x.0.now, x.1.now, x.2.now, x.3.now)) result (quadruple (fields line.now)) }
 {
     match four(line) {
         Some(parts) => Ok(parts),
@@ -75,7 +75,7 @@ pub(crate) fn quadruple(line: &[u8]) -> Result<(&[u8], &[u8], &[u8], &[u8]), u32
 /// has no bytes.
 #[tactic(auto, unfolding(crate::specs::Shapes::option))]
 fn option<'a>(name: &[u8], line: &'a [u8]) -> Result<(&'a [u8], &'a [u8]), u32>
-    ensures { Exactly (λ x. (x.0.now, fields x.1.now)) result (option_lem name.now (fields line.now)) }
+    ensures { Exactly (λ x. (x.0.now, fields x.1.now)) result (option name.now (fields line.now)) }
 {
     match next_field(line) {
         None => Ok((b"", line)),
@@ -92,7 +92,7 @@ fn option<'a>(name: &[u8], line: &'a [u8]) -> Result<(&'a [u8], &'a [u8]), u32>
 /// The four fields behind `locks`, which have no bytes where the option is left out.
 #[tactic(auto, unfolding(crate::specs::Shapes::locks))]
 pub(crate) fn locks(line: &[u8]) -> Result<(&[u8], &[u8], &[u8], &[u8]), u32>
-    ensures { Exactly (λ x. (x.0.now, x.1.now, x.2.now, x.3.now)) result (locks_lem (fields line.now)) }
+    ensures { Exactly (λ x. (x.0.now, x.1.now, x.2.now, x.3.now)) result (locks (fields line.now)) }
 {
     match next_field(line) {
         None => Ok((b"", b"", b"", b"")),
@@ -119,7 +119,7 @@ pub(crate) struct ThreadFields<'a> {
 
 #[tactic(auto, unfolding(crate::specs::Shapes::thread_fields))]
 pub(crate) fn thread_fields(line: &[u8]) -> Result<ThreadFields<'_>, u32>
-    ensures { Exactly thread_view result (thread_fields_lem (fields line.now)) }
+    ensures { Exactly thread_view result (thread_fields (fields line.now)) }
 {
     let (no, rest) = next(line)?;
     let (space, rest) = next(rest)?;
@@ -150,7 +150,7 @@ pub(crate) struct RowFields<'a> {
 
 #[tactic(auto, unfolding(crate::specs::Shapes::row_fields))]
 pub(crate) fn row_fields(line: &[u8]) -> Result<RowFields<'_>, u32>
-    ensures { Exactly row_view result (row_fields_lem (fields line.now)) }
+    ensures { Exactly row_view result (row_fields (fields line.now)) }
 {
     let (space, rest) = next(line)?;
     let (vpn, rest) = next(rest)?;
@@ -170,7 +170,7 @@ pub(crate) fn row_fields(line: &[u8]) -> Result<RowFields<'_>, u32>
 /// A frame, an offset, and the bytes with the words, of which there is one or more.
 #[tactic(auto, unfolding(crate::specs::Shapes::word_fields))]
 pub(crate) fn word_fields(line: &[u8]) -> Result<(&[u8], &[u8], &[u8]), u32>
-    ensures { Exactly (λ x. (x.0.now, x.1.now, fields x.2.now)) result (word_fields_lem (fields line.now)) }
+    ensures { Exactly (λ x. (x.0.now, x.1.now, fields x.2.now)) result (word_fields (fields line.now)) }
 {
     let (frame, rest) = next(line)?;
     let (offset, rest) = next(rest)?;

@@ -4,7 +4,7 @@ ghost use Rattle.std.specs.Prelude.{◌≡◌, ◌<◌, ◌++◌, Ok, OnOk, Matc
 ghost use Rattle.scenario_lines.specs.Lines.{code_line_of, image_line_of};
 ghost use Rattle.code_blocks.specs.Blocks.{block_words, with_line, with_unread};
 ghost use Rattle.scenario_reader.specs.Readings.{Takes};
-ghost use Rattle.scenario_reader.specs.Scenarios.{room as room_lem, of_code as of_code_lem, assembled, in_code as in_code_lem, digit_bytes, loaded, in_image as in_image_lem};
+ghost use Rattle.scenario_reader.specs.Scenarios.{room, of_code, assembled, in_code, digit_bytes, loaded, in_image};
 ghost use Rattle.elf_image.specs.Elf.{broken_rule as broken_image};
 ghost use Rattle.scenario_reader.specs.declared.fault.ScenarioFault.TheVariants.{NoMemory};
 ghost use Rattle.scenario_reader.specs.Views.{reader_view};
@@ -24,13 +24,13 @@ const FRAME_BYTES: u32 = 4096;
 
 // How many words fit in a frame from the offset on.
 pub(crate) fn room(offset: u32) -> u32
-    ensures { result ≡ room_lem offset }
+    ensures { result ≡ room offset }
 {
     FRAME_BYTES.saturating_sub(offset) / 4
 }
 
 pub(crate) fn of_code(fault: CodeFault) -> ScenarioFault
-    ensures { result ≡ of_code_lem fault }
+    ensures { result ≡ of_code fault }
 {
     match fault {
         CodeFault::NoMemory => ScenarioFault::NoMemory,
@@ -77,7 +77,7 @@ impl Reader {
 
     // The block's words are declared.
     fn end_code(&mut self, alloc: Global, frame: Frame, offset: u32) -> Result<(), ScenarioFault>
-        ensures { Takes reader_view result self.new (assembled (reader_view self.old) frame offset (block_words (room_lem offset) self.old.block)) }
+        ensures { Takes reader_view result self.new (assembled (reader_view self.old) frame offset (block_words (room offset) self.old.block)) }
     {
         match self.block.words(alloc, room(offset)) {
             Ok(words) => {
@@ -97,7 +97,7 @@ impl Reader {
         offset: u32,
         line: &[u8],
     ) -> Result<(), ScenarioFault>
-        ensures { Takes reader_view result self.new (in_code_lem (reader_view self.old) frame offset (code_line_of line.now)) }
+        ensures { Takes reader_view result self.new (in_code (reader_view self.old) frame offset (code_line_of line.now)) }
     {
         match read_code_line(line) {
             Ok(CodeLine::Blank) => Ok(()),
@@ -129,7 +129,7 @@ impl Reader {
         head: ImageHead,
         line: &[u8],
     ) -> Result<(), ScenarioFault>
-        ensures { Takes reader_view result self.new (in_image_lem (reader_view self.old) head.space head.frame head.thread (image_line_of line.now)) }
+        ensures { Takes reader_view result self.new (in_image (reader_view self.old) head.space head.frame head.thread (image_line_of line.now)) }
     {
         match read_image_line(line) {
             Ok(ImageLine::Blank) => Ok(()),

@@ -5,8 +5,8 @@ ghost use Rattle.flat_state.specs.declared.events.TheConstants.{GREATEST_CAPS as
 ghost use Rattle.flat_state.specs.declared.events.Decl.TheVariants as decls;
 ghost use Rattle.flat_state.specs.Declaration.{broken_rule};
 ghost use Rattle.scenario_lines.specs.Forms.{line_view};
-ghost use Rattle.scenario_reader.specs.Readings.{Body, Memory, declare, in_place, unless, rule_of_code as rule_of_code_lem, rule_of_image as rule_of_image_lem, Takes};
-ghost use Rattle.scenario_reader.specs.Scenarios.{ends as ends_lem, in_body as in_body_lem, behind_memory as behind_memory_lem, behind_machine as behind_machine_lem, at_start as at_start_lem, at_end as at_end_lem, code_begins, image_begins};
+ghost use Rattle.scenario_reader.specs.Readings.{Body, Memory, declare, in_place, unless, rule_of_code, rule_of_image, Takes};
+ghost use Rattle.scenario_reader.specs.Scenarios.{ends, in_body, behind_memory, behind_machine, at_start, at_end, code_begins, image_begins};
 ghost use Rattle.scenario_reader.specs.Views.{reader_view};
 
 use crate::fault::ScenarioFault;
@@ -24,7 +24,7 @@ const MOST_FRAMES: u32 = 2048;
 impl Reader {
     // Code begins, unless a word there would break a rule.
     fn begin_code(&mut self, alloc: Global, frame: Frame, offset: u32) -> Result<(), ScenarioFault>
-        ensures { Takes reader_view result self.new (unless (rule_of_code_lem self.old.flat frame offset) (reader_view self.old) (code_begins (reader_view self.old) frame offset)) }
+        ensures { Takes reader_view result self.new (unless (rule_of_code self.old.flat frame offset) (reader_view self.old) (code_begins (reader_view self.old) frame offset)) }
     {
         let word = Decl::Word {
             frame,
@@ -41,7 +41,7 @@ impl Reader {
 
     // The first rule that the beginning of an executable breaks.
     fn rule_of_image(&self, space: SpaceNo, frame: Frame, thread: ThreadNo) -> Result<(), u32>
-        ensures is { MatchResult result (λ _. rule_of_image_lem self.now.flat space frame thread ≡ None) (λ rule. rule_of_image_lem self.now.flat space frame thread ≡ Some rule) }
+        ensures is { MatchResult result (λ _. rule_of_image self.now.flat space frame thread ≡ None) (λ rule. rule_of_image self.now.flat space frame thread ≡ Some rule) }
         ensures in_memory { OnOk result (frame.0 < 2048) }
     {
         if thread.0 != self.flat.threads() {
@@ -68,7 +68,7 @@ impl Reader {
         frame: Frame,
         thread: ThreadNo,
     ) -> Result<(), ScenarioFault>
-        ensures { Takes reader_view result self.new (unless (rule_of_image_lem self.old.flat space frame thread) (reader_view self.old) (image_begins (reader_view self.old) space frame thread)) }
+        ensures { Takes reader_view result self.new (unless (rule_of_image self.old.flat space frame thread) (reader_view self.old) (image_begins (reader_view self.old) space frame thread)) }
     {
         if let Err(rule) = self.rule_of_image(space, frame, thread) {
             return Err(self.broken(rule));
@@ -84,7 +84,7 @@ impl Reader {
 
     // The scenario ends, if there is a kernel.
     fn end(&mut self) -> Result<(), ScenarioFault>
-        ensures { Takes reader_view result self.new (ends_lem (reader_view self.old)) }
+        ensures { Takes reader_view result self.new (ends (reader_view self.old)) }
     {
         if self.flat.limits(KernelNo(0)).is_none() {
             return Err(self.broken(25));
@@ -96,7 +96,7 @@ impl Reader {
     /// A line behind `mem` and `caps`.
     #[tactic(auto, unfolding(crate::specs::Scenarios::in_body))]
     pub fn in_body(&mut self, alloc: Global, line: Line<'_>) -> Result<(), ScenarioFault>
-        ensures { Takes reader_view result self.new (in_body_lem (reader_view self.old) (line_view line.entry)) }
+        ensures { Takes reader_view result self.new (in_body (reader_view self.old) (line_view line.entry)) }
     {
         match line {
             Line::Blank => Ok(()),
@@ -136,7 +136,7 @@ impl Reader {
         groups: u32,
         line: Line<'_>,
     ) -> Result<(), ScenarioFault>
-        ensures { Takes reader_view result self.new (behind_machine_lem (reader_view self.old) groups (line_view line.entry)) }
+        ensures { Takes reader_view result self.new (behind_machine (reader_view self.old) groups (line_view line.entry)) }
     {
         self.declare_machine(groups, GREATEST_CAPS)?;
         self.in_body(alloc, line)
@@ -150,7 +150,7 @@ impl Reader {
         groups: u32,
         line: Line<'_>,
     ) -> Result<(), ScenarioFault>
-        ensures { Takes reader_view result self.new (behind_memory_lem (reader_view self.old) groups (line_view line.entry)) }
+        ensures { Takes reader_view result self.new (behind_memory (reader_view self.old) groups (line_view line.entry)) }
     {
         match line {
             Line::Blank => Ok(()),
@@ -177,7 +177,7 @@ impl Reader {
     // A line before `mem`.
     #[tactic(auto, unfolding(crate::specs::Scenarios::at_start))]
     pub fn at_start(&mut self, line: Line<'_>) -> Result<(), ScenarioFault>
-        ensures { Takes reader_view result self.new (at_start_lem (reader_view self.old) (line_view line.entry)) }
+        ensures { Takes reader_view result self.new (at_start (reader_view self.old) (line_view line.entry)) }
     {
         match line {
             Line::Blank => Ok(()),
@@ -189,7 +189,7 @@ impl Reader {
     // A line behind `end`.
     #[tactic(auto, unfolding(crate::specs::Scenarios::at_end))]
     pub fn at_end(&mut self, line: Line<'_>) -> Result<(), ScenarioFault>
-        ensures { Takes reader_view result self.new (at_end_lem (reader_view self.old) (line_view line.entry)) }
+        ensures { Takes reader_view result self.new (at_end (reader_view self.old) (line_view line.entry)) }
     {
         match line {
             Line::Blank => Ok(()),

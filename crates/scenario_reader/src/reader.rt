@@ -5,7 +5,7 @@ ghost use Rattle.flat_state.specs.declared.events.Decl.TheVariants as decls;
 ghost use Rattle.scenario_reader.specs.declared.fault.ScenarioFault.TheVariants.{NoMemory, Bad};
 ghost use Rattle.text_fields.specs.Lines.{fields};
 ghost use Rattle.scenario_lines.specs.Forms.{word_value};
-ghost use Rattle.scenario_reader.specs.Readings.{start, declare as declare_lem, declare_all as declare_all_lem, word_decls, Takes};
+ghost use Rattle.scenario_reader.specs.Readings.{start, declare, declare_all, word_decls, Takes};
 ghost use Rattle.scenario_reader.specs.Views.{reader_view};
 
 use crate::fault::ScenarioFault;
@@ -57,7 +57,7 @@ impl Reader {
     /// One more declaration, or the first rule that it breaks.
     #[tactic(auto, unfolding(crate::specs::Readings::declare))]
     pub fn declare(&mut self, decl: &Decl) -> Result<(), ScenarioFault>
-        ensures { Takes reader_view result self.new (declare_lem (reader_view self.old) decl.now) }
+        ensures { Takes reader_view result self.new (declare (reader_view self.old) decl.now) }
     {
         if let Err(rule) = self.flat.admit(decl) {
             return Err(self.broken(rule));
@@ -69,7 +69,7 @@ impl Reader {
 
     /// One declaration after another, up to the first that breaks a rule.
     pub fn declare_all(&mut self, decls: &[Decl]) -> Result<(), ScenarioFault>
-        ensures { Takes reader_view result self.new (declare_all_lem (reader_view self.old) decls.now) }
+        ensures { Takes reader_view result self.new (declare_all (reader_view self.old) decls.now) }
     {
         for decl in decls {
             self.declare(decl)?;
@@ -79,7 +79,7 @@ impl Reader {
 
     // A word at an offset of a frame; answers the offset behind it.
     fn declare_word(&mut self, frame: Frame, offset: u32, value: u32) -> Result<u32, ScenarioFault>
-        ensures { MatchResult result (λ next. (next ≡ offset + 4) × (declare_lem (reader_view self.old) (decls.Word frame offset value) ≡ Ok (reader_view self.new))) (λ e. (e ≡ NoMemory) ⊎ (declare_lem (reader_view self.old) (decls.Word frame offset value) ≡ Err e)) }
+        ensures { MatchResult result (λ next. (next ≡ offset + 4) × (declare (reader_view self.old) (decls.Word frame offset value) ≡ Ok (reader_view self.new))) (λ e. (e ≡ NoMemory) ⊎ (declare (reader_view self.old) (decls.Word frame offset value) ≡ Err e)) }
     {
         self.declare(&Decl::Word {
             frame,
@@ -96,7 +96,7 @@ impl Reader {
         offset: u32,
         words: &[u8],
     ) -> Result<(), ScenarioFault>
-        ensures { Takes reader_view result self.new (declare_all_lem (reader_view self.old) (word_decls frame offset (map word_value (fields words.now)))) }
+        ensures { Takes reader_view result self.new (declare_all (reader_view self.old) (word_decls frame offset (map word_value (fields words.now)))) }
     {
         let mut next = offset;
         let mut rest = words;
@@ -114,7 +114,7 @@ impl Reader {
         offset: u32,
         words: &[u32],
     ) -> Result<(), ScenarioFault>
-        ensures { Takes reader_view result self.new (declare_all_lem (reader_view self.old) (word_decls frame offset words.now)) }
+        ensures { Takes reader_view result self.new (declare_all (reader_view self.old) (word_decls frame offset words.now)) }
     {
         let mut next = offset;
         for word in words {

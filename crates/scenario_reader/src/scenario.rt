@@ -4,7 +4,7 @@ ghost use Rattle.std.specs.Prelude.{◌≡◌, ◌<◌, IfOk, length};
 ghost use Rattle.flat_state.specs.State.{nothing_declared};
 ghost use Rattle.flat_state.specs.Events.{AllFit};
 ghost use Rattle.scenario_reader.specs.Readings.{Takes, Answers};
-ghost use Rattle.scenario_reader.specs.Scenarios.{step as step_lem, finish as finish_lem, scenario};
+ghost use Rattle.scenario_reader.specs.Scenarios.{step, finish, scenario};
 ghost use Rattle.scenario_reader.specs.Views.{reader_view};
 
 use crate::blocks::{of_code, room};
@@ -25,9 +25,9 @@ pub struct Scenario {
 
 impl Model for Scenario {
     ghost use Rattle.std.specs.Prelude.{List};
-    ghost use Rattle.flat_state.specs.declared.events.Decl.{Decl as DeclLem};
+    ghost use Rattle.flat_state.specs.declared.events.Decl.{Decl};
 
-    ghost Value = { List DeclLem };
+    ghost Value = { List Decl };
 
     ghost view = { λ s. s.decls.items };
 }
@@ -45,7 +45,7 @@ impl Reader {
     // What a line makes of the reading, by the place at which it stands.
     #[tactic(auto, unfolding(crate::specs::Scenarios::step))]
     fn step(&mut self, alloc: Global, number: u64, line: &[u8]) -> Result<(), ScenarioFault>
-        ensures { Takes reader_view result self.new (step_lem number (reader_view self.old) line.now) }
+        ensures { Takes reader_view result self.new (step number (reader_view self.old) line.now) }
     {
         self.number = number;
         match self.place {
@@ -73,7 +73,7 @@ impl Reader {
     // Behind the last line.
     #[tactic(auto, unfolding(crate::specs::Scenarios::finish))]
     fn finish(self, alloc: Global) -> Result<Scenario, ScenarioFault>
-        ensures { Answers (λ s. s) result (finish_lem (reader_view self)) }
+        ensures { Answers (λ s. s) result (finish (reader_view self)) }
     {
         match self.place {
             Place::Ended => Ok(Scenario { decls: self.decls }),

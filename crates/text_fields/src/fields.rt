@@ -3,19 +3,19 @@
 ghost use Rattle.std.specs.Prelude.{◌≡◌, ◌<◌, ◌==◌, length, [], IfSome};
 ghost use Rattle.std.specs.List.{position};
 ghost use Rattle.text_fields.specs.Reading.{Gives, first_of};
-ghost use Rattle.text_fields.specs.Lines.{fields, is_space as is_space_lem, skip_spaces as skip_spaces_lem, one as one_lem, two as two_lem, three as three_lem, four as four_lem};
+ghost use Rattle.text_fields.specs.Lines.{fields, is_space, skip_spaces, one, two, three, four};
 
 use crate::lines::around;
 
 /// Whether the byte is a space or a tab.
 pub fn is_space(byte: u8) -> bool
-    ensures { result ≡ is_space_lem byte }
+    ensures { result ≡ is_space byte }
 {
     byte == b' ' || byte == b'\t'
 }
 
 fn first_space(bytes: &[u8]) -> Option<usize>
-    ensures is { result ≡ position is_space_lem bytes.now }
+    ensures is { result ≡ position is_space bytes.now }
     ensures within { IfSome result (λ i. i < length bytes.now) }
 {
     bytes.iter().position(|byte| is_space(*byte))
@@ -24,7 +24,7 @@ fn first_space(bytes: &[u8]) -> Option<usize>
 // From the first byte on that is no space.
 #[tactic(auto, unfolding(crate::specs::Lines::skip_spaces))]
 fn skip_spaces(bytes: &[u8]) -> &[u8]
-    ensures { result.now ≡ skip_spaces_lem bytes.now }
+    ensures { result.now ≡ skip_spaces bytes.now }
 {
     let mut rest = bytes;
     while let [first, more @ ..] = rest {
@@ -62,7 +62,7 @@ pub fn is_blank(bytes: &[u8]) -> bool
 /// The only field of the bytes.
 #[tactic(auto, unfolding(crate::specs::Lines::one))]
 pub fn one(bytes: &[u8]) -> Option<&[u8]>
-    ensures { Gives (λ x. x.now) result (one_lem (fields bytes.now)) }
+    ensures { Gives (λ x. x.now) result (one (fields bytes.now)) }
 {
     let (a, rest) = next_field(bytes)?;
     if is_blank(rest) { Some(a) } else { None }
@@ -71,7 +71,7 @@ pub fn one(bytes: &[u8]) -> Option<&[u8]>
 /// Both fields of bytes that have two.
 #[tactic(auto, unfolding(crate::specs::Lines::two))]
 pub fn two(bytes: &[u8]) -> Option<(&[u8], &[u8])>
-    ensures { Gives (λ x. (x.0.now, x.1.now)) result (two_lem (fields bytes.now)) }
+    ensures { Gives (λ x. (x.0.now, x.1.now)) result (two (fields bytes.now)) }
 {
     let (a, rest) = next_field(bytes)?;
     let b = one(rest)?;
@@ -81,7 +81,7 @@ pub fn two(bytes: &[u8]) -> Option<(&[u8], &[u8])>
 /// The fields of bytes that have three.
 #[tactic(auto, unfolding(crate::specs::Lines::three))]
 pub fn three(bytes: &[u8]) -> Option<(&[u8], &[u8], &[u8])>
-    ensures { Gives (λ x. (x.0.now, x.1.now, x.2.now)) result (three_lem (fields bytes.now)) }
+    ensures { Gives (λ x. (x.0.now, x.1.now, x.2.now)) result (three (fields bytes.now)) }
 {
     let (a, rest) = next_field(bytes)?;
     let (b, c) = two(rest)?;
@@ -91,7 +91,7 @@ pub fn three(bytes: &[u8]) -> Option<(&[u8], &[u8], &[u8])>
 /// The fields of bytes that have four.
 #[tactic(auto, unfolding(crate::specs::Lines::four))]
 pub fn four(bytes: &[u8]) -> Option<(&[u8], &[u8], &[u8], &[u8])>
-    ensures { Gives (λ x. (x.0.now, x.1.now, x.2.now, x.3.now)) result (four_lem (fields bytes.now)) }
+    ensures { Gives (λ x. (x.0.now, x.1.now, x.2.now, x.3.now)) result (four (fields bytes.now)) }
 {
     let (a, rest) = next_field(bytes)?;
     let (b, c, d) = three(rest)?;

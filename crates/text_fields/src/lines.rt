@@ -3,7 +3,7 @@
 ghost use Rattle.std.specs.Prelude.{◌≡◌, ◌<◌, ◌+◌, ◌∷◌, [], ◌==◌, length, take, drop, not, IfSome, MatchOption};
 ghost use Rattle.std.specs.List.{position};
 ghost use Rattle.std.specs.Str.{bytes_eq};
-ghost use Rattle.text_fields.specs.Lines.{lines, without_return as without_return_lem, without_comment as without_comment_lem, is_plain as is_plain_lem, are_plain as are_plain_lem};
+ghost use Rattle.text_fields.specs.Lines.{lines, without_return, without_comment, is_plain, are_plain};
 
 /// Whether the bytes are that text.
 pub fn is(bytes: &[u8], text: &[u8]) -> bool
@@ -33,7 +33,7 @@ pub(crate) fn around(bytes: &[u8], place: usize) -> (&[u8], &[u8])
 // Without the carriage return at the end, if there is one.
 #[tactic(auto, unfolding(crate::specs::Lines::without_return))]
 fn without_return(line: &[u8]) -> &[u8]
-    ensures { result.now ≡ without_return_lem line.now }
+    ensures { result.now ≡ without_return line.now }
 {
     match line {
         [front @ .., b'\r'] => front,
@@ -58,7 +58,7 @@ pub fn next_line(text: &[u8]) -> (&[u8], Option<&[u8]>)
 
 /// What stands before the first `#`.
 pub fn without_comment(line: &[u8]) -> &[u8]
-    ensures { result.now ≡ without_comment_lem line.now }
+    ensures { result.now ≡ without_comment line.now }
 {
     match place(line, b'#') {
         Some(at) => &line[..at],
@@ -68,14 +68,14 @@ pub fn without_comment(line: &[u8]) -> &[u8]
 
 /// Whether the byte is a printing character of ASCII, a space or a tab.
 pub fn is_plain(byte: u8) -> bool
-    ensures { result ≡ is_plain_lem byte }
+    ensures { result ≡ is_plain byte }
 {
     matches!(byte, b' '..=b'~' | b'\t')
 }
 
 /// Whether all bytes are printing characters of ASCII, spaces and tabs.
 pub fn are_plain(bytes: &[u8]) -> bool
-    ensures { result ≡ are_plain_lem bytes.now }
+    ensures { result ≡ are_plain bytes.now }
 {
     bytes.iter().all(|byte| is_plain(*byte))
 }

@@ -2,19 +2,20 @@
 
 ghost use Rattle.std.specs.Prelude.{◌≡◌, ◌<◌, IfSome};
 ghost use Rattle.text_fields.specs.Reading.{Gives, after};
-ghost use Rattle.text_fields.specs.Numbers.{digit as digit_lem, digits_from as digits_from_lem, digits as digits_lem, number as number_lem, word as word_lem};
+ghost use Rattle.text_fields.specs.Numbers.{digit, digits_from, digits, number, word};
 
-// What follows the text, where the bytes begin with it.
+/// What follows the text, where the bytes begin with it.
 #[tactic(auto, unfolding(crate::specs::Reading::after))]
-fn skip<'a>(bytes: &'a [u8], text: &[u8]) -> Option<&'a [u8]>
+pub fn skip<'a>(bytes: &'a [u8], text: &[u8]) -> Option<&'a [u8]>
     ensures { Gives (λ x. x.now) result (after text.now bytes.now) }
 {
     bytes.strip_prefix(text)
 }
 
+/// The value of a digit of either case in a base of at most 16; none where the byte is no digit of that base.
 #[tactic(auto, unfolding(crate::specs::Numbers::digit))]
-fn digit(base: u32, byte: u8) -> Option<u32>
-    ensures is { result ≡ digit_lem base byte }
+pub fn digit(base: u32, byte: u8) -> Option<u32>
+    ensures is { result ≡ digit base byte }
     ensures below { IfSome result (λ d. d < base) }
 {
     let value = match byte {
@@ -30,7 +31,7 @@ fn digit(base: u32, byte: u8) -> Option<u32>
 // The number that the digits write, none where it needs more than 32 bits.
 #[tactic(auto, unfolding(crate::specs::Numbers::digits_from))]
 fn digits_from(base: u32, bytes: &[u8]) -> Option<u32>
-    ensures { result ≡ digits_from_lem base 0 bytes.now }
+    ensures { result ≡ digits_from base 0 bytes.now }
 {
     let mut number: u32 = 0;
     let mut rest = bytes;
@@ -48,7 +49,7 @@ fn digits_from(base: u32, bytes: &[u8]) -> Option<u32>
 // At least and at most so many digits.
 #[tactic(auto, unfolding(crate::specs::Numbers::digits))]
 fn digits(base: u32, least: usize, most: usize, bytes: &[u8]) -> Option<u32>
-    ensures { result ≡ digits_lem base least most bytes.now }
+    ensures { result ≡ digits base least most bytes.now }
 {
     if bytes.len() < least || bytes.len() > most {
         return None;
@@ -60,7 +61,7 @@ fn digits(base: u32, least: usize, most: usize, bytes: &[u8]) -> Option<u32>
 /// where the field is anything else, or the number is above 4,294,967,295.
 #[tactic(auto, unfolding(crate::specs::Numbers::number))]
 pub fn number(field: &[u8]) -> Option<u32>
-    ensures { result ≡ number_lem field.now }
+    ensures { result ≡ number field.now }
 {
     match skip(field, b"0x") {
         Some(hexadecimal) => digits(16, 1, 8, hexadecimal),
@@ -71,7 +72,7 @@ pub fn number(field: &[u8]) -> Option<u32>
 /// The number that exactly eight hexadecimal digits of either case write; none where the field is anything else.
 #[tactic(auto, unfolding(crate::specs::Numbers::word))]
 pub fn word(field: &[u8]) -> Option<u32>
-    ensures { result ≡ word_lem field.now }
+    ensures { result ≡ word field.now }
 {
     digits(16, 8, 8, field)
 }
