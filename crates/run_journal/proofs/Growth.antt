@@ -4,6 +4,8 @@ use Rattle.std.specs.Prelude.{count_by, ◌||◌}
 use Rattle.std.specs.List.{list_any}
 use Rattle.std.proofs.lemmas.Grind.{flat_map-append}
 use Rattle.std.proofs.lemmas.List.Sums.{sum_by-append}
+use Rattle.std.proofs.Math.Bool.{or-false, or_assoc}
+use Rattle.std.proofs.lemmas.Bool.{or_right}
 use Rattle.flat_state.proofs.Places.{count_by-cons}
 use Rattle.cache_ident.specs.declared.idents.Cause.{Cause}
 use Rattle.cache_ident.specs.declared.idents.Cause.TheVariants as causes
@@ -133,31 +135,19 @@ back_sealed k ident causes.Dependent cpu = refl
 back_sealed k ident causes.Displaced cpu = refl
 back_sealed k ident causes.Unloaded cpu = refl
 
-or_false : (b : Bool) → b ≡ (b || false)
-or_false true = refl
-or_false false = refl
-
-or_true : (b : Bool) → true ≡ (b || true)
-or_true true = refl
-or_true false = refl
-
 pub sealed_after : (k : Told) (e : Entry) → (told_after k e).sealed ≡ (k.sealed || is_seal e)
-sealed_after k (Declared d) = or_false k.sealed
-sealed_after k Sealed = or_true k.sealed
-sealed_after k (Loaded ident name cpu) = or_false k.sealed
-sealed_after k (WrittenBack ident cause cpu) = back_sealed k ident cause cpu ∙ or_false k.sealed
-sealed_after k (Locked ident cpu) = or_false k.sealed
-sealed_after k (Unlocked ident cpu) = or_false k.sealed
-sealed_after k (Ran thread steps cpu) = or_false k.sealed
-sealed_after k (Ended thread cpu) = or_false k.sealed
-sealed_after k (Completed thread cpu) = or_false k.sealed
-
-or_assoc : (a b c : Bool) → ((a || b) || c) ≡ (a || (b || c))
-or_assoc true b c = refl
-or_assoc false b c = refl
+sealed_after k (Declared d) = sym (or-false k.sealed)
+sealed_after k Sealed = sym (or_right k.sealed true refl)
+sealed_after k (Loaded ident name cpu) = sym (or-false k.sealed)
+sealed_after k (WrittenBack ident cause cpu) = back_sealed k ident cause cpu ∙ sym (or-false k.sealed)
+sealed_after k (Locked ident cpu) = sym (or-false k.sealed)
+sealed_after k (Unlocked ident cpu) = sym (or-false k.sealed)
+sealed_after k (Ran thread steps cpu) = sym (or-false k.sealed)
+sealed_after k (Ended thread cpu) = sym (or-false k.sealed)
+sealed_after k (Completed thread cpu) = sym (or-false k.sealed)
 
 pub sealed_from : (k : Told) (es : List Entry) → (told_from k es).sealed ≡ (k.sealed || list_any is_seal es)
-sealed_from k [] = or_false k.sealed
+sealed_from k [] = sym (or-false k.sealed)
 sealed_from k (e ∷ es) =
     sealed_from (told_after k e) es
     ∙ ap (λ (b : Bool). b || list_any is_seal es) (sealed_after k e)

@@ -100,3 +100,13 @@ fn words(rt: HostRuntime) {
     assert_eq!(rt; word(b"000a0ffee"), None);
     assert_eq!(rt; word(b"0x0a0ffe"), None);
 }
+
+#[test]
+fn digits_and_what_follows_a_text(rt: HostRuntime) {
+    assert_eq!(rt; digit(10, b'7'), Some(7));
+    assert_eq!(rt; digit(16, b'F'), Some(15));
+    assert_eq!(rt; digit(10, b'f'), None);
+    assert_eq!(rt; digit(16, b'g'), None);
+    assert!(rt; matches!(skip(b"cpu3", b"cpu"), Some(b"3")));
+    assert!(rt; skip(b"cp", b"cpu").is_none());
+}
