@@ -6,7 +6,7 @@ ghost use Rattle.std.specs.Fn.{FnOnceReturnsAtMut};
 ghost use Rattle.std.specs.List.{AllPairs};
 ghost use Rattle.cache_ident.specs.declared.idents.Ident.{Ident};
 ghost use Rattle.cache_ident.specs.declared.idents.Kind.TheVariants.{Mapping};
-ghost use Rattle.slot_cache.specs.Cells.{cell_at, changed, filled, just_loaded, with_lock, with_value, HasNoName, HasNoSerial, IsContent, IsFoundAs, IsFull, IsLoaded, IsLowestFree, IsUpdated, IsVictim, KeepsName, loaded_in, LockIs, NameIs, NoneMayGo};
+ghost use Rattle.slot_cache.specs.Cells.{cell_at, changed, filled, just_loaded, with_lock, with_value, HasExactlyLoaded, HasNoName, HasNoSerial, IsContent, IsFoundAs, IsFull, IsInOrderOfSlot, IsLoaded, IsLowestFree, IsUpdated, IsVictim, KeepsName, loaded_in, LockIs, NameIs, NoneMayGo};
 ghost use Rattle.slot_cache.specs.Table.{IsProper};
 ghost use Rattle.slot_cache.specs.Rows.{row_name};
 ghost use Rattle.mapping_cache.specs.Frames.{FrameIs, IsRowOf, KeepsFrame};
@@ -169,6 +169,8 @@ impl MappingCache {
     /// What is loaded, in order of slot.
     pub fn iter(&self) -> Iter<'_, Row>
         ensures loaded { result ≡ loaded_in self.now }
+        ensures exact { HasExactlyLoaded self.now result }
+        ensures order { IsInOrderOfSlot result }
         ensures proper { IsProper row_name Mapping self.now }
     {
         self.slots.iter()

@@ -1,4 +1,5 @@
 pub mod IndexLemmas
+pub mod IterLemmas
 pub mod NameLemmas
 pub mod PadLemmas
 pub mod SlotLemmas

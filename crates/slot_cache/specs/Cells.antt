@@ -1,5 +1,5 @@
 -- What stands in the slots of a kind.
-use Rattle.std.specs.Prelude.{◌≡◌, ◌≢◌, ℕ, ◌<◌, ◌≤◌, Bool, false, List, length, slice_index_or, slice_set, Option, Some, None, option_map, IsSome, Contains, filter_map}
+use Rattle.std.specs.Prelude.{◌≡◌, ◌≢◌, ℕ, ◌<◌, ◌≤◌, Bool, false, List, length, slice_index_or, slice_set, Option, Some, None, option_map, IsSome, AllPairs, Contains, filter_map, ◌↔◌}
 use Rattle.cache_ident.specs.declared.idents.Ident.{Ident}
 use Rattle.cache_ident.specs.declared.names.Name.{Name}
 use Rattle.slot_cache.specs.declared.loaded.Loaded.{Loaded}
@@ -24,6 +24,14 @@ module _ {T : Type 0} where
   -- what is loaded, in order of slot
   abbrev pub loaded_in : List (Option (Loaded T)) → List (Loaded T)
   loaded_in cells = filter_map (λ cell. cell) cells
+
+  -- the list has each descriptor that stands in the slot of its identifier, and nothing else
+  abbrev pub HasExactlyLoaded : List (Option (Loaded T)) → List (Loaded T) → Type 0
+  HasExactlyLoaded cells list = (loaded : Loaded T) → Contains list loaded ↔ (cell_at cells loaded.ident.slot ≡ Some loaded)
+
+  -- each is in a slot below those of all behind it, so none is listed twice
+  abbrev pub IsInOrderOfSlot : List (Loaded T) → Type 0
+  IsInOrderOfSlot list = AllPairs (λ a b. a.ident.slot < b.ident.slot) list
 
   -- the same descriptor with another content
   abbrev pub with_value : T → Loaded T → Loaded T

@@ -3,7 +3,7 @@
 ghost use Rattle.std.specs.Prelude.{◌≡◌, ◌+◌, ◌<◌, ◌≤◌, ◌↔◌, replicate, length, count_by, is_some, slice_set, Contains, IfOk, IfSome, IfNone, IsTrue, vec_capacity};
 ghost use Rattle.std.specs.Fn.{FnOnceReturnsAtMut};
 ghost use Rattle.std.specs.Ordering.{nat_cmp};
-ghost use Rattle.slot_cache.specs.Cells.{cell_at, changed, filled, just_loaded, with_lock, with_value, HasNoName, HasNoSerial, IsContent, IsFoundAs, IsFull, IsLoaded, IsLowestFree, IsUpdated, IsVictim, KeepsName, loaded_in, LockIs, MayGo, MayNotGo, NameIs, NoneMayGo};
+ghost use Rattle.slot_cache.specs.Cells.{cell_at, changed, filled, just_loaded, with_lock, with_value, HasExactlyLoaded, HasNoName, HasNoSerial, IsContent, IsFoundAs, IsFull, IsInOrderOfSlot, IsLoaded, IsLowestFree, IsUpdated, IsVictim, KeepsName, loaded_in, LockIs, MayGo, MayNotGo, NameIs, NoneMayGo};
 ghost use Rattle.slot_cache.specs.Table.{IsFree, IsGrown, IsProper, Lists};
 
 use super::index;
@@ -220,6 +220,8 @@ impl<T: Descriptor + Drop> Cache<T> {
     /// What is loaded, in order of slot. Going over it takes as many steps as the highest slot that was ever used.
     pub fn iter(&self) -> Iter<'_, T>
         ensures loaded { result ≡ loaded_in self.now }
+        ensures exact { HasExactlyLoaded self.now result }
+        ensures order { IsInOrderOfSlot result }
         ensures proper { IsProper T.called T.KIND self.now }
     {
         Iter::new(&self.cells)
