@@ -1,11 +1,13 @@
 #!/usr/bin/env bash
 # Usage: bench/leaving.sh
 # Times what leaves, where 1,024, 8,192 and 65,536 rows are loaded: the order of a space with ten other rows, whose time
-# must not grow with what is loaded, and all rows with the kernel of their spaces, which are put in order and whose pairs
-# are taken out one after another. It fails where the time for each of these rows grows by more than 3 times.
+# grows with what is loaded as the length of a search does, and all rows with the kernel of their spaces, which are put in
+# order and whose pairs are taken out one after another. It fails where the time for each of these rows grows by more than
+# 3 times.
 #
-# What is timed is the processor's time in the calls, the best of eight runs, since a run of some hundred milliseconds is
-# always interrupted where the machine does other work, and one of a millisecond seldom is.
+# What is timed is the processor's time in the calls, since a run of some hundred milliseconds is always interrupted where
+# the machine does other work, and one of a millisecond seldom is. All rows leave eight times, and the shortest time counts.
+# On 2026-11-27 a row took 735 ns of 1,024, 1,000 of 8,192 and 1,430 of 65,536.
 #
 # Two of the kernel's spaces have the rows in turn, so that those of the one stand between those of the other in the order
 # of identifiers.
