@@ -1,0 +1,53 @@
+-- What has left since a group began, and what stays.
+use Rattle.std.specs.Prelude.{◌≡◌, ◌≢◌, ◌⊎◌, ◌↔◌, ℕ, ◌+◌, ◌-◌, List, map, length, AllPairs, Contains, IsTrue, IfSome, slice_get}
+use Rattle.std.specs.declared.cmp.Ordering.TheVariants.{Less}
+use Rattle.cache_ident.specs.declared.idents.Ident.{Ident}
+use Rattle.cache_ident.specs.declared.idents.Kind.{Kind}
+use Rattle.cache_ident.specs.Residents.{Resident}
+use Rattle.depend_lists.specs.declared.nodes.Node.{Node}
+use Rattle.sorted_list.specs.Sorted.{IsRising}
+use Rattle.writeback_order.specs.Order.{leaving_cmp}
+use Rattle.flat_state.specs.State.{FlatState}
+use Rattle.flat_state.specs.Names.{class_of}
+use Rattle.run_journal.specs.Groups.{node_of}
+use Rattle.run_journal.specs.Legal.{count_of}
+use Rattle.journal_laws.specs.Leaving.{HaveOneEach, LacksParent}
+use Rattle.journal_laws.specs.Staying.{AreGood}
+use Rattle.journal_groups.specs.declared.group.Group.{Group}
+use Rattle.journal_groups.specs.declared.gone.Gone.{Gone}
+
+-- what is kept of one that left
+abbrev pub gone_of : FlatState → Resident → Gone
+gone_of s r = record { ident = r.ident; name = r.name; class = class_of s r.name }
+
+abbrev pub node_of_gone : Gone → Node
+node_of_gone gone = record { ident = gone.ident; class = gone.class }
+
+-- no identifier stands twice
+abbrev pub AreApart : List Resident → Type 0
+AreApart rs = AllPairs (λ a b. a.ident ≢ b.ident) rs
+
+-- Since the group began, when those before were resident, these identifiers left in this order; the rest is resident now. What
+-- was resident and what is resident is whole: each stands, is fit, and has all that it depends on.
+pub record IsLeaving (group : Group) (s : FlatState) (before now : List Resident) (left : List Ident) : Type 0 where
+  pub those : List Resident
+  pub idents : left ≡ map (λ r. r.ident) those
+  pub kept : group.gone.items ≡ map (gone_of s) those
+  pub rising : IsTrue group.rising ↔ IsRising leaving_cmp (map (node_of s) those)
+  pub one : HaveOneEach before
+  pub apart : AreApart now
+  pub whole : AreGood s before
+  pub good : AreGood s now
+  pub there : (r : Resident) → Contains those r → Contains before r
+  pub out : (r : Resident) → Contains those r → Contains now r → ⊥
+  pub stay : (r : Resident) → Contains now r → Contains before r
+  pub all : (r : Resident) → Contains before r → Contains now r ⊎ Contains those r
+  pub counts : (kind : Kind) → count_of before kind ≡ count_of now kind + count_of those kind
+
+-- it leaves behind the one that left last, if something has left
+abbrev pub IsBehindLast : List Gone → Gone → Type 0
+IsBehindLast all gone = IfSome (slice_get all (length all - 1)) (λ last. leaving_cmp (node_of_gone last) (node_of_gone gone) ≡ Less)
+
+-- each of those that left lacks something that it depends on
+abbrev pub LackOneEach : FlatState → List Resident → List Gone → Type 0
+LackOneEach s rs all = (gone : Gone) → Contains all gone → LacksParent s rs gone.name

@@ -1,0 +1,10 @@
+//! What leaves together: the dependents that have left since a group began, and whether they and what leaves last are a group.
+#![tactic(auto)]
+
+mod gone;
+mod group;
+
+pub use group::Group;
+
+#[cfg(test)]
+mod tests;
