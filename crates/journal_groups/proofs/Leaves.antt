@@ -1,5 +1,6 @@
 -- What stays of a group where one more leaves, and when it is the group of what leaves last.
 use Rattle.std.proofs.Common.{◌≡◌, ◌≢◌, ◌↔◌, ℕ, zero, suc, ◌+◌, Bool, true, false, cond, not, List, [], ◌∷◌, ◌++◌, map, count_by, Contains, IsTrue, refl, ap, sym, ◌∙◌, subst, inl, inr, ◌⊎◌, arith}
+use Rattle.std.specs.Prelude.{Result, Ok, Err, OnErr}
 use Rattle.std.proofs.lemmas.Bool.{cases_Bool}
 use Rattle.std.proofs.lemmas.List.{map-append}
 use Rattle.std.proofs.lemmas.List.Elements.{Contains-push_cases, Contains-push, Contains-append_left}
@@ -29,6 +30,11 @@ use Rattle.journal_groups.specs.Leaving.{gone_of, node_of_gone, AreApart, IsLeav
 use Rattle.journal_groups.proofs.Rising.{IsLastBefore, rising_more, rising_front, rising_last}
 use Rattle.journal_groups.proofs.Lacking.{last_is}
 
+-- what holds holds on an error
+pub on_err : {X E : Type 0} (r : Result X E) {P : Type 0} → P → OnErr r P
+on_err (Ok x) p = tt
+on_err (Err e) p = p
+
 -- ---- counts
 
 apart_behind : (x : Resident) (xs : List Resident) → AreApart (x ∷ xs) → AreApart xs
@@ -50,13 +56,13 @@ module _ (kind : Kind) where
   Is r = is_kind r.ident.kind kind
 
   abbrev one_if : Resident → ℕ
-  one_if r = one_if r
+  one_if r = cond (Is r) 1 0
 
   count_without : (rs : List Resident) (r : Resident) → AreApart rs → Contains rs r → count_of rs kind ≡ count_of (without r.ident rs) kind + count_of (r ∷ []) kind
   count_without [] r apart there = absurd (contains_nothing r there)
   count_without (x ∷ xs) r apart there =
       let all : count_of (x ∷ xs) kind ≡ one_if x + count_of xs kind = count_by-cons Is x xs in
-      let one : count_of (r ∷ []) kind ≡ one_if r + 0 = count_by-cons Is r [] in
+      let last : count_of (r ∷ []) kind ≡ one_if r + 0 = count_by-cons Is r [] in
       elim (Contains-cases x xs r there) [
         | inl same ↦
             let rest : without r.ident xs ≡ xs = none_leaves r.ident xs (λ y y_there e. apart_first x xs apart y y_there (ap (λ (z : Resident). z.ident) same ∙ sym e)) in
@@ -86,9 +92,20 @@ module _ (kind : Kind) where
 -- ---- a group that stays
 
 pub same_group : (old new : Group) → new.gone.items ≡ old.gone.items → new.rising ≡ old.rising → (s : FlatState) (before now : List Resident) (left : List Ident) → IsLeaving old s before now left → IsLeaving new s before now left
-same_group old new gone rising s before now left are = record are {
+same_group old new gone rising s before now left are = record {
+  those = are.those;
+  idents = are.idents;
   kept = gone ∙ are.kept;
   rising = subst (λ (b : Bool). IsTrue b ↔ IsRising leaving_cmp (map (node_of s) are.those)) (sym rising) are.rising;
+  one = are.one;
+  apart = are.apart;
+  whole = are.whole;
+  good = are.good;
+  there = are.there;
+  out = are.out;
+  stay = are.stay;
+  all = are.all;
+  counts = are.counts;
 }
 
 -- ---- one more leaves
