@@ -1,7 +1,7 @@
 //! A space with a sender, a receiver and their rows, of which some leave.
 
 use super::*;
-use cache_ident::{Frame, Ident, KernelNo, Kind, Name, SpaceNo, ThreadNo, Vpn};
+use cache_ident::{Caps, Frame, Ident, KernelNo, Kind, Name, SpaceNo, ThreadNo, Vpn};
 use flat_machine::{Decl, Event, Flat, GREATEST_CAPS, Machine};
 use phys_groups::Flags;
 use residents::{Held, Residents};
@@ -56,7 +56,7 @@ fn machine(alloc: Global) -> Result<Flat, Fail> {
     };
     let kernel = Decl::Kernel {
         no: KERNEL,
-        limits: GREATEST_CAPS,
+        limits: Caps::default(),
     };
     let space = Decl::Space {
         no: SPACE,
