@@ -54,9 +54,13 @@ fn machine(alloc: Global) -> Result<Flat, Fail> {
         a0: 0,
         a1: 0,
     };
+    let kernels = 1;
     let kernel = Decl::Kernel {
         no: KERNEL,
-        limits: Caps::default(),
+        limits: Caps {
+            kernels,
+            ..Caps::default()
+        },
     };
     let space = Decl::Space {
         no: SPACE,
