@@ -39,7 +39,7 @@ same_nat : (a b : ℕ) → nat_cmp a b ≡ Equal → a ≡ b
 same_nat a b equal = grind (arith, nat_tests)
 
 -- ordering by ordering
-then_equal : (o p : Ordering) → ordering_then o p ≡ Equal → (o ≡ Equal) × (p ≡ Equal)
+pub then_equal : (o p : Ordering) → ordering_then o p ≡ Equal → (o ≡ Equal) × (p ≡ Equal)
 then_equal Less p e = absurd (cc)
 then_equal Equal p e = (refl, e)
 then_equal Greater p e = absurd (cc)

@@ -1,3 +1,4 @@
 pub mod Tables
+pub mod Freed
 pub mod Slots
 pub mod Pairs

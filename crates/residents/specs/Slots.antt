@@ -1,7 +1,7 @@
 -- Which slots of a kind are taken.
-use Rattle.std.specs.Prelude.{◌≡◌, ℕ, ◌<◌, true, false}
+use Rattle.std.specs.Prelude.{◌≡◌, ℕ, ◌+◌, ◌<◌, false}
 use Rattle.std.specs.Ordering.{nat_cmp}
-use Rattle.std.specs.BTreeSet.{BTreeSet, contains}
+use Rattle.std.specs.BTreeSet.{btree_set_len, contains}
 use Rattle.residents.specs.declared.slots.Slots.{Slots}
 
 -- it is below the first that was never taken, and was not freed since
@@ -13,6 +13,6 @@ pub record IsLowest (slots : Slots) (slot : ℕ) : Type 0 where
   pub free : IsTakenIn slots slot → ⊥
   pub below : (other : ℕ) → other < slot → IsTakenIn slots other
 
--- freed slots were taken once
-abbrev pub AreBelow : ℕ → BTreeSet ℕ → Type 0
-AreBelow top freed = (slot : ℕ) → contains nat_cmp freed slot ≡ true → slot < top
+-- so many are taken: with those that were freed since, all that ever were
+abbrev pub IsCount : Slots → ℕ → Type 0
+IsCount slots n = n + btree_set_len slots.freed ≡ slots.top

@@ -1,6 +1,7 @@
 //! The slots of one kind.
 
 ghost use Rattle.std.specs.Prelude.{◌≡◌, ◌≢◌, ◌⊎◌, ◌↔◌, ℕ, ◌+◌, ◌<◌, ◌^◌, OnOk, OnErr};
+ghost use Rattle.residents.specs.Freed.{AreBelow};
 
 use cache_ident::NoMemory;
 use std::alloc::Global;
@@ -14,15 +15,16 @@ pub struct Slots {
     // All from here on are free.
     top: u32,
     freed: BTreeSet<u32>,
+    ghost below: { AreBelow top freed },
 }
 
 impl Slots {
-    ghost use Rattle.residents.specs.Slots.{AreBelow, IsLowest, IsTakenIn};
+    ghost use Rattle.residents.specs.Slots.{IsCount, IsLowest, IsTakenIn};
 
     /// No slot is taken.
     pub fn new(alloc: Global) -> Slots
         ensures none { (slot : ℕ) → IsTakenIn result slot → ⊥ }
-        ensures below { AreBelow result.top result.freed }
+        ensures count { IsCount result 0 }
     {
         Slots {
             top: 0,
@@ -30,9 +32,15 @@ impl Slots {
         }
     }
 
+    /// How many slots are taken.
+    pub fn count(&self) -> u32
+        ensures { IsCount self.now result }
+    {
+        self.top - self.freed.len() as u32
+    }
+
     /// The lowest free slot.
     pub fn lowest(&self) -> u32
-        requires { AreBelow self.now.top self.now.freed }
         ensures { IsLowest self.now result }
     {
         match self.freed.first() {
@@ -45,9 +53,8 @@ impl Slots {
     pub fn take(&mut self, slot: u32)
         requires lowest { IsLowest self.old slot }
         requires small { slot + 1 < 2 ^ 32 }
-        requires below { AreBelow self.old.top self.old.freed }
         ensures taken { (other : ℕ) → IsTakenIn self.new other ↔ (IsTakenIn self.old other ⊎ (other ≡ slot)) }
-        ensures below { AreBelow self.new.top self.new.freed }
+        ensures count { (n : ℕ) → IsCount self.old n → IsCount self.new (n + 1) }
     {
         if slot < self.top {
             let _ = self.freed.remove(&slot);
@@ -56,15 +63,15 @@ impl Slots {
         }
     }
 
-    /// Frees a slot that is taken. Where memory is wanted it stays taken.
+    /// Frees a slot, which may be free already. Where memory is wanted nothing changes.
     pub fn release(&mut self, slot: u32) -> Result<(), NoMemory>
-        requires taken { IsTakenIn self.old slot }
-        requires below { AreBelow self.old.top self.old.freed }
         ensures ok { OnOk result ((other : ℕ) → IsTakenIn self.new other ↔ (IsTakenIn self.old other × (other ≢ slot))) }
+        ensures count { OnOk result (IsTakenIn self.old slot → (n : ℕ) → IsCount self.old (n + 1) → IsCount self.new n) }
         ensures err { OnErr result ((other : ℕ) → IsTakenIn self.new other ↔ IsTakenIn self.old other) }
-        ensures below { AreBelow self.new.top self.new.freed }
     {
-        self.freed.insert(slot)?;
+        if slot < self.top {
+            self.freed.insert(slot)?;
+        }
         Ok(())
     }
 }

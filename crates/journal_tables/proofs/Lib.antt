@@ -1,0 +1,9 @@
+pub mod KindLemmas
+pub mod Recounting
+pub mod Counting
+pub mod WholeLemmas
+pub mod SlotLemmas
+pub mod PairLemmas
+pub mod LockLemmas
+pub mod TableLemmas
+pub mod Staying

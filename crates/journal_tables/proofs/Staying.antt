@@ -1,0 +1,87 @@
+-- What the tables are of while nothing comes or goes.
+use Rattle.std.proofs.Common.{◌≡◌, ◌↔◌, ℕ, zero, suc, List, [], replicate, Contains, refl, ap, sym, ◌∙◌, subst}
+use Rattle.cache_ident.specs.declared.names.Name.{Name}
+use Rattle.cache_ident.specs.declared.names.ThreadNo.{ThreadNo}
+use Rattle.cache_ident.specs.Residents.{Resident}
+use Rattle.flat_state.specs.declared.events.Decl.{Decl}
+use Rattle.flat_state.specs.declared.events.Event.{Event}
+use Rattle.flat_state.specs.declared.events.Event.TheVariants.{Step, Complete}
+use Rattle.flat_state.specs.State.{FlatState}
+use Rattle.flat_state.specs.Dependence.{parents, Depends, owner}
+use Rattle.flat_state.specs.Events.{after_events, applied, flat}
+use Rattle.flat_state.specs.WellFormed.{IsWellFormed}
+use Rattle.flat_state.proofs.FormedEvents.{flat_formed}
+use Rattle.flat_laws.proofs.Members.{contains_nothing}
+use Rattle.flat_laws.proofs.StepSame.{step_same, same_owner, same_parents}
+use Rattle.journal_laws.proofs.SameDependence.{depends_on_same, owner_stays}
+use Rattle.run_journal.specs.declared.entries.Entry.TheVariants.{Declared, Sealed, Ran, Ended, Completed}
+use Rattle.run_journal.specs.Told.{Told, told_after}
+use Rattle.run_journal.specs.Legal.{MayRun, MayEnd, MayComplete}
+use Rattle.journal_tables.specs.declared.tables.Tables.{Tables}
+use Rattle.journal_tables.specs.Tables.{AreOf}
+use Rattle.journal_tables.specs.Whole.{AreWhole}
+use Rattle.journal_tables.proofs.WholeLemmas.{whole_nothing, whole_ran, whole_ended, whole_completed}
+use Rattle.journal_tables.proofs.PairLemmas.{pairs_same}
+use Rattle.journal_tables.proofs.LockLemmas.{locks_same}
+
+-- what is resident has the owners and depends on what it had and did
+pub record StaysOf (s u : FlatState) (rs : List Resident) : Type 0 where
+  pub depends : (r : Resident) → Contains rs r → (parent : Name) → Depends u r.name parent ↔ Depends s r.name parent
+  pub owner_is : (r : Resident) → Contains rs r → owner u r.name ≡ owner s r.name
+
+pub of_same : (tables : Tables) (k after : Told) → AreOf tables k → after.residents ≡ k.residents → AreWhole after.state after.loads after.residents → StaysOf k.state after.state k.residents → AreOf tables after
+of_same tables k after are same whole stays = subst (λ (rs : List Resident). AreWhole after.state after.loads rs → AreOf tables (record after { residents = rs })) {x = k.residents} {y = after.residents} (sym same)
+    (λ whole_then. record {
+      whole = whole_then;
+      those = are.those;
+      slots = are.slots;
+      pairs = pairs_same tables.dependents k.state after.state k.residents stays.depends are.pairs;
+      locks = locks_same tables.locks k.state after.state k.residents stays.owner_is are.locks;
+    })
+    whole
+
+-- a step leaves all that
+step_stays : (s : FlatState) (thread : ThreadNo) (rs : List Resident) → StaysOf s (applied s (Step thread)) rs
+step_stays s thread rs =
+    let same = step_same s thread in
+    record {
+      depends = λ r there parent.
+          let is = same_parents s (applied s (Step thread)) same r.name in
+          (subst (λ (ps : List Name). Contains ps parent) is, subst (λ (ps : List Name). Contains ps parent) (sym is));
+      owner_is = λ r there. same_owner s (applied s (Step thread)) same r.name;
+    }
+
+steps_stay : (n : ℕ) (s : FlatState) (thread : ThreadNo) (rs : List Resident) → StaysOf s (after_events s (replicate n (Step thread))) rs
+steps_stay zero s thread rs = record { depends = λ r there parent. (λ d. d, λ d. d); owner_is = λ r there. refl }
+steps_stay (suc n) s thread rs =
+    let first = step_stays s thread rs in
+    let rest = steps_stay n (applied s (Step thread)) thread rs in
+    record {
+      depends = λ r there parent. (λ d. (first.depends r there parent).0 ((rest.depends r there parent).0 d), λ d. (rest.depends r there parent).1 ((first.depends r there parent).1 d));
+      owner_is = λ r there. rest.owner_is r there ∙ first.owner_is r there;
+    }
+
+pub of_declared : (tables : Tables) (k : Told) (d : Decl) → AreOf tables k → k.residents ≡ [] → AreOf tables (told_after k (Declared d))
+of_declared tables k d are none = of_same tables k (told_after k (Declared d)) are refl
+    (subst (λ (rs : List Resident). AreWhole (told_after k (Declared d)).state k.loads rs) (sym none) (whole_nothing (told_after k (Declared d)).state k.loads))
+    (subst (λ (rs : List Resident). StaysOf k.state (told_after k (Declared d)).state rs) (sym none) (record { depends = λ r there. absurd (contains_nothing r there); owner_is = λ r there. absurd (contains_nothing r there) }))
+
+pub of_sealed : (tables : Tables) (k : Told) → AreOf tables k → AreOf tables (told_after k Sealed)
+of_sealed tables k are = record { whole = are.whole; those = are.those; slots = are.slots; pairs = are.pairs; locks = are.locks }
+
+pub of_ran : (tables : Tables) (k : Told) (thread : ThreadNo) (steps cpu : ℕ) → AreOf tables k → MayRun k thread steps → AreOf tables (told_after k (Ran thread steps cpu))
+of_ran tables k thread steps cpu are may =
+    of_same tables k (told_after k (Ran thread steps cpu)) are refl (whole_ran k thread steps are.whole may) (steps_stay steps k.state thread k.residents)
+
+pub of_ended : (tables : Tables) (k : Told) (thread : ThreadNo) (cpu : ℕ) → AreOf tables k → MayEnd k thread → AreOf tables (told_after k (Ended thread cpu))
+of_ended tables k thread cpu are may =
+    of_same tables k (told_after k (Ended thread cpu)) are refl (whole_ended k thread are.whole may) (step_stays k.state thread k.residents)
+
+pub of_completed : (tables : Tables) (k : Told) (es : List Event) (thread : ThreadNo) (cpu : ℕ) → k.state ≡ flat es → AreOf tables k → MayComplete k thread → AreOf tables (told_after k (Completed thread cpu))
+of_completed tables k es thread cpu reached are may =
+    let whole = whole_completed k thread are.whole may in
+    let formed : IsWellFormed k.state = subst IsWellFormed (sym reached) (flat_formed es) in
+    of_same tables k (told_after k (Completed thread cpu)) are refl whole (record {
+      depends = depends_on_same k.state (Complete thread) formed k.residents are.whole.good may.good;
+      owner_is = λ r there. owner_stays k.state (Complete thread) formed r.name (are.whole.good r there).there (may.good r there).there;
+    })

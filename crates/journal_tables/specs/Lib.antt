@@ -1,0 +1,4 @@
+pub mod KindSlots
+pub mod Locks
+pub mod Whole
+pub mod Tables
