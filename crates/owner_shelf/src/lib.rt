@@ -1,0 +1,11 @@
+//! The descriptors of a kind that aren't loaded: each stands with its owner, under its name.
+#![tactic(auto)]
+
+mod names;
+mod shelf;
+mod shelved;
+#[cfg(test)]
+mod tests;
+
+pub use shelf::Shelf;
+pub use shelved::Shelved;
