@@ -13,7 +13,7 @@ set -euo pipefail
 peers="${1:-}"
 if [ -n "$peers" ]; then peers="$(cd "$peers" && pwd)"; fi
 source "$(dirname "$0")/program.sh"
-begin_program quantum_times 'cache_ident phys_groups rv32_ma rv32_isa rv32_exec fault_forward signal_pages sorted_list depend_lists writeback_order flat_state flat_laws page_views quantum'
+begin_program quantum_times 'cache_ident phys_groups rv32_ma rv32_isa rv32_exec fault_forward signal_pages sorted_list depend_lists writeback_order flat_state flat_thread flat_rules flat_laws page_views quantum'
 
 turns=5
 

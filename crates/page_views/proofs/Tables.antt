@@ -106,16 +106,16 @@ place_within va Half aligned = omega (arith, aligned)
 place_within va Word aligned = omega (arith, aligned)
 
 -- a list whose length stays is what was written over it
-written_over : (n : ℕ) (xs ys : List View) → n ≡ length xs → length ys ≡ length xs → take n (ys ++ drop (length ys) xs) ≡ ys
+pub written_over : (n : ℕ) (xs ys : List View) → n ≡ length xs → length ys ≡ length xs → take n (ys ++ drop (length ys) xs) ≡ ys
 written_over n xs ys whole same = take-append-le n ys (drop (length ys) xs) (omega (arith, same)) ∙ take_all n ys (omega (arith, same))
 
 -- the present views, each changed, are present
-first_mapped : (f : View → View) (count : ℕ) (xs : List View) → count ≤ length xs → take count (map f (take count xs) ++ drop count xs) ≡ map f (take count xs)
+pub first_mapped : (f : View → View) (count : ℕ) (xs : List View) → count ≤ length xs → take count (map f (take count xs) ++ drop count xs) ≡ map f (take count xs)
 first_mapped f count xs within =
     let size : length (map f (take count xs)) ≡ count = omega (arith, length-map f (take count xs), length-take-le count xs within) in
     take-append-le count (map f (take count xs)) (drop count xs) (omega (arith, size)) ∙ take_all count (map f (take count xs)) (omega (arith, size))
 
-length-mapped : (f : View → View) (count : ℕ) (xs : List View) → count ≤ length xs → length (map f (take count xs) ++ drop count xs) ≡ length xs
+pub length-mapped : (f : View → View) (count : ℕ) (xs : List View) → count ≤ length xs → length (map f (take count xs) ++ drop count xs) ≡ length xs
 length-mapped f count xs within =
     omega (arith, length-append (map f (take count xs)) (drop count xs), length-map f (take count xs), length-take-le count xs within, length-drop count xs)
 
@@ -192,11 +192,11 @@ marked_at vpn access (suc i) (suc n) (v ∷ vs) d one here within same =
     ap₂ (λ (w : View) (ws : List View). w ∷ ws) (sym (ap (λ (b : Bool). if b then mark_view access v else v) (neq-eqb v.vpn.0 vpn.0 (λ e. one zero (suc i) d (omega arith) (omega (arith, here, size)) (e ∙ (sym same ∙ ap (λ (w : View). w.vpn.0) (sym there)))))))
     (marked_at vpn access i n vs d (λ j k e below last. one (suc j) (suc k) e (omega (arith, below)) (omega (arith, last))) (omega (arith, here)) (omega (arith, within)) same)
 
-first_true : (a b : Bool) → (a && b) ≡ true → a ≡ true
+pub first_true : (a b : Bool) → (a && b) ≡ true → a ≡ true
 first_true true b e = refl
 first_true false b e = e
 
-second_true : (a b : Bool) → (a && b) ≡ true → b ≡ true
+pub second_true : (a b : Bool) → (a && b) ≡ true → b ≡ true
 second_true true b e = e
 second_true false b e = cc
 
@@ -212,14 +212,18 @@ no_view vs vpn room = is_none_where (find (is_of_page vpn) vs) (second_true _ _ 
 pub one_filled : (vs : List View) (v : View) → can_fill vs v.vpn ≡ true → HaveOneViewAPage vs → HaveOneViewAPage (vs ++ v ∷ [])
 one_filled vs v room one = all_pairs_push (λ (a b : View). a.vpn.0 ≢ b.vpn.0) vs v one (not_found v.vpn vs (no_view vs v.vpn room))
 
+-- there is a free place where a page can be filled
+pub free_place : (count : ℕ) (messages : Bool) (xs : List View) (vpn : Vpn) → IsTable xs count messages → can_fill (take count xs) vpn ≡ true → count < length xs
+free_place count messages xs vpn table room =
+    let taken : length (take count xs) ≡ count = length-take-le count xs (omega (arith, table.eight, table.within)) in
+    omega (arith, ltb-true (length (take count xs)) 8 (first_true _ _ room), taken, table.eight)
+
 pub table_filled : (n count : ℕ) (messages now : Bool) (xs ys : List View) (v : View) → n ≡ length xs → IsTable xs count messages → now ≡ (messages || v.flags.m) → can_fill (take count xs) v.vpn ≡ true → ys ≡ set xs count v
     → IsTable (take n (ys ++ drop (length ys) xs)) (count + 1) now
 table_filled n count messages now xs ys v whole table is room became =
     let size : length ys ≡ length xs = ap length became ∙ length-set xs count v in
-    let taken : length (take count xs) ≡ count = length-take-le count xs (omega (arith, table.eight, table.within)) in
-    let free : count < 8 = omega (arith, ltb-true (length (take count xs)) 8 (first_true _ _ room), taken) in
-    let below : count < length xs = omega (arith, free, table.eight) in
-    let more : count + 1 ≤ 8 = omega (arith, free) in
+    let below : count < length xs = free_place count messages xs v.vpn table room in
+    let more : count + 1 ≤ 8 = omega (arith, below, table.eight) in
     rw (written_over n xs ys whole size) (record {
       eight = size ∙ table.eight;
       within = more;

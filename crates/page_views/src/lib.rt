@@ -4,6 +4,7 @@
 mod page;
 mod space;
 mod table;
+mod ways;
 
 pub use page::PageView;
 pub use table::PageViews;

@@ -1,8 +1,10 @@
 //! One copied page.
 
-ghost use Rattle.std.specs.Prelude.{◌≡◌, ◌+◌, ◌%◌, ◌<◌, length, false, replicate};
+ghost use Rattle.std.specs.Prelude.{◌≡◌, ◌+◌, ◌<◌, if◌then◌else◌, length, false, true};
 ghost use Rattle.rv32_exec.specs.Pages.{number_at, put_bytes, size_of};
-ghost use Rattle.page_views.specs.Views.{mark_view};
+ghost use Rattle.std.specs.Option.{option_copied};
+ghost use Rattle.page_views.specs.Views.{mark_view, present_in};
+ghost use Rattle.page_views.specs.Ways.{is_marked};
 
 use cache_ident::{Frame, Ident, Vpn};
 use phys_groups::Flags;
@@ -17,36 +19,41 @@ pub(crate) const PAGE_BYTES: usize = 4_096;
 /// no memory.
 #[derive(Drop)]
 pub struct PageView {
+    // They come first, so that a word is aligned.
+    present: [u8; PAGE_BYTES],
+    first: [u8; PAGE_BYTES],
     vpn: Vpn,
     frame: Frame,
     flags: Flags,
     row: Ident,
-    first: [u8; PAGE_BYTES],
-    present: [u8; PAGE_BYTES],
     touched: bool,
     written: bool,
+    // Whether the first contents are kept apart. Where they aren't, the present ones are still these.
+    apart: bool,
 }
 
 impl Model for PageView {
+    ghost use Rattle.std.specs.Prelude.{if◌then◌else◌};
     ghost use Rattle.page_views.specs.Views.{View};
 
     ghost Value = { View };
 
-    ghost view = { λ v. record { vpn = v.vpn; frame = v.frame; flags = v.flags; row = v.row; first = v.first; present = v.present; touched = v.touched; written = v.written } };
+    ghost view = { λ v. record { vpn = v.vpn; frame = v.frame; flags = v.flags; row = v.row; first = if v.apart then v.first else v.present; present = v.present; touched = v.touched; written = v.written } };
 }
 
 impl PageView {
     // A view of zeros, which nothing was copied to yet.
     pub(crate) fn empty() -> PageView {
         PageView {
+            present: [0; PAGE_BYTES],
+            first: [0; PAGE_BYTES],
             vpn: Vpn(0),
             frame: Frame(0),
             flags: Flags::default(),
             row: Ident::default(),
-            first: [0; PAGE_BYTES],
-            present: [0; PAGE_BYTES],
             touched: false,
             written: false,
+            apart: false,
         }
     }
 
@@ -86,7 +93,11 @@ impl PageView {
         ensures bytes { result.now ≡ self.now.first }
         ensures whole_page { length result.now ≡ 4096 }
     {
-        &self.first
+        if self.apart {
+            &self.first
+        } else {
+            &self.present
+        }
     }
 
     /// The bytes as they are now.
@@ -133,6 +144,7 @@ impl PageView {
         requires { at + size_of width < 4097 }
         ensures { self.new ≡ record self.old { present = put_bytes (size_of width) self.old.present at value } }
     {
+        part(&mut self.apart, &mut self.first, &self.present);
         let bytes = &mut self.present;
         bytes[at] = (value & 0xff) as u8;
         match width {
@@ -148,6 +160,16 @@ impl PageView {
         }
     }
 
+    // Whether it bears the mark of an access.
+    pub(crate) fn is_marked(&self, access: Access) -> bool
+        ensures { result ≡ is_marked access self.now }
+    {
+        match access {
+            Access::Fetch | Access::Read => self.touched,
+            Access::Write => self.touched && self.written,
+        }
+    }
+
     // Leaves the mark of an access.
     #[inline]
     pub(crate) fn mark(&mut self, access: Access)
@@ -159,27 +181,56 @@ impl PageView {
         }
     }
 
-    // Makes it an untouched view of that page, with these bytes as first and as present contents.
+    // Makes it an untouched view of that page, copied from `bytes`. It holds what `touched` holds, if there is one.
     pub(crate) fn copy(
         &mut self,
         vpn: Vpn,
         frame: Frame,
         flags: Flags,
         row: Ident,
-        first: &[u8],
-        present: &[u8],
+        bytes: &[u8],
+        touched: Option<&PageView>,
     )
-        requires first { length first.now ≡ 4096 }
-        requires present { length present.now ≡ 4096 }
-        ensures { self.new ≡ record { vpn = vpn; frame = frame; flags = flags; row = row; first = first.now; present = present.now; touched = false; written = false } }
+        requires { length bytes.now ≡ 4096 }
+        ensures { self.new ≡ record { vpn = vpn; frame = frame; flags = flags; row = row; first = bytes.now; present = present_in (option_copied touched.entry) bytes.now; touched = false; written = false } }
     {
         self.vpn = vpn;
         self.frame = frame;
         self.flags = flags;
         self.row = row;
-        self.first.copy_from_slice(first);
-        self.present.copy_from_slice(present);
         self.touched = false;
         self.written = false;
+        match touched {
+            Some(view) => {
+                self.first.copy_from_slice(bytes);
+                self.present.copy_from_slice(&view.present);
+                self.apart = true;
+            }
+            None => {
+                self.present.copy_from_slice(bytes);
+                self.apart = false;
+            }
+        }
     }
+}
+
+// Keeps the first contents apart from now on.
+#[inline]
+fn part(apart: &mut bool, first: &mut [u8; PAGE_BYTES], present: &[u8; PAGE_BYTES])
+    ensures apart { apart.new ≡ true }
+    ensures first { first.new ≡ (if apart.old then first.old else present.now) }
+{
+    if !*apart {
+        keep(first, present);
+        *apart = true;
+    }
+}
+
+// It stays a call, so that a store is short.
+#[cold]
+#[inline(never)]
+fn keep(first: &mut [u8; PAGE_BYTES], present: &[u8; PAGE_BYTES])
+    ensures { first.new ≡ present.now }
+{
+    first.copy_from_slice(present);
 }

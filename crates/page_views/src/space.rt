@@ -2,14 +2,11 @@
 
 ghost use Rattle.std.specs.Prelude.{◌≡◌, ◌+◌, ◌%◌, ◌<◌, List};
 ghost use Rattle.std.specs.Result.{result_ok};
-ghost use Rattle.std.specs.Option.{option_copied};
 ghost use Rattle.rv32_exec.specs.Pages.{read_through, size_of};
-ghost use Rattle.page_views.specs.Views.{copies_of, pages_of_views, view_through, Copied};
+ghost use Rattle.page_views.specs.Views.{copies_of, pages_of_views, Copied};
 
-use crate::page::PageView;
 use crate::table::PageViews;
 use cache_ident::Vpn;
-use flat_rules::wants;
 use rv32_exec::{Access, Hole, Space, Width};
 use rv32_isa::Instr;
 
@@ -24,17 +21,6 @@ fn place(va: u32, width: Width) -> usize
 }
 
 impl PageViews {
-    /// The view that an access goes through: that of the page of `va`, where its flags let the access through.
-    #[inline]
-    pub fn through(&self, va: u32, access: Access) -> Option<&PageView>
-        ensures { option_copied result ≡ view_through self.now access va }
-    {
-        match self.find(Vpn(va / 4_096)) {
-            Some(view) if wants(access, view.flags()) => Some(view),
-            _ => None,
-        }
-    }
-
     // The number that an access reads.
     #[inline]
     fn read(&self, va: u32, access: Access, width: Width) -> Result<u32, Hole>

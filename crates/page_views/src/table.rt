@@ -1,20 +1,21 @@
 //! Up to eight copied pages.
 
-ghost use Rattle.std.specs.Prelude.{◌≡◌, ◌+◌, ◌<◌, ◌≤◌, [], ◌∷◌, ◌++◌, length, map, find, take, drop, slice_set, IfOk, IsTrue};
+ghost use Rattle.std.specs.Prelude.{◌≡◌, ◌+◌, ◌<◌, ◌≤◌, [], ◌∷◌, ◌++◌, length, map, find, take, drop, slice_set, IfOk, IfSome, IsTrue};
 ghost use Rattle.std.specs.Option.{option_copied};
 ghost use Rattle.rv32_exec.specs.Pages.{size_of};
-ghost use Rattle.page_views.specs.Views.{can_fill as can_fill_def, filled, has_message as has_message_def, is_of_page, is_touched_of, mark_view_of, present_in as present_in_def, put_in_view, HaveOneViewAPage};
+ghost use Rattle.page_views.specs.Views.{can_fill as can_fill_def, filled, has_message as has_message_def, is_of_page, is_touched_of, mark_view_of, put_in_view, view_through, HaveOneViewAPage};
+ghost use Rattle.page_views.specs.Ways.{LeadsTo};
 
 use crate::page::PageView;
+use crate::ways::Ways;
 use cache_ident::{Frame, Ident, NoMemory, Vpn};
+use flat_rules::wants;
 use phys_groups::Flags;
 use rv32_exec::{Access, DecodedWords, Width};
 use std::alloc::Global;
 use std::marker::Model;
 
 const MOST: usize = 8;
-
-const PLACES: usize = 16;
 
 /// Up to eight copied pages, no two of one page. A contract sees the list of the views in the order of their filling.
 ///
@@ -27,20 +28,20 @@ pub struct PageViews {
     count: usize,
     // Whether one of those has the message flag.
     messages: bool,
-    // For each page number modulo 16, where the view filled last of such a page stands. It says only where to look first.
-    places: [usize; PLACES],
+    ways: Ways,
     pub(crate) decoded: DecodedWords,
 }
 
 impl Model for PageViews {
     ghost use Rattle.std.specs.Prelude.{List, take};
     ghost use Rattle.page_views.specs.Views.{View, IsTable};
+    ghost use Rattle.page_views.specs.Ways.{LeadRight};
 
     ghost Value = { List View };
 
     ghost view = { λ table. take table.count table.views.items };
 
-    ghost invariant = { λ table. IsTable table.views.items table.count table.messages };
+    ghost invariant = { λ table. IsTable table.views.items table.count table.messages × LeadRight (take table.count table.views.items) table.ways };
 }
 
 impl PageViews {
@@ -56,7 +57,7 @@ impl PageViews {
             views,
             count: 0,
             messages: false,
-            places: [0; PLACES],
+            ways: Ways::none(),
             decoded: DecodedWords::new(alloc)?,
         })
     }
@@ -67,6 +68,7 @@ impl PageViews {
     {
         self.count = 0;
         self.messages = false;
+        self.ways = Ways::none();
     }
 
     /// The views in the order of their filling.
@@ -102,17 +104,38 @@ impl PageViews {
         ensures { self.new ≡ self.old ++ filled self.old vpn frame flags row bytes.now ∷ [] }
     {
         fill_at(&mut self.views, self.count, vpn, frame, flags, row, bytes);
-        self.places[place_of(vpn)] = self.count;
         self.count += 1;
         self.messages |= flags.m;
     }
 
-    // The view of a page.
+    /// The view that an access goes through: that of the page of `va`, where its flags let the access through.
     #[inline]
-    pub(crate) fn find(&self, vpn: Vpn) -> Option<&PageView>
+    pub fn through(&self, va: u32, access: Access) -> Option<&PageView>
+        ensures { option_copied result ≡ view_through self.now access va }
+    {
+        match self.ways.place(access, Vpn(va / 4_096)) {
+            Some(place) => Some(&self.views[place]),
+            None => self.search(va, access),
+        }
+    }
+
+    // As `through`, where no way to the view was noted.
+    #[cold]
+    #[inline(never)]
+    fn search(&self, va: u32, access: Access) -> Option<&PageView>
+        ensures { option_copied result ≡ view_through self.now access va }
+    {
+        match self.find(Vpn(va / 4_096)) {
+            Some(view) if wants(access, view.flags()) => Some(view),
+            _ => None,
+        }
+    }
+
+    // The view of a page.
+    fn find(&self, vpn: Vpn) -> Option<&PageView>
         ensures { option_copied result ≡ find (is_of_page vpn) self.now }
     {
-        find_in(self.as_slice(), self.places[place_of(vpn)], vpn)
+        self.as_slice().iter().find(|view| view.vpn() == vpn)
     }
 
     // Puts the low bytes of a number into every view of a frame.
@@ -129,35 +152,35 @@ impl PageViews {
     pub(crate) fn mark(&mut self, vpn: Vpn, access: Access)
         ensures { self.new ≡ map (mark_view_of vpn access) self.old }
     {
-        let place = self.places[place_of(vpn)];
-        mark_in(&mut self.views, self.count, place, vpn, access);
+        if self.ways.place(access, vpn).is_none() {
+            self.mark_anew(vpn, access);
+        }
+    }
+
+    // As `mark`, and notes the way to the view.
+    #[cold]
+    #[inline(never)]
+    fn mark_anew(&mut self, vpn: Vpn, access: Access)
+        ensures { self.new ≡ map (mark_view_of vpn access) self.old }
+    {
+        mark_each(&mut self.views, self.count, vpn, access);
+        if let Some(place) = way_in(&self.views[..self.count], vpn, access) {
+            self.ways.note(access, vpn, place);
+        }
     }
 }
 
-// Which place a page looks at.
-#[inline]
-fn place_of(vpn: Vpn) -> usize
-    ensures { result < 16 }
+// The place of the view of a page, where it lets an access through and bears its mark.
+fn way_in(views: &[PageView], vpn: Vpn, access: Access) -> Option<usize>
+    ensures { IfSome result (λ place. LeadsTo access views.now (record { tag = vpn.0 + 1; place = place })) }
 {
-    vpn.0 as usize % PLACES
-}
-
-// The view of a page, which may stand at a place.
-#[inline]
-fn find_in(views: &[PageView], place: usize, vpn: Vpn) -> Option<&PageView>
-    requires { HaveOneViewAPage views.now }
-    ensures { option_copied result ≡ find (is_of_page vpn) views.now }
-{
-    if place < views.len() && views[place].vpn() == vpn {
-        return Some(&views[place]);
+    for place in 0..views.len() {
+        let view = &views[place];
+        if view.vpn() == vpn && wants(access, view.flags()) && view.is_marked(access) {
+            return Some(place);
+        }
     }
-    search_in(views, vpn)
-}
-
-fn search_in(views: &[PageView], vpn: Vpn) -> Option<&PageView>
-    ensures { option_copied result ≡ find (is_of_page vpn) views.now }
-{
-    views.iter().find(|view| view.vpn() == vpn)
+    None
 }
 
 // Copies a page into the view behind the first `count`.
@@ -175,20 +198,8 @@ fn fill_at(
     ensures { views.new ≡ slice_set views.old count (filled (take count views.old) vpn frame flags row bytes.now) }
 {
     let (views, free) = views.split_at_mut(count);
-    let present = present_in(views, frame, bytes);
-    free[0].copy(vpn, frame, flags, row, bytes, present);
-}
-
-// What the first touched view of a frame holds; without one, `bytes`.
-fn present_in<'a>(views: &'a [PageView], frame: Frame, bytes: &'a [u8]) -> &'a [u8]
-    requires { length bytes.now ≡ 4096 }
-    ensures bytes { result.now ≡ present_in_def (find (is_touched_of frame) views.now) bytes.now }
-    ensures whole_page { length result.now ≡ 4096 }
-{
-    match find_touched(views, frame) {
-        Some(view) => view.present(),
-        None => bytes,
-    }
+    let touched = find_touched(views, frame);
+    free[0].copy(vpn, frame, flags, row, bytes, touched);
 }
 
 // The first touched view of a frame.
@@ -222,20 +233,7 @@ fn put_if(view: &mut PageView, frame: Frame, at: usize, width: Width, value: u32
     }
 }
 
-// Leaves the mark of an access on that of the first `count` views that is of a page, which may stand at a place.
-#[inline]
-fn mark_in(views: &mut [PageView], count: usize, place: usize, vpn: Vpn, access: Access)
-    requires count { count ≤ length views.old }
-    requires one_a_page { HaveOneViewAPage (take count views.old) }
-    ensures { views.new ≡ map (mark_view_of vpn access) (take count views.old) ++ drop count views.old }
-{
-    if place < count && views[place].vpn() == vpn {
-        views[place].mark(access);
-        return;
-    }
-    mark_each(views, count, vpn, access);
-}
-
+// Leaves the mark of an access on those of the first `count` views that are of a page.
 fn mark_each(views: &mut [PageView], count: usize, vpn: Vpn, access: Access)
     requires { count ≤ length views.old }
     ensures { views.new ≡ map (mark_view_of vpn access) (take count views.old) ++ drop count views.old }

@@ -108,6 +108,39 @@ fn two_views_of_a_frame_see_one_store(rt: HostRuntime) -> Result<(), Fail> {
     Ok(())
 }
 
+// Page 3 has words to store, page 4 has words to load, and pages 16 apart are asked for in turn.
+#[test]
+fn pages_of_one_remainder_are_told_apart(rt: HostRuntime) -> Result<(), Fail> {
+    let mut views = PageViews::new(rt.alloc())?;
+    assert!(rt; filled(&mut views, 3, 3, &page(0, 0, STORE)));
+    assert!(rt; filled(&mut views, 19, 19, &page(0, 0, LOAD)));
+    for vpn in [1, 17, 33] {
+        assert!(rt; filled(&mut views, vpn, vpn, &[7; 4_096]));
+    }
+    for value in 0..3_u32 {
+        for vpn in [1, 17, 33_u32] {
+            let at = 4_096 * vpn;
+            let stored = stepped(&mut views, 0x3000, [at, 100 * value + vpn, 0]);
+            assert_eq!(rt; stored, (Stepped::Next, 0));
+        }
+        for vpn in [33, 1, 17_u32] {
+            let loaded = stepped(&mut views, 0x1_3000, [0, 0, 4_096 * vpn]);
+            assert_eq!(rt; loaded, (Stepped::Next, 100 * value + vpn));
+        }
+    }
+    let missed = Stepped::Miss {
+        va: 0x3_1000,
+        access: Access::Read,
+    };
+    assert_eq!(rt;
+        stepped(&mut views, 0x1_3000, [0, 0, 0x3_1000]),
+        (missed, 0)
+    );
+    views.clear();
+    assert!(rt; views.through(0x1000, Access::Read).is_none());
+    Ok(())
+}
+
 #[test]
 fn the_last_page_is_followed_by_the_first(rt: HostRuntime) -> Result<(), Fail> {
     let mut views = PageViews::new(rt.alloc())?;

@@ -234,3 +234,31 @@ fn goes_on_once_a_page_is_filled(rt: HostRuntime) -> Result<(), Fail> {
     );
     Ok(())
 }
+
+// Begins with x1 at an address, and with a store there that may signal. Pages 1 and 17 have places that collide; one has
+// the message flag.
+fn begin_between(quantum: &mut Quantum, va: u32) {
+    let mut context = Context {
+        regs: [0; 32],
+        pc: 0,
+    };
+    context.set(1, va);
+    quantum.begin(context);
+    fill(quantum, 0, CODE, &code_page([SW_56, SW_60, ECALL]));
+    fill(quantum, 1, STORE, &[0; 4_096]);
+    fill(quantum, 17, MESSAGE, &[0; 4_096]);
+}
+
+#[test]
+fn a_message_page_is_told_from_one_that_shares_its_place(rt: HostRuntime) -> Result<(), Fail> {
+    let mut quantum = Quantum::new(rt.alloc())?;
+    begin_between(&mut quantum, 0x1000);
+    assert_eq!(rt; quantum.run(256), Paused::Call);
+    assert_eq!(rt; quantum.steps(), 3);
+    begin_between(&mut quantum, 0x1_1000);
+    assert_eq!(rt; quantum.run(256), Paused::Signal);
+    assert_eq!(rt; quantum.steps(), 1);
+    begin_between(&mut quantum, 0x2_1000);
+    assert_eq!(rt; quantum.run(256), miss(0x2_1038, Access::Write));
+    Ok(())
+}

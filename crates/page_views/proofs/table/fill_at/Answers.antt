@@ -12,7 +12,7 @@ returns c =
     let v = filled (take n xs) c.args.vpn c.args.frame c.args.flags c.args.row c.args.bytes.now in
     let is : c.copy.new.self ≡ v =
     c.copy.ensures
-    ∙ ap (λ present. record { vpn = c.args.vpn; frame = c.args.frame; flags = c.args.flags; row = c.args.row; first = c.args.bytes.now; present = present; touched = false; written = false })
-    (c.present_in-present.ensures.bytes ∙ ap (λ (vs : List View). present_in (find (is_touched_of c.args.frame) vs) c.args.bytes.now) parts.front) in
+    ∙ ap (λ touched. record { vpn = c.args.vpn; frame = c.args.frame; flags = c.args.flags; row = c.args.row; first = c.args.bytes.now; present = present_in touched c.args.bytes.now; touched = false; written = false })
+    (c.find_touched-touched.ensures ∙ ap (λ (vs : List View). find (is_touched_of c.args.frame) vs) parts.front) in
     ap₂ (λ (front back : List View). front ++ set back 0 c.copy.new.self) parts.front parts.back
     ∙ (ap (λ (w : View). take n xs ++ set (drop n xs) 0 w) is ∙ set_between n xs v c.requires.room)
