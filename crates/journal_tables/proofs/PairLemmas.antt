@@ -1,16 +1,15 @@
 -- What depends on what, once one comes, leaves or is locked.
-use Rattle.std.proofs.Common.{◌≡◌, ◌≢◌, ◌↔◌, ◌⊎◌, Bool, false, List, [], ◌∷◌, Contains, refl, ap, sym, ◌∙◌, subst, inl, inr}
+use Rattle.std.proofs.Common.{◌≡◌, ◌↔◌, ◌⊎◌, Bool, false, List, [], ◌∷◌, Contains, ap, sym, ◌∙◌, subst, inl, inr}
 use Rattle.std.proofs.lemmas.List.Elements.{Contains-push, Contains-push_cases, Contains-append_left}
 use Rattle.cache_ident.specs.declared.idents.Ident.{Ident}
 use Rattle.cache_ident.specs.declared.names.Name.{Name}
-use Rattle.cache_ident.specs.Residents.{Resident, IsNameResident, with_loaded, without, locked_if, with_lock}
+use Rattle.cache_ident.specs.Residents.{Resident, with_loaded, without, locked_if, with_lock}
 use Rattle.flat_laws.proofs.Members.{Contains-map, Contains-from_map, contains_nothing}
 use Rattle.flat_state.specs.State.{FlatState}
 use Rattle.flat_state.specs.Dependence.{parents, Depends}
 use Rattle.run_journal.proofs.Others.{without_cases, stays_without, locked_keeps}
 use Rattle.residents.specs.declared.dependents.Dependents.{Dependents}
 use Rattle.residents.specs.Pairs.{IsPair}
-use Rattle.residents.proofs.NameLemmas.{name_or}
 use Rattle.journal_tables.specs.Tables.{ArePairsBy}
 
 pub pairs_none : (dependents : Dependents) (s : FlatState) → ((parent child : Name) → IsPair dependents parent child → ⊥) → ArePairsBy dependents s []

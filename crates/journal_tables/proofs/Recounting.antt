@@ -1,5 +1,5 @@
 -- How many are locked, once one count is another.
-use Rattle.std.proofs.Common.{◌≡◌, ◌≢◌, ℕ, Bool, false, Option, refl, ap, sym, ◌∙◌}
+use Rattle.std.proofs.Common.{◌≡◌, ℕ, false, Option, ap, ◌∙◌}
 use Rattle.std.specs.Prelude.{unwrap_or}
 use Rattle.std.specs.BTreeMap.{get, is_at}
 use Rattle.cache_ident.specs.declared.idents.Kind.{Kind}

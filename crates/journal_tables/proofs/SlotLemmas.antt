@@ -1,5 +1,5 @@
 -- Which slots are taken, once one comes, leaves or is locked.
-use Rattle.std.proofs.Common.{◌≡◌, ◌≢◌, ◌↔◌, ◌⊎◌, ℕ, ◌+◌, Bool, true, false, cond, List, [], ◌∷◌, Contains, refl, ap, sym, ◌∙◌, subst, inl, inr, arith}
+use Rattle.std.proofs.Common.{◌≡◌, ◌≢◌, ◌↔◌, ◌⊎◌, ℕ, ◌+◌, Bool, false, cond, List, [], ◌∷◌, Contains, refl, ap, sym, ◌∙◌, subst, inl, inr, arith}
 use Rattle.std.proofs.lemmas.List.Elements.{Contains-push, Contains-push_cases, Contains-append_left}
 use Rattle.cache_ident.specs.declared.idents.Ident.{Ident}
 use Rattle.cache_ident.specs.declared.idents.Kind.{Kind}
@@ -9,10 +9,10 @@ use Rattle.flat_laws.proofs.Members.{Contains-map, Contains-from_map, contains_n
 use Rattle.run_journal.specs.Legal.{IsTaken, count_of, is_kind}
 use Rattle.run_journal.proofs.Others.{without_cases, stays_without, locked_keeps}
 use Rattle.residents.specs.declared.slots.Slots.{Slots}
-use Rattle.residents.specs.Slots.{IsCount, IsTakenIn, IsLowest}
+use Rattle.residents.specs.Slots.{IsCount, IsTakenIn}
 use Rattle.journal_tables.specs.Tables.{AreSlotsOf}
 use Rattle.journal_tables.proofs.Counting.{AreApart, count-loaded, count-without, count-locked}
-use Rattle.journal_tables.proofs.KindLemmas.{kind_or, is_kind-refl, kind_is_not}
+use Rattle.journal_tables.proofs.KindLemmas.{is_kind-refl, kind_is_not}
 
 abbrev of_kind : Kind → Resident → Bool
 of_kind kind r = is_kind r.ident.kind kind

@@ -1,5 +1,5 @@
 -- What the tables are of while nothing comes or goes.
-use Rattle.std.proofs.Common.{◌≡◌, ◌↔◌, ℕ, zero, suc, List, [], replicate, Contains, refl, ap, sym, ◌∙◌, subst}
+use Rattle.std.proofs.Common.{◌≡◌, ◌↔◌, ℕ, zero, suc, List, [], replicate, Contains, refl, sym, ◌∙◌, subst}
 use Rattle.cache_ident.specs.declared.names.Name.{Name}
 use Rattle.cache_ident.specs.declared.names.ThreadNo.{ThreadNo}
 use Rattle.cache_ident.specs.Residents.{Resident}
@@ -7,7 +7,7 @@ use Rattle.flat_state.specs.declared.events.Decl.{Decl}
 use Rattle.flat_state.specs.declared.events.Event.{Event}
 use Rattle.flat_state.specs.declared.events.Event.TheVariants.{Step, Complete}
 use Rattle.flat_state.specs.State.{FlatState}
-use Rattle.flat_state.specs.Dependence.{parents, Depends, owner}
+use Rattle.flat_state.specs.Dependence.{Depends, owner}
 use Rattle.flat_state.specs.Events.{after_events, applied, flat}
 use Rattle.flat_state.specs.WellFormed.{IsWellFormed}
 use Rattle.flat_state.proofs.FormedEvents.{flat_formed}

@@ -1,5 +1,5 @@
 -- What the tables are of, once one comes, leaves or is locked.
-use Rattle.std.proofs.Common.{◌≡◌, ◌≢◌, ◌↔◌, ◌⊎◌, ℕ, ◌+◌, ◌<◌, ◌≤◌, Bool, true, false, List, [], ◌∷◌, Contains, Some, None, refl, ap, sym, ◌∙◌, subst, inl, inr, arith}
+use Rattle.std.proofs.Common.{◌≡◌, ◌≢◌, ◌↔◌, ◌⊎◌, ℕ, ◌+◌, ◌<◌, ◌≤◌, Bool, true, false, List, Contains, Some, None, refl, ap, sym, ◌∙◌, subst, inl, inr, arith}
 use Rattle.std.proofs.lemmas.Bool.{cases_lt, false≢true}
 use Rattle.std.proofs.lemmas.Option.{none-some, same_Some}
 use Rattle.cache_ident.specs.declared.idents.Cause.{Cause}
@@ -13,21 +13,19 @@ use Rattle.cache_ident.specs.Residents.{IsNameResident, Resident, with_loaded, w
 use Rattle.flat_state.specs.State.{FlatState}
 use Rattle.flat_state.specs.Dependence.{parents, Depends, owner}
 use Rattle.run_journal.specs.declared.entries.Entry.TheVariants.{Loaded, WrittenBack, Locked, Unlocked}
-use Rattle.run_journal.specs.Told.{Told, nothing_told, told_after}
-use Rattle.run_journal.specs.Groups.{NothingDependsOn}
+use Rattle.run_journal.specs.Told.{Told, told_after}
 use Rattle.run_journal.specs.Legal.{IsTaken, MayLoad, MayLeave, MayLock, MayUnlock, StaysGood, cap_of, first_ident, limit_of, locked_by}
 use Rattle.residents.specs.declared.dependents.Dependents.{Dependents}
 use Rattle.residents.specs.declared.list.Held.{Held}
 use Rattle.residents.specs.declared.slots.Slots.{Slots}
 use Rattle.residents.specs.Pairs.{IsPair}
 use Rattle.residents.specs.Slots.{IsCount, IsLowest, IsTakenIn}
-use Rattle.residents.specs.Tables.{AreThose, HasNoIdent, HasNoSerial, IsHeldAs, resident_of}
-use Rattle.residents.proofs.NameLemmas.{nat_or}
+use Rattle.residents.specs.Tables.{AreThose, HasNoSerial, IsHeldAs, resident_of}
 use Rattle.journal_tables.specs.declared.kind_slots.KindSlots.{KindSlots}
 use Rattle.journal_tables.specs.declared.locks.Locks.{Locks}
 use Rattle.journal_tables.specs.declared.tables.Tables.{Tables}
 use Rattle.journal_tables.specs.KindSlots.{slots_of}
-use Rattle.journal_tables.specs.Locks.{Recounts, RecountsFor, RecountsIf, lock_count}
+use Rattle.journal_tables.specs.Locks.{Recounts, RecountsIf, lock_count}
 use Rattle.journal_tables.specs.Tables.{AreOf, ArePairsBy, AreSlotsOf, MayLeaveAs}
 use Rattle.journal_tables.proofs.KindLemmas.{kind_or}
 use Rattle.journal_tables.proofs.WholeLemmas.{whole_loaded, whole_left, whole_locked, whole_unlocked}

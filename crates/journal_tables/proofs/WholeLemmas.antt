@@ -1,21 +1,19 @@
 -- What is resident stays whole.
-use Rattle.std.proofs.Common.{◌≡◌, ◌≢◌, ℕ, ◌+◌, ◌<◌, Bool, true, false, List, [], ◌∷◌, Contains, get_or, lit<, refl, ap, sym, ◌∙◌, subst, arith}
+use Rattle.std.proofs.Common.{◌≢◌, ℕ, ◌+◌, ◌<◌, Bool, true, false, List, [], ◌∷◌, Contains, get_or, lit<, refl, ap, sym, ◌∙◌, arith}
 use Rattle.std.proofs.lemmas.List.Elements.{All-contains_itself}
 use Rattle.std.proofs.lemmas.List.Kept.{AllPairs-cons, AllPairs-filter}
 use Rattle.std.proofs.lemmas.List.Quantifiers.{all_pairs_push}
-use Rattle.cache_ident.specs.declared.idents.Cause.{Cause}
 use Rattle.cache_ident.specs.declared.idents.Cause.TheVariants as causes
 use Rattle.cache_ident.specs.declared.idents.Ident.{Ident}
 use Rattle.cache_ident.specs.declared.names.Name.{Name}
 use Rattle.cache_ident.specs.declared.names.ThreadNo.{ThreadNo}
-use Rattle.cache_ident.specs.Rolls.{is_same}
 use Rattle.cache_ident.specs.Residents.{Resident, with_loaded, without, locked_if, with_lock}
 use Rattle.flat_laws.proofs.Members.{contains_nothing, Contains-from_map}
 use Rattle.flat_state.specs.State.{FlatState}
 use Rattle.run_journal.specs.declared.entries.Entry.{Entry}
 use Rattle.run_journal.specs.declared.entries.Entry.TheVariants.{Loaded, WrittenBack, Locked, Unlocked, Ran, Ended, Completed}
 use Rattle.run_journal.specs.Told.{Told, Anything, told_of, told_after}
-use Rattle.run_journal.specs.Legal.{MayHappen, MayLoad, MayLeave, MayLock, MayUnlock, MayRun, MayEnd, MayComplete, MayCome, IsInPlace, IsByProcessor, Comes}
+use Rattle.run_journal.specs.Legal.{MayHappen, MayLoad, MayLeave, MayLock, MayUnlock, MayRun, MayEnd, MayComplete, IsInPlace, IsByProcessor, Comes}
 use Rattle.run_journal.proofs.Others.{locked_keeps}
 use Rattle.run_journal.proofs.Whole.{IsWhole, whole_after}
 use Rattle.journal_tables.specs.Whole.{AreWhole}

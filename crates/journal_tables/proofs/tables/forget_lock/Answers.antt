@@ -1,4 +1,4 @@
-use Rattle.std.proofs.Common.{◌≡◌, Bool, Option, refl, sym, subst}
+use Rattle.std.proofs.Common.{Bool, Option, refl, sym, subst}
 use Rattle.std.proofs.lemmas.Bool.{not-false, not-true}
 use Rattle.cache_ident.specs.declared.names.KernelNo.{KernelNo}
 use Rattle.flat_state.specs.Dependence.{owner}

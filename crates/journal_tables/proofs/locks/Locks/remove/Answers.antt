@@ -1,4 +1,4 @@
-use Rattle.std.proofs.Common.{◌≡◌, ◌-◌, ◌+◌, ◌<◌, ◌≤◌, ℕ, Option, None, ap, sym, ◌∙◌, arith}
+use Rattle.std.proofs.Common.{◌≡◌, ◌-◌, ◌<◌, ◌≤◌, ℕ, Option, None, ap, arith}
 use Rattle.std.specs.Prelude.{unwrap_or}
 use Rattle.residents.proofs.TableLemmas.{unless_err}
 use Rattle.journal_tables.specs.Locks.{lock_count}

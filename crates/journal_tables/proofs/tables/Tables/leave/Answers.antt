@@ -1,9 +1,8 @@
-use Rattle.std.proofs.Common.{◌≡◌, ◌≢◌, ◌↔◌, List, Contains, ap, sym, ◌∙◌, subst}
+use Rattle.std.proofs.Common.{◌≡◌, ◌↔◌, List, Contains, ap, sym, ◌∙◌, subst}
 use Rattle.cache_ident.specs.declared.names.Name.{Name}
 use Rattle.flat_state.specs.State.{FlatState}
 use Rattle.flat_state.specs.Dependence.{owner, parents}
 use Rattle.residents.specs.Pairs.{IsPair}
-use Rattle.residents.specs.Tables.{resident_of}
 use Rattle.journal_tables.specs.Locks.{RecountsIf}
 use Rattle.journal_tables.proofs.TableLemmas.{of_left}
 use Rattle.journal_tables.proofs.tables.Tables.leave.Goals as goal
