@@ -108,7 +108,7 @@ fn two_views_of_a_frame_see_one_store(rt: HostRuntime) -> Result<(), Fail> {
     Ok(())
 }
 
-// Page 3 has words to store, page 4 has words to load, and pages 16 apart are asked for in turn.
+// Page 3 stores and page 19 loads, and pages 16 apart are asked for in turn.
 #[test]
 fn pages_of_one_remainder_are_told_apart(rt: HostRuntime) -> Result<(), Fail> {
     let mut views = PageViews::new(rt.alloc())?;
@@ -118,14 +118,13 @@ fn pages_of_one_remainder_are_told_apart(rt: HostRuntime) -> Result<(), Fail> {
         assert!(rt; filled(&mut views, vpn, vpn, &[7; 4_096]));
     }
     for value in 0..3_u32 {
-        for vpn in [1, 17, 33_u32] {
-            let at = 4_096 * vpn;
-            let stored = stepped(&mut views, 0x3000, [at, 100 * value + vpn, 0]);
+        for at in [0x1000, 0x1_1000, 0x2_1000] {
+            let stored = stepped(&mut views, 0x3000, [at, at ^ value, 0]);
             assert_eq!(rt; stored, (Stepped::Next, 0));
         }
-        for vpn in [33, 1, 17_u32] {
-            let loaded = stepped(&mut views, 0x1_3000, [0, 0, 4_096 * vpn]);
-            assert_eq!(rt; loaded, (Stepped::Next, 100 * value + vpn));
+        for at in [0x2_1000, 0x1000, 0x1_1000] {
+            let loaded = stepped(&mut views, 0x1_3000, [0, 0, at]);
+            assert_eq!(rt; loaded, (Stepped::Next, at ^ value));
         }
     }
     let missed = Stepped::Miss {
