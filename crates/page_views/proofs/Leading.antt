@@ -1,6 +1,6 @@
 -- Where the ways to views lead, and what leaves them right.
-use Rattle.std.proofs.Common.{◌≡◌, ℕ, zero, suc, ◌+◌, ◌<◌, ◌≤◌, ◌/◌, ◌%◌, Bool, true, false, List, [], ◌∷◌, ◌++◌, map, length, take, drop, set, get_or, Option, Some, None, refl, ap, ap₂, sym, ◌∙◌, subst, arith}
-use Rattle.std.specs.Prelude.{◌==◌, ◌&&◌, if◌then◌else◌, is_some, All, Contains, IfSome, replicate, slice_get}
+use Rattle.std.proofs.Common.{◌≡◌, ℕ, ◌+◌, ◌<◌, ◌≤◌, ◌/◌, Bool, true, false, List, [], ◌∷◌, ◌++◌, map, length, take, drop, set, get_or, Option, Some, None, refl, ap, ap₂, sym, ◌∙◌, subst, arith}
+use Rattle.std.specs.Prelude.{◌==◌, if◌then◌else◌, is_some, All, Contains, IfSome}
 use Rattle.std.specs.Option.{option_map}
 use Rattle.std.proofs.lemmas.List.{get_or-take, length-take-le, set-get_or, take_all, take_more_set}
 use Rattle.std.proofs.Math.ListN.{length-set}
@@ -15,7 +15,7 @@ use Rattle.flat_state.specs.Translation.{wants}
 use Rattle.flat_state.proofs.Places.{get-append}
 use Rattle.page_views.specs.declared.ways.Way.{Way}
 use Rattle.page_views.specs.declared.ways.Ways.{Ways}
-use Rattle.page_views.specs.Views.{View, Copied, copied, is_of_page, mark_view, mark_view_of, put_in_view, view_through, where_flagged, HaveOneViewAPage, IsTable}
+use Rattle.page_views.specs.Views.{View, Copied, copied, mark_view, mark_view_of, put_in_view, view_through, where_flagged, HaveOneViewAPage}
 use Rattle.page_views.specs.Ways.{is_marked, no_way, no_ways, noted, ways_of, LeadRight, LeadsTo}
 use Rattle.page_views.proofs.Tables.{first_mapped, first_true, found_at, length-mapped, marked_at, second_true, written_over}
 

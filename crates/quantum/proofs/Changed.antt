@@ -15,7 +15,6 @@ use Rattle.phys_groups.specs.Memory.{page_at}
 use Rattle.phys_groups.specs.Rows.{marked}
 use Rattle.phys_groups.specs.Translation.{Translated, through, no_flag, no_right, judged, covers, is_fit, is_row_of, row_of}
 use Rattle.rv32_exec.specs.declared.statuses.Access.{Access}
-use Rattle.rv32_exec.specs.declared.statuses.Access.TheVariants.{Fetch, Read, Write}
 use Rattle.rv32_exec.specs.Pages.{Page, put_bytes, translation, is_write}
 use Rattle.rv32_exec.specs.Changes.{Change, Marked, Put}
 use Rattle.flat_state.specs.State.{FlatState}

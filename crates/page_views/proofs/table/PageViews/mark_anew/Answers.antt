@@ -3,7 +3,7 @@ use Rattle.std.proofs.Common.{◌+◌, ◌%◌, List, ◌++◌, length, take, dr
 use Rattle.page_views.specs.declared.ways.Way.{Way}
 use Rattle.page_views.specs.declared.ways.Ways.{Ways}
 use Rattle.page_views.specs.Views.{View, mark_view_of}
-use Rattle.page_views.specs.Ways.{noted, LeadRight, LeadsTo}
+use Rattle.page_views.specs.Ways.{LeadRight, LeadsTo}
 use Rattle.page_views.proofs.Leading.{mark_marks, noted_lead, ways_written}
 use Rattle.page_views.proofs.Tables.{mark_copied, table_mapped}
 use Rattle.page_views.proofs.table.PageViews.mark_anew.Goals as goal
