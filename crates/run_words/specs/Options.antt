@@ -1,0 +1,66 @@
+-- What the words of a command line ask for, and which are taken.
+use Rattle.std.specs.Prelude.{◌≡◌, ℕ, Bool, List, Result, Ok, Err, Option, Some, None, codes, if◌then◌else◌, option_and_then, option_map}
+use Rattle.std.specs.Str.{bytes_eq}
+use Rattle.std.specs.Str.Parse.{digits_value, without_leading_plus}
+use Rattle.clap.specs.Words.{Row, Text, first_of, one_of, matches_of, fault_of}
+use Rattle.clap.specs.Walk.{is_empty}
+use Rattle.clap.specs.ValueTests.{is_unsigned_in}
+use Rattle.clap.specs.declared.error.kind.ErrorKind.{ErrorKind}
+use Rattle.clap.specs.declared.error.kind.ErrorKind.TheVariants.{OutOfMemory}
+use Rattle.run_words.specs.declared.options.Mode.{Mode}
+use Rattle.run_words.specs.declared.options.Mode.TheVariants.{Run, Journal, Gen}
+use Rattle.run_words.specs.declared.options.Options.{Options}
+use Rattle.run_words.specs.declared.options.WordsFault.{WordsFault}
+use Rattle.run_words.specs.declared.options.WordsFault.TheVariants.{NoMemory, Refused}
+use Rattle.run_words.specs.Command.{command}
+
+-- the mode of that name
+abbrev pub mode_named : Text → Option Mode
+mode_named name = if bytes_eq name (codes "run") then Some Run else (if bytes_eq name (codes "journal") then Some Journal else (if bytes_eq name (codes "gen") then Some Gen else None))
+
+abbrev pub mode_in : List Row → Option Mode
+mode_in rows = option_and_then mode_named (first_of (codes "mode") rows)
+
+-- the number that decimal digits write, perhaps behind a plus, where it is below 2^32
+abbrev pub number : Text → Option ℕ
+number text = if is_unsigned_in 0 4294967295 text then Some (digits_value 10 (without_leading_plus text)) else None
+
+abbrev pub number_in : Text → List Row → Option ℕ
+number_in name rows = option_and_then number (one_of name rows)
+
+-- what the values ask for that were found for the options
+unfoldable pub options_in : List Row → Option Options
+options_in rows =
+    option_and_then (λ mode.
+    option_and_then (λ cpus.
+    option_and_then (λ steps.
+    option_and_then (λ seed.
+    option_map (λ frames. record { mode = mode; cpus = cpus; steps = steps; seed = seed; frames = frames })
+    (number_in (codes "frames") rows))
+    (number_in (codes "seed") rows))
+    (number_in (codes "steps") rows))
+    (number_in (codes "cpus") rows))
+    (mode_in rows)
+
+-- the command finds no fault in the words
+abbrev pub are_taken : List Text → Bool
+are_taken words = is_empty (fault_of command words)
+
+-- What the words ask for, where the command takes them.
+unfoldable pub options : List Text → Option Options
+options words = if are_taken words then options_in (matches_of command words) else None
+
+-- what no words ask for
+abbrev pub by_default : Options
+by_default = record { mode = Run; cpus = 1; steps = 1000000; seed = 0; frames = 64 }
+
+-- why a parse failed
+abbrev pub fault_by : ErrorKind → WordsFault
+fault_by OutOfMemory = NoMemory
+fault_by _ = Refused
+
+-- The words ask for what was read; or they aren't taken, or memory ran out.
+abbrev pub IsReading : List Text → Result Options WordsFault → Type 0
+IsReading words (Ok o) = options words ≡ Some o
+IsReading words (Err NoMemory) = Unit {0}
+IsReading words (Err Refused) = options words ≡ None

@@ -1,0 +1,42 @@
+use super::*;
+use std::test::Fail;
+
+#[test]
+fn words_that_are_read(rt: HostRuntime) -> Result<(), Fail> {
+    let mut words = Words::new(rt.alloc());
+    for word in ["--mode", "gen", "--seed=7", "--steps", "10"] {
+        words.push(word)?;
+    }
+    let Ok(options) = read(rt.alloc(), &words) else {
+        return Err(Fail::from("the words are taken"));
+    };
+    assert!(rt; matches!(options.mode, Mode::Gen));
+    assert_eq!(rt;
+        (options.cpus, options.steps, options.seed, options.frames),
+        (1, 10, 7, 64)
+    );
+    Ok(())
+}
+
+#[test]
+fn words_that_are_refused(rt: HostRuntime) -> Result<(), Fail> {
+    let cases: [&[&str]; 9] = [
+        &["x"],
+        &["--help"],
+        &["--mode", "page"],
+        &["--mode"],
+        &["--cpus", "9"],
+        &["--seed", "-1"],
+        &["--steps", "5", "--steps", "6"],
+        &["--frames=1"],
+        &["--", "run"],
+    ];
+    for case in cases {
+        let mut words = Words::new(rt.alloc());
+        for word in case {
+            words.push(word)?;
+        }
+        assert!(rt; matches!(read(rt.alloc(), &words), Err(WordsFault::Refused)));
+    }
+    Ok(())
+}
