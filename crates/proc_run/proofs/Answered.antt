@@ -1,6 +1,8 @@
--- What is told of the bytes of a source, and of how a run came out.
-use Rattle.std.proofs.Common.{◌≡◌, ℕ, ◌≤◌, List, length, Option, Some, None, Result, Err, refl, sym, ap, ap₂, ◌∙◌, subst, ◌⊎◌, inl, inr}
+-- How a run is answered, and what is due by words and by the bytes of a source.
+use Rattle.std.proofs.Common.{◌≡◌, ℕ, ◌<◌, ◌≤◌, true, List, length, Option, Some, None, Result, Err, refl, sym, ap, ap₂, ◌∙◌, subst, ◌⊎◌, inl, inr, arith}
 use Rattle.std.specs.Prelude.{IfSome}
+use Rattle.std.specs.Io.KnownBytes.{IsAtEnd}
+use Rattle.std.proofs.KnownBytes.{Keeps-refl}
 use Rattle.flat_state.specs.declared.events.Decl.{Decl}
 use Rattle.flat_state.specs.declared.records.Settled.{Settled}
 use Rattle.flat_state.specs.declared.records.Settled.TheVariants as settled
@@ -11,17 +13,21 @@ use Rattle.scenario_reader.specs.declared.fault.ScenarioFault.TheVariants as fau
 use Rattle.scenario_reader.specs.Scenarios.{scenario}
 use Rattle.run_journal.specs.declared.entries.Entry.{Entry}
 use Rattle.run_journal.specs.Entries.{Written}
+use Rattle.run_words.specs.declared.options.Mode.{Mode}
+use Rattle.run_words.specs.declared.options.Mode.TheVariants.{Run, Journal, Gen}
+use Rattle.run_words.specs.declared.options.Options.{Options}
+use Rattle.run_words.specs.Options.{options}
+use Rattle.proc_run.specs.declared.outcome.Kept.{Kept}
 use Rattle.proc_run.specs.declared.outcome.Kept.TheVariants as kept
 use Rattle.proc_run.specs.declared.outcome.RunStatus.{RunStatus}
 use Rattle.proc_run.specs.declared.outcome.RunStatus.TheVariants.{Done, Stalled, Spent, ReadFault, WriteFault, BadScenario, NoMemory, Usage, TooLong}
-use Rattle.report_text.specs.Reports.{report}
 use Rattle.proc_run.specs.Running.{IsRun}
-use Rattle.proc_run.specs.Outcomes.{most_bytes, step_limit, IsScenario, HasFault, IsRan, ComesOut, ComesOutOrNoMemory, IsRunOf}
-use Rattle.proc_run.specs.Dues.{status_of, IsDueFor}
+use Rattle.proc_run.specs.Texts.{text_of}
+use Rattle.proc_run.specs.Outcomes.{most_bytes, IsScenario, HasFault, ComesOut, ComesOutOrNoMemory, IsRunOf, IsAnswer, reads_in, ComesFrom, IsDueBy, IsDue, IsToldIn, IsTold, IsFaultlessIn, IsFaultless, reads_source, IsRefusal}
+use Rattle.proc_run.specs.Dues.{status_of}
+use Rattle.scenario_gen.specs.Generated.{text as generated}
 
-pub fault_told : (bs : List ℕ) (bytes : Option (List ℕ)) (line rule : ℕ) → IfSome bytes (λ told. bs ≡ told) → length bs ≤ most_bytes → HasFault bs line rule → IfSome bytes (λ told. (length told ≤ most_bytes) × HasFault told line rule)
-fault_told bs None line rule told short faulty = tt
-fault_told bs (Some bytes) line rule told short faulty = subst (λ (x : List ℕ). (length x ≤ most_bytes) × HasFault x line rule) told (short, faulty)
+-- ---- answers to the text of a scenario
 
 two_faults : (line rule : ℕ) → faults.Bad line rule ≡ faults.NoMemory → ⊥
 two_faults line rule e = cc
@@ -31,10 +37,149 @@ pub first_fault : (bs : List ℕ) (e : ScenarioFault) (line rule : ℕ) → e �
 first_fault bs e line rule is (inl none) = absurd (two_faults line rule (sym is ∙ none))
 first_fault bs e line rule is (inr meant) = meant ∙ ap (λ (x : ScenarioFault). Err x) is
 
-pub comes_by_fault : (bs : List ℕ) (line rule : ℕ) (status : RunStatus) → HasFault bs line rule → status ≡ BadScenario line rule → ComesOut (scenario bs) status
-comes_by_fault bs line rule status meant is = subst (λ (m : Result (List Decl) ScenarioFault). ComesOut m status) (sym meant) is
+-- the machine of a run to its end, and its text, are those that are due
+run_of : (o : Options) (ds : List Decl) (bs : List ℕ) (j : List Entry) (s : FlatState) (how : Settled) (steps : ℕ) (text : List ℕ) → IsRun ds j s how steps o.steps → text ≡ text_of o j s how steps → IsScenario bs ds → IsRunOf o bs how j text
+run_of o ds bs j s how steps text ran written is_scenario = record {
+  decls = ds;
+  is_scenario = is_scenario;
+  rest = ran.rest;
+  begins = ran.begins;
+  fits = ran.fits;
+  settled_so = ran.status ∙ ap₂ (λ t n. settled_of t n o.steps) ran.state ran.count;
+  written = written ∙ ap₂ (λ t n. text_of o j t how n) ran.state ran.count;
+}
 
-pub or_no_memory : (read : Result (List Decl) ScenarioFault) (status : RunStatus) → ComesOut read status → ComesOutOrNoMemory read status
+pub run_is_answer : (o : Options) (ds : List Decl) (bs : List ℕ) (j : Written) (s : FlatState) (how : Settled) (steps : ℕ) (text : List ℕ) → IsRun ds j.entries s how steps o.steps → text ≡ text_of o j.entries s how steps → IsScenario bs ds → IsAnswer o bs (status_of how) (kept.Journal j) text
+run_is_answer o ds bs j s settled.Done steps text ran written is_scenario = run_of o ds bs j.entries s settled.Done steps text ran written is_scenario
+run_is_answer o ds bs j s settled.Stalled steps text ran written is_scenario = run_of o ds bs j.entries s settled.Stalled steps text ran written is_scenario
+run_is_answer o ds bs j s settled.Spent steps text ran written is_scenario = run_of o ds bs j.entries s settled.Spent steps text ran written is_scenario
+run_is_answer o ds bs j s settled.Running steps text ran written is_scenario = absurd (ran.over refl)
+
+-- a scenario runs to its end, and any other text is answered by its first fault
+comes_out : (o : Options) (bs : List ℕ) (status : RunStatus) (k : Kept) (text : List ℕ) → IsAnswer o bs status k text → ComesOut (scenario bs) status
+comes_out o bs Done (kept.Journal j) text answer = rw answer.is_scenario tt
+comes_out o bs Done kept.Nothing text answer = absurd answer
+comes_out o bs Stalled (kept.Journal j) text answer = rw answer.is_scenario tt
+comes_out o bs Stalled kept.Nothing text answer = absurd answer
+comes_out o bs Spent (kept.Journal j) text answer = rw answer.is_scenario tt
+comes_out o bs Spent kept.Nothing text answer = absurd answer
+comes_out o bs ReadFault k text answer = absurd answer
+comes_out o bs WriteFault k text answer = absurd answer
+comes_out o bs (BadScenario line rule) kept.Nothing text answer = rw answer.0 refl
+comes_out o bs (BadScenario line rule) (kept.Journal j) text answer = absurd answer
+comes_out o bs NoMemory k text answer = absurd answer
+comes_out o bs Usage k text answer = absurd answer
+comes_out o bs TooLong k text answer = absurd answer
+
+-- ---- what is due by options
+
+pub by_text : (o : Options) (bytes left : Option (List ℕ)) (bs : List ℕ) (status : RunStatus) (k : Kept) (text : List ℕ) → ComesFrom o.mode o.seed bytes left bs → IsAnswer o bs status k text → IsDueBy o bytes left status k text
+by_text o bytes left bs Done k text from answer = (bs, from, answer)
+by_text o bytes left bs Stalled k text from answer = (bs, from, answer)
+by_text o bytes left bs Spent k text from answer = (bs, from, answer)
+by_text o bytes left bs ReadFault k text from answer = absurd answer
+by_text o bytes left bs WriteFault k text from answer = absurd answer
+by_text o bytes left bs (BadScenario line rule) k text from answer = (bs, from, answer)
+by_text o bytes left bs NoMemory k text from answer = absurd answer
+by_text o bytes left bs Usage k text from answer = absurd answer
+by_text o bytes left bs TooLong k text from answer = absurd answer
+
+-- the bytes that were read to the end of the source
+from_source : (mode : Mode) (seed : ℕ) (bytes left : Option (List ℕ)) (bs : List ℕ) → reads_in mode ≡ true → IfSome bytes (λ told. bs ≡ told) → IsAtEnd left → length bs ≤ most_bytes → ComesFrom mode seed bytes left bs
+from_source Run seed bytes left bs reads told at_end few = (told, at_end, few)
+from_source Journal seed bytes left bs reads told at_end few = (told, at_end, few)
+from_source Gen seed bytes left bs reads told at_end few = absurd cc
+
+pub from_read : (mode : Mode) (seed : ℕ) (bytes left : Option (List ℕ)) (items bs : List ℕ) → bs ≡ items → reads_in mode ≡ true → IfSome bytes (λ told. items ≡ told) → IsAtEnd left → length items ≤ most_bytes → ComesFrom mode seed bytes left bs
+from_read mode seed bytes left items bs is reads told at_end few =
+    subst (λ (x : List ℕ). ComesFrom mode seed bytes left x) (sym is) (from_source mode seed bytes left items reads told at_end few)
+
+-- the text that was made from the seed
+pub from_seed : (mode : Mode) (seed : ℕ) (bytes : Option (List ℕ)) (bs : List ℕ) → mode ≡ Gen → bs ≡ generated seed → ComesFrom mode seed bytes bytes bs
+from_seed mode seed bytes bs is made = subst (λ (m : Mode). ComesFrom m seed bytes bytes bs) (sym is) (Keeps-refl bytes, made)
+
+same_text : (mode : Mode) (seed : ℕ) (bytes left : Option (List ℕ)) (bs told : List ℕ) → IsToldIn mode seed bytes told → ComesFrom mode seed bytes left bs → bs ≡ told
+same_text Run seed bytes left bs told is from = subst (λ (b : Option (List ℕ)). IfSome b (λ t. bs ≡ t)) is.0 from.0
+same_text Journal seed bytes left bs told is from = subst (λ (b : Option (List ℕ)). IfSome b (λ t. bs ≡ t)) is.0 from.0
+same_text Gen seed bytes left bs told is from = from.1 ∙ sym is
+
+-- a text that is told isn't too long
+not_too_long : (mode : Mode) (seed : ℕ) (bytes : Option (List ℕ)) (told : List ℕ) → IsToldIn mode seed bytes told → reads_in mode ≡ true → IfSome bytes (λ bs. most_bytes < length bs) → ⊥
+not_too_long Run seed bytes told is reads long =
+    let more : most_bytes < length told = subst (λ (b : Option (List ℕ)). IfSome b (λ bs. most_bytes < length bs)) is.0 long in
+    omega (arith, is.1, more)
+not_too_long Journal seed bytes told is reads long =
+    let more : most_bytes < length told = subst (λ (b : Option (List ℕ)). IfSome b (λ bs. most_bytes < length bs)) is.0 long in
+    omega (arith, is.1, more)
+not_too_long Gen seed bytes told is reads long = absurd cc
+
+by_answer : (o : Options) (bytes left : Option (List ℕ)) (status : RunStatus) (k : Kept) (text told : List ℕ) → IsTold o bytes told → (bs : List ℕ) × ComesFrom o.mode o.seed bytes left bs × IsAnswer o bs status k text → ComesOut (scenario told) status
+by_answer o bytes left status k text told is due =
+    subst (λ (bs : List ℕ). ComesOut (scenario bs) status) (same_text o.mode o.seed bytes left due.0 told is due.1) (comes_out o due.0 status k text due.2)
+
+complete_by : (o : Options) (bytes left : Option (List ℕ)) (status : RunStatus) (k : Kept) (text told : List ℕ) → IsTold o bytes told → IsDueBy o bytes left status k text → ComesOut (scenario told) status
+complete_by o bytes left Done k text told is due = by_answer o bytes left Done k text told is due
+complete_by o bytes left Stalled k text told is due = by_answer o bytes left Stalled k text told is due
+complete_by o bytes left Spent k text told is due = by_answer o bytes left Spent k text told is due
+complete_by o bytes left ReadFault k text told is due = absurd due.2
+complete_by o bytes left WriteFault k text told is due = absurd due.2
+complete_by o bytes left (BadScenario line rule) k text told is due = by_answer o bytes left (BadScenario line rule) k text told is due
+complete_by o bytes left NoMemory k text told is due = absurd due.2
+complete_by o bytes left Usage k text told is due = absurd due.2
+complete_by o bytes left TooLong kept.Nothing text told is due = absurd (not_too_long o.mode o.seed bytes told is due.0 due.1)
+complete_by o bytes left TooLong (kept.Journal j) text told is due = absurd due.2
+
+-- ---- what is due by words
+
+pub by_words : (words : List (List ℕ)) (o : Options) (bytes left : Option (List ℕ)) (status : RunStatus) (k : Kept) (text : List ℕ) → options words ≡ Some o → IsDueBy o bytes left status k text → IsDue words bytes left status k text
+by_words words o bytes left Done k text taken due = (o, taken, due)
+by_words words o bytes left Stalled k text taken due = (o, taken, due)
+by_words words o bytes left Spent k text taken due = (o, taken, due)
+by_words words o bytes left ReadFault k text taken due = (o, taken, due)
+by_words words o bytes left WriteFault k text taken due = (o, taken, due)
+by_words words o bytes left (BadScenario line rule) k text taken due = (o, taken, due)
+by_words words o bytes left NoMemory k text taken due = (o, taken, due)
+by_words words o bytes left Usage k text taken due = absurd due.2
+by_words words o bytes left TooLong k text taken due = (o, taken, due)
+
+taken_or_not : (words : List (List ℕ)) (o : Options) (P : Type 0) → options words ≡ None → options words ≡ Some o → P
+taken_or_not words o P none some = none_is_some (sym none ∙ some)
+  where
+    none_is_some : None ≡ Some o → P
+    none_is_some e = cc
+
+-- words that aren't taken are refused
+pub refused_so : (words : List (List ℕ)) (bytes left : Option (List ℕ)) (status : RunStatus) (k : Kept) (text : List ℕ) → options words ≡ None → IsDue words bytes left status k text → IsRefusal status
+refused_so words bytes left Done k text none due = taken_or_not words due.0 _ none due.1
+refused_so words bytes left Stalled k text none due = taken_or_not words due.0 _ none due.1
+refused_so words bytes left Spent k text none due = taken_or_not words due.0 _ none due.1
+refused_so words bytes left ReadFault k text none due = taken_or_not words due.0 _ none due.1
+refused_so words bytes left WriteFault k text none due = tt
+refused_so words bytes left (BadScenario line rule) k text none due = taken_or_not words due.0 _ none due.1
+refused_so words bytes left NoMemory k text none due = tt
+refused_so words bytes left Usage k text none due = tt
+refused_so words bytes left TooLong k text none due = taken_or_not words due.0 _ none due.1
+
+some_is : (o p : Options) → Some o ≡ Some p → o ≡ p
+some_is o p e = cc
+
+by_options : (words : List (List ℕ)) (o : Options) (bytes left : Option (List ℕ)) (status : RunStatus) (k : Kept) (text told : List ℕ) → options words ≡ Some o → IsTold o bytes told → (p : Options) × (options words ≡ Some p) × IsDueBy p bytes left status k text → ComesOut (scenario told) status
+by_options words o bytes left status k text told taken is due =
+    complete_by o bytes left status k text told is (subst (λ (p : Options). IsDueBy p bytes left status k text) (some_is due.0 o (sym due.1 ∙ taken)) due.2)
+
+complete_so : (words : List (List ℕ)) (o : Options) (bytes left : Option (List ℕ)) (status : RunStatus) (k : Kept) (text told : List ℕ) → options words ≡ Some o → IsTold o bytes told → IsDue words bytes left status k text → ComesOut (scenario told) status
+complete_so words o bytes left Done k text told taken is due = by_options words o bytes left Done k text told taken is due
+complete_so words o bytes left Stalled k text told taken is due = by_options words o bytes left Stalled k text told taken is due
+complete_so words o bytes left Spent k text told taken is due = by_options words o bytes left Spent k text told taken is due
+complete_so words o bytes left ReadFault k text told taken is due = by_options words o bytes left ReadFault k text told taken is due
+complete_so words o bytes left WriteFault k text told taken is due = by_options words o bytes left WriteFault k text told taken is due
+complete_so words o bytes left (BadScenario line rule) k text told taken is due = by_options words o bytes left (BadScenario line rule) k text told taken is due
+complete_so words o bytes left NoMemory k text told taken is due = by_options words o bytes left NoMemory k text told taken is due
+complete_so words o bytes left Usage kept.Nothing text told taken is due = taken_or_not words o _ due.0 taken
+complete_so words o bytes left Usage (kept.Journal j) text told taken is due = by_options words o bytes left Usage (kept.Journal j) text told taken is due
+complete_so words o bytes left TooLong k text told taken is due = by_options words o bytes left TooLong k text told taken is due
+
+or_no_memory : (read : Result (List Decl) ScenarioFault) (status : RunStatus) → ComesOut read status → ComesOutOrNoMemory read status
 or_no_memory read Done out = out
 or_no_memory read Stalled out = out
 or_no_memory read Spent out = out
@@ -45,21 +190,15 @@ or_no_memory read NoMemory out = tt
 or_no_memory read Usage out = out
 or_no_memory read TooLong out = out
 
--- the machine of a run to its end, and its report, are those that are due
-run_of : (ds : List Decl) (j : List Entry) (s : FlatState) (how : Settled) (steps : ℕ) (text : List ℕ) (bytes : Option (List ℕ)) → IsRun ds j s how steps step_limit → text ≡ report s how steps → IfSome bytes (λ bs. length bs ≤ most_bytes) → IfSome bytes (λ bs. IsScenario bs ds) → IsRunOf bytes how j text
-run_of ds j s how steps text bytes ran reported few is_scenario = record {
-  decls = ds;
-  few = few;
-  is_scenario = is_scenario;
-  rest = ran.rest;
-  begins = ran.begins;
-  fits = ran.fits;
-  settled_so = ran.status ∙ ap₂ (λ t n. settled_of t n step_limit) ran.state ran.count;
-  reported = reported ∙ ap₂ (λ t n. report t how n) ran.state ran.count;
-}
+-- what is due where no end fails
+pub completes : (words : List (List ℕ)) (o : Options) (bytes left : Option (List ℕ)) (status : RunStatus) (k : Kept) (text told : List ℕ) → options words ≡ Some o → IsTold o bytes told → IsDue words bytes left status k text → ComesOutOrNoMemory (scenario told) status
+completes words o bytes left status k text told taken is due = or_no_memory (scenario told) status (complete_so words o bytes left status k text told taken is due)
 
-pub run_is_due : (ds : List Decl) (j : Written) (s : FlatState) (how : Settled) (steps : ℕ) (text : List ℕ) → IsRun ds j.entries s how steps step_limit → text ≡ report s how steps → IsDueFor ds (status_of how) (kept.Journal j) text
-run_is_due ds j s settled.Done steps text ran reported bytes left few is_scenario at_end = (refl, at_end, run_of ds j.entries s settled.Done steps text bytes ran reported few is_scenario)
-run_is_due ds j s settled.Stalled steps text ran reported bytes left few is_scenario at_end = (refl, at_end, run_of ds j.entries s settled.Stalled steps text bytes ran reported few is_scenario)
-run_is_due ds j s settled.Spent steps text ran reported bytes left few is_scenario at_end = (refl, at_end, run_of ds j.entries s settled.Spent steps text bytes ran reported few is_scenario)
-run_is_due ds j s settled.Running steps text ran reported bytes left few is_scenario at_end = absurd (ran.over refl)
+faulty_in : (mode : Mode) (P : Type 0) → reads_in mode ≡ true → IsFaultlessIn mode P → P → ⊥
+faulty_in Run P reads faultless risen = faultless risen
+faulty_in Journal P reads faultless risen = faultless risen
+faulty_in Gen P reads faultless risen = absurd cc
+
+-- a source that is read and fails is in the way
+pub faulty : (words : List (List ℕ)) (o : Options) (P : Type 0) → options words ≡ Some o → reads_source (options words) ≡ true → IsFaultless o P → P → ⊥
+faulty words o P taken reads faultless risen = faulty_in o.mode P (sym (ap reads_source taken) ∙ reads) faultless risen

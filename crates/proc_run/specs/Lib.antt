@@ -1,5 +1,6 @@
 pub mod Fitting
 pub mod Counts
 pub mod Running
+pub mod Texts
 pub mod Outcomes
 pub mod Dues

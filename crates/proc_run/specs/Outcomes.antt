@@ -1,5 +1,5 @@
 -- What is due to be written, and what each answer of the whole run says.
-use Rattle.std.specs.Prelude.{◌≡◌, ◌≢◌, ℕ, ◌<◌, ◌≤◌, List, [], ◌++◌, length, codes, Option, IfSome, Result, Ok, Err}
+use Rattle.std.specs.Prelude.{◌≡◌, ℕ, ◌<◌, ◌≤◌, Bool, true, false, List, ◌++◌, length, codes, Option, Some, None, IfSome, Result, Ok, Err}
 use Rattle.std.specs.Fmt.{decimal}
 use Rattle.std.specs.Io.KnownBytes.{IsAtEnd, Keeps}
 use Rattle.byte_ports.specs.Whole.{TakesMore}
@@ -19,18 +19,19 @@ use Rattle.proc_run.specs.declared.outcome.Kept.TheVariants as kept
 use Rattle.run_journal.specs.Entries.{erase, steps_in}
 use Rattle.run_journal.specs.Points.{opening}
 use Rattle.proc_run.specs.Fitting.{FitsInOrder}
-use Rattle.report_text.specs.Reports.{report}
+use Rattle.scenario_gen.specs.Generated.{text as generated}
+use Rattle.run_words.specs.declared.options.Mode.{Mode}
+use Rattle.run_words.specs.declared.options.Mode.TheVariants.{Run, Journal, Gen}
+use Rattle.run_words.specs.declared.options.Options.{Options}
+use Rattle.run_words.specs.Options.{options}
+use Rattle.proc_run.specs.Texts.{text_of}
 
 -- how many bytes a scenario may have
 abbrev pub most_bytes : ℕ
 most_bytes = 4194304
 
--- how many steps a run may take
-abbrev pub step_limit : ℕ
-step_limit = 1000000
-
 abbrev pub usage_line : List ℕ
-usage_line = codes "usage: v_run [--mode run|journal|gen] [--cpus N] [--steps N] [--seed N]\n"
+usage_line = codes "usage: v_run [--mode run|journal|gen|check|page] [--cpus N] [--steps N] [--seed N] [--frames N]\n"
 
 abbrev pub too_long_line : List ℕ
 too_long_line = codes "too long\n"
@@ -57,32 +58,77 @@ IsScenario bytes ds = scenario bytes ≡ Ok ds
 abbrev pub HasFault : List ℕ → ℕ → ℕ → Type 0
 HasFault bytes line rule = scenario bytes ≡ Err (faults.Bad line rule)
 
--- The bytes, where they were told, are not too many and a scenario. The journal begins with its declarations and the seal, and
--- fits in order. The run is settled so, as the machine with unlimited tables is on what is left of the journal, and the
--- text is the report of that machine.
-pub record IsRunOf (bytes : Option (List ℕ)) (how : Settled) (j : List Entry) (text : List ℕ) : Type 0 where
+-- ---- what is due
+
+-- The text is a scenario. The journal begins with its declarations and the seal, and fits in order. The run is settled so, as
+-- the machine with unlimited tables is on what is left of the journal, at the limit of steps; and this is the text on it
+-- that the mode has.
+pub record IsRunOf (o : Options) (scenario_text : List ℕ) (how : Settled) (j : List Entry) (text : List ℕ) : Type 0 where
   pub decls : List Decl
-  pub few : IfSome bytes (λ bs. length bs ≤ most_bytes)
-  pub is_scenario : IfSome bytes (λ bs. IsScenario bs decls)
+  pub is_scenario : IsScenario scenario_text decls
   pub rest : List Entry
   pub begins : j ≡ opening decls ++ rest
   pub fits : FitsInOrder j
-  pub settled_so : how ≡ settled_of (flat (erase j)) (steps_in j) step_limit
-  pub reported : text ≡ report (flat (erase j)) how (steps_in j)
+  pub settled_so : how ≡ settled_of (flat (erase j)) (steps_in j) o.steps
+  pub written : text ≡ text_of o j (flat (erase j)) how (steps_in j)
 
--- This text is due with this status, and this is kept: from the words, the bytes that the source had, and those that
--- it has left. With words it is the usage line.
+-- this status, what is kept and what is written are the answer to the text of a scenario
+abbrev pub IsAnswer : Options → List ℕ → RunStatus → Kept → List ℕ → Type 0
+IsAnswer o bs Done (kept.Journal j) text = IsRunOf o bs settled.Done j.entries text
+IsAnswer o bs Stalled (kept.Journal j) text = IsRunOf o bs settled.Stalled j.entries text
+IsAnswer o bs Spent (kept.Journal j) text = IsRunOf o bs settled.Spent j.entries text
+IsAnswer o bs (BadScenario line rule) kept.Nothing text = HasFault bs line rule × (text ≡ fault_line line rule)
+IsAnswer o bs status k text = ⊥
+
+-- is the scenario read from the source?
+abbrev pub reads_in : Mode → Bool
+reads_in Run = true
+reads_in Journal = true
+reads_in Gen = false
+
+-- do the words ask to read the source?
+abbrev pub reads_source : Option Options → Bool
+reads_source None = false
+reads_source (Some o) = reads_in o.mode
+
+-- where the scenario's text comes from: the source, which it empties and had no more bytes than a scenario may have; or
+-- the seed
+abbrev pub ComesFrom : Mode → ℕ → Option (List ℕ) → Option (List ℕ) → List ℕ → Type 0
+ComesFrom Run seed bytes left bs = IfSome bytes (λ told. bs ≡ told) × IsAtEnd left × (length bs ≤ most_bytes)
+ComesFrom Journal seed bytes left bs = IfSome bytes (λ told. bs ≡ told) × IsAtEnd left × (length bs ≤ most_bytes)
+ComesFrom Gen seed bytes left bs = Keeps bytes left × (bs ≡ generated seed)
+
+-- This text is due by these options with this status, and this is kept, where the source had these bytes and has those
+-- left.
+abbrev pub IsDueBy : Options → Option (List ℕ) → Option (List ℕ) → RunStatus → Kept → List ℕ → Type 0
+IsDueBy o bytes left TooLong kept.Nothing text =
+    (reads_in o.mode ≡ true) × IfSome bytes (λ bs. most_bytes < length bs) × TakesMore bytes left most_bytes × (text ≡ too_long_line)
+IsDueBy o bytes left status k text = (bs : List ℕ) × ComesFrom o.mode o.seed bytes left bs × IsAnswer o bs status k text
+
+-- The same by words. Those that aren't taken are answered with the usage line.
 abbrev pub IsDue : List (List ℕ) → Option (List ℕ) → Option (List ℕ) → RunStatus → Kept → List ℕ → Type 0
-IsDue words bytes left Done (kept.Journal j) text = (words ≡ []) × IsAtEnd left × IsRunOf bytes settled.Done j.entries text
-IsDue words bytes left Stalled (kept.Journal j) text = (words ≡ []) × IsAtEnd left × IsRunOf bytes settled.Stalled j.entries text
-IsDue words bytes left Spent (kept.Journal j) text = (words ≡ []) × IsAtEnd left × IsRunOf bytes settled.Spent j.entries text
-IsDue words bytes left Usage kept.Nothing text = (words ≢ []) × Keeps bytes left × (text ≡ usage_line)
-IsDue words bytes left TooLong kept.Nothing text =
-    (words ≡ []) × IfSome bytes (λ bs. most_bytes < length bs) × TakesMore bytes left most_bytes × (text ≡ too_long_line)
-IsDue words bytes left (BadScenario line rule) kept.Nothing text =
-    (words ≡ []) × IsAtEnd left × IfSome bytes (λ bs. (length bs ≤ most_bytes) × HasFault bs line rule) × (text ≡ fault_line line rule)
--- nothing else is due
-IsDue words bytes left status k text = ⊥
+IsDue words bytes left Usage kept.Nothing text = (options words ≡ None) × Keeps bytes left × (text ≡ usage_line)
+IsDue words bytes left status k text = (o : Options) × (options words ≡ Some o) × IsDueBy o bytes left status k text
+
+-- the text of the scenario is told
+abbrev pub IsToldIn : Mode → ℕ → Option (List ℕ) → List ℕ → Type 0
+IsToldIn Run seed bytes text = (bytes ≡ Some text) × (length text ≤ most_bytes)
+IsToldIn Journal seed bytes text = (bytes ≡ Some text) × (length text ≤ most_bytes)
+IsToldIn Gen seed bytes text = text ≡ generated seed
+
+abbrev pub IsTold : Options → Option (List ℕ) → List ℕ → Type 0
+IsTold o bytes text = IsToldIn o.mode o.seed bytes text
+
+-- no fault of the source is in the way
+abbrev pub IsFaultlessIn : Mode → Type 0 → Type 0
+IsFaultlessIn Run risen = risen → ⊥
+IsFaultlessIn Journal risen = risen → ⊥
+IsFaultlessIn Gen risen = Unit {0}
+
+abbrev pub IsFaultless : Options → Type 0 → Type 0
+IsFaultless o risen = IsFaultlessIn o.mode risen
+
+-- ---- facts for some answers alone
 
 -- P where a text was written whole
 abbrev pub OnWritten : RunStatus → Type 0 → Type 0

@@ -1,16 +1,16 @@
-//! The whole run: from the bytes of a scenario to those of its report.
+//! The whole run: from words and the bytes of a scenario to the text that is due.
 #![tactic(auto)]
 
 mod machine;
 mod outcome;
 mod report;
 mod run;
-mod words;
+mod text;
 
 pub use machine::run_machine;
 pub use outcome::{Kept, Outcome, RunStatus};
 pub use run_journal::{Entry, Journal};
-pub use words::Words;
+pub use run_words::Words;
 
 /// Memory ran out, and what was called is as it was before.
 pub use flat_machine::NoMemory;

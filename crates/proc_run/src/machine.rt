@@ -1,6 +1,6 @@
 //! The whole run.
 
-ghost use Rattle.std.specs.Prelude.{◌≡◌, ◌≢◌, ◌<◌, ◌≤◌, [], List, ℕ, IfOk, OnOk, Some, length};
+ghost use Rattle.std.specs.Prelude.{◌≡◌, ◌≢◌, ◌<◌, ◌≤◌, List, ℕ, IfOk, OnOk, Some, None, true, false, length};
 ghost use Rattle.std.specs.String.{string_bytes};
 ghost use Rattle.std.specs.Io.KnownBytes.{Appends, Keeps};
 ghost use Rattle.byte_ports.specs.Faults.{HasRisen};
@@ -8,28 +8,29 @@ ghost use Rattle.byte_ports.specs.Whole.{AppendsFront};
 ghost use Rattle.flat_state.specs.State.{nothing_declared};
 ghost use Rattle.flat_state.specs.Events.{AllFit};
 ghost use Rattle.scenario_reader.specs.Scenarios.{scenario};
+ghost use Rattle.run_words.specs.declared.options.Options.{Options as OptionsLem};
+ghost use Rattle.run_words.specs.Options.{options};
 ghost use Rattle.proc_run.specs.declared.outcome.RunStatus.{RunStatus as RunStatusLem};
 ghost use Rattle.proc_run.specs.declared.outcome.Kept.TheVariants.{Nothing};
 ghost use Rattle.proc_run.specs.declared.machine.NoText.TheVariants.{NoMemory as NoMemoryLem};
-ghost use Rattle.proc_run.specs.Outcomes.{IsDue, OnWritten, OnWriteFault, OnReadFault, OnNothingDue, UnlessReadFault, UnlessWriteFault, IsRan, ComesOut, ComesOutOrNoMemory, IsRefusal, most_bytes, usage_line, too_long_line, fault_line};
-ghost use Rattle.proc_run.specs.Dues.{OnFailed, UnlessFailed, IsDueFor, IsDueOf, status_of};
+ghost use Rattle.proc_run.specs.Outcomes.{IsDue, IsDueBy, IsAnswer, IsScenario, IsTold, IsFaultless, reads_source, OnWritten, OnWriteFault, OnReadFault, OnNothingDue, UnlessReadFault, UnlessWriteFault, ComesOutOrNoMemory, IsRefusal, usage_line, too_long_line, fault_line};
+ghost use Rattle.proc_run.specs.Dues.{OnFailed, UnlessFailed, status_of};
 
 use crate::outcome::{Kept, Outcome, RunStatus};
-use crate::report::report;
 use crate::run::{Finished, run};
-use crate::words::Words;
+use crate::text::text;
 use byte_ports::{ReadError, Sink, Source, read_to_end, write_all};
 use flat_machine::{Decl, NoMemory, Settled};
+use run_words::{Mode, Options, Words, WordsFault};
+use scenario_gen::generate;
 use scenario_reader::{ScenarioFault, read};
 use std::alloc::{AllocError, Global};
 
 /// How many bytes a scenario may have.
 const MOST_BYTES: usize = 4_194_304;
 
-/// How many steps a run may take.
-const STEP_LIMIT: u64 = 1_000_000;
-
-const USAGE: &[u8] = b"usage: v_run [--mode run|journal|gen] [--cpus N] [--steps N] [--seed N]\n";
+const USAGE: &[u8] =
+    b"usage: v_run [--mode run|journal|gen|check|page] [--cpus N] [--steps N] [--seed N] [--frames N]\n";
 
 // A text that is due, with its status and what is kept.
 #[derive(Drop)]
@@ -100,21 +101,19 @@ fn faulty(alloc: Global, number: u64, rule: u32) -> Result<DueText, AllocError>
     )
 }
 
-// The report of the run of a scenario.
-fn answered(alloc: Global, decls: &[Decl]) -> Result<DueText, NoMemory>
+// What is due for the run of a scenario.
+fn answered(alloc: Global, options: &Options, decls: &[Decl]) -> Result<DueText, NoMemory>
     requires some { 0 < length decls.now }
     requires fit { AllFit nothing_declared decls.now }
-    ensures due { IfOk result (λ d. IsDueFor decls.now d.status d.kept d.text.items) }
-    ensures ran { IfOk result (λ d. IsRan d.status) }
+    ensures { IfOk result (λ d. (bs : List ℕ) → IsScenario bs decls.now → IsAnswer options.now bs d.status d.kept d.text.items) }
 {
-    let finished = run(alloc, decls, STEP_LIMIT)?;
+    let run = run(alloc, decls, u64::from(options.steps))?;
+    let text = text(alloc, options, &run)?;
     let Finished {
-        flat,
         journal,
         settled,
-        steps,
-    } = finished;
-    let text = report(alloc, &flat, settled, steps)?;
+        ..
+    } = run;
     Ok(DueText {
         status: status_of(settled),
         kept: Kept::Journal(journal),
@@ -123,44 +122,66 @@ fn answered(alloc: Global, decls: &[Decl]) -> Result<DueText, NoMemory>
 }
 
 // What is due for the bytes of a scenario, read to their end.
-fn due_for(alloc: Global, bytes: &[u8]) -> Result<DueText, NoText>
-    requires { length bytes.now ≤ most_bytes }
-    ensures due { IfOk result (λ d. IsDueOf bytes.now d.status d.kept d.text.items) }
-    ensures comes_out { IfOk result (λ d. ComesOut (scenario bytes.now) d.status) }
+fn due_for(alloc: Global, options: &Options, bytes: &[u8]) -> Result<DueText, NoText>
+    ensures due { IfOk result (λ d. IsAnswer options.now bytes.now d.status d.kept d.text.items) }
     ensures unfailed { OnFailed result ⊥ }
 {
     match read(alloc, bytes) {
-        Ok(scenario) => Ok(answered(alloc, scenario.decls())?),
+        Ok(scenario) => Ok(answered(alloc, options, scenario.decls())?),
         Err(ScenarioFault::Bad { line, rule }) => Ok(faulty(alloc, line, rule)?),
         Err(ScenarioFault::NoMemory) => Err(NoText::NoMemory),
     }
 }
 
-// Reads the source, and says what is to be written.
-fn due<S: Source>(alloc: Global, words: &Words, source: &mut S) -> Result<DueText, NoText>
-    ensures due { IfOk result (λ d. IsDue words.now (S.bytes_left source.old) (S.bytes_left source.new) d.status d.kept d.text.items) }
-    ensures comes_out { words.now ≡ [] → (bytes : List ℕ) → S.bytes_left source.old ≡ Some bytes → length bytes ≤ most_bytes → IfOk result (λ d. ComesOut (scenario bytes) d.status) }
-    ensures refused { words.now ≢ [] → IfOk result (λ d. d.status ≡ RunStatus.Usage) × OnFailed result ⊥ × Keeps (S.bytes_left source.old) (S.bytes_left source.new) }
+// Reads the source to its end, and says what is due.
+fn due_of<S: Source>(alloc: Global, options: &Options, source: &mut S) -> Result<DueText, NoText>
+    requires { reads_source (Some options.now) ≡ true }
+    ensures due { IfOk result (λ d. IsDueBy options.now (S.bytes_left source.old) (S.bytes_left source.new) d.status d.kept d.text.items) }
     ensures fault { OnFailed result (HasRisen (S.faults source.old) (S.faults source.new)) }
     ensures faultless { UnlessFailed result (S.faults source.new ≡ S.faults source.old) }
 {
-    if !words.is_empty() {
-        return Ok(line(alloc, RunStatus::Usage, USAGE)?);
-    }
     match read_to_end(alloc, source, MOST_BYTES) {
-        Ok(bytes) => due_for(alloc, &bytes),
+        Ok(bytes) => due_for(alloc, options, &bytes),
         Err(ReadError::TooLong) => Ok(line(alloc, RunStatus::TooLong, b"too long\n")?),
         Err(ReadError::Failed) => Err(NoText::ReadFault),
         Err(ReadError::NoMemory) => Err(NoText::NoMemory),
     }
 }
 
-/// Reads a scenario from the source to its end, runs it on the machine with unlimited tables until all its threads
-/// have ended, none can go on, or 1,000,000 steps are taken, and writes the report to the sink. For a text that is no
-/// scenario it writes its first fault. No words are accepted. All text is made before the first write.
+// Says what is due by the words that were taken.
+fn due_by<S: Source>(alloc: Global, options: &Options, source: &mut S) -> Result<DueText, NoText>
+    ensures due { IfOk result (λ d. IsDueBy options.now (S.bytes_left source.old) (S.bytes_left source.new) d.status d.kept d.text.items) }
+    ensures unread { reads_source (Some options.now) ≡ false → Keeps (S.bytes_left source.old) (S.bytes_left source.new) }
+    ensures fault { OnFailed result (HasRisen (S.faults source.old) (S.faults source.new) × (reads_source (Some options.now) ≡ true)) }
+    ensures faultless { UnlessFailed result (S.faults source.new ≡ S.faults source.old) }
+{
+    match options.mode {
+        Mode::Run | Mode::Journal => due_of(alloc, options, source),
+        Mode::Gen => due_for(alloc, options, &generate(alloc, options.seed)?),
+    }
+}
+
+// Reads the words and what they ask for, and says what is to be written.
+fn due<S: Source>(alloc: Global, words: &Words, source: &mut S) -> Result<DueText, NoText>
+    ensures due { IfOk result (λ d. IsDue words.now (S.bytes_left source.old) (S.bytes_left source.new) d.status d.kept d.text.items) }
+    ensures unread { reads_source (options words.now) ≡ false → Keeps (S.bytes_left source.old) (S.bytes_left source.new) }
+    ensures fault { OnFailed result (HasRisen (S.faults source.old) (S.faults source.new) × (reads_source (options words.now) ≡ true)) }
+    ensures faultless { UnlessFailed result (S.faults source.new ≡ S.faults source.old) }
+{
+    match run_words::read(alloc, words) {
+        Ok(options) => due_by(alloc, &options, source),
+        Err(WordsFault::Refused) => Ok(line(alloc, RunStatus::Usage, USAGE)?),
+        Err(WordsFault::NoMemory) => Err(NoText::NoMemory),
+    }
+}
+
+/// Reads a scenario from the source to its end, or makes it from the seed in mode gen, runs it on the machine with
+/// unlimited tables until all its threads have ended, none can go on, or it has taken the steps that the words allow,
+/// and writes the text of the mode to the sink. For a text that is no scenario it writes its first fault, and for words
+/// that aren't taken the usage line. All text is made before the first write.
 ///
 /// It costs the steps, each of them the logarithm of the rows, a pass over the threads for each entry of the journal,
-/// and memory for the scenario, the machine, one entry for every 256 steps and each thread call, and the report.
+/// and memory for the scenario, the machine, one entry for every 256 steps and each thread call, and the text.
 pub fn run_machine<S: Source, W: Sink>(
     alloc: Global,
     words: &Words,
@@ -177,20 +198,24 @@ pub fn run_machine<S: Source, W: Sink>(
         × ((status : RunStatusLem) × (text : List ℕ)
         × IsDue words.now (S.bytes_left source.old) (S.bytes_left source.new) status result.kept text
         × AppendsFront (W.bytes_held sink.old) (W.bytes_held sink.new) text)) }
-    ensures read_fault { OnReadFault result.status (HasRisen (S.faults source.old) (S.faults source.new)) }
+
+    // The source is read only where the words are taken, and ask for it.
+    ensures read_fault { OnReadFault result.status (HasRisen (S.faults source.old) (S.faults source.new)
+        × (reads_source (options words.now) ≡ true)) }
+    ensures unread { reads_source (options words.now) ≡ false → Keeps (S.bytes_left source.old) (S.bytes_left source.new) }
     ensures nothing_due { OnNothingDue result.status ((result.kept ≡ Nothing)
         × Keeps (W.bytes_held sink.old) (W.bytes_held sink.new)) }
     ensures source_faults { UnlessReadFault result.status (S.faults source.new ≡ S.faults source.old) }
     ensures sink_faults { UnlessWriteFault result.status (W.faults sink.new ≡ W.faults sink.old) }
 
-    // Words are refused before anything is read.
-    ensures refused { words.now ≢ [] → IsRefusal result.status × Keeps (S.bytes_left source.old) (S.bytes_left source.new) }
+    // Words that aren't taken are refused.
+    ensures refused { options words.now ≡ None → IsRefusal result.status }
 
-    // Without words, a scenario runs to its end, and any other text that isn't too long is answered by its first fault,
-    // unless an end fails or memory runs out.
-    ensures complete { words.now ≡ [] → (bytes : List ℕ) → S.bytes_left source.old ≡ Some bytes
-        → length bytes ≤ most_bytes → (HasRisen (S.faults source.old) (S.faults source.new) → ⊥)
-        → (HasRisen (W.faults sink.old) (W.faults sink.new) → ⊥) → ComesOutOrNoMemory (scenario bytes) result.status }
+    // With words that are taken, a scenario runs to its end, and any other text that isn't too long is answered by its
+    // first fault, unless an end fails or memory runs out.
+    ensures complete { (o : OptionsLem) → options words.now ≡ Some o → (text : List ℕ) → IsTold o (S.bytes_left source.old) text
+        → IsFaultless o (HasRisen (S.faults source.old) (S.faults source.new))
+        → (HasRisen (W.faults sink.old) (W.faults sink.new) → ⊥) → ComesOutOrNoMemory (scenario text) result.status }
 {
     match due(alloc, words, source) {
         Err(NoText::ReadFault) => Outcome {

@@ -23,7 +23,7 @@ pub enum RunStatus {
     BadScenario { line: u64, rule: u32 },
     /// Memory ran out. Nothing was written.
     NoMemory,
-    /// There were words, and none is accepted.
+    /// The words aren't taken.
     Usage,
     /// More than 4,194,304 bytes came.
     TooLong,

@@ -15,7 +15,23 @@ word 0 0 00100893 04800513 00000073 00000893 00000513 00000073\nend\n";
 const HELLO_REPORT: &[u8] = b"status done\nsteps 6\n\
 space 0 rows 1 referenced 1 modified 0\nthread 0 exit 0 out 1\nH\n";
 
-const USAGE: &[u8] = b"usage: v_run [--mode run|journal|gen] [--cpus N] [--steps N] [--seed N]\n";
+const USAGE: &[u8] =
+    b"usage: v_run [--mode run|journal|gen|check|page] [--cpus N] [--steps N] [--seed N] [--frames N]\n";
+
+const HELLO_JOURNAL: &[u8] =
+    b"machine 1 16 64 256 65536\nkernel 0 1 0 0 0\nright 0 0 rw\nspace 0 0\n\
+thread 0 0 0 0 0 0\nmap 0 0 0 x -\nword 0 0 00100893\nword 0 4 04800513\nword 0 8 00000073\n\
+word 0 12 00000893\nword 0 16 00000513\nword 0 20 00000073\nsealed\nran 0 3 cpu 0\n\
+completed 0 cpu 0\nran 0 3 cpu 0\ncompleted 0 cpu 0\nstatus done\nsteps 6\n\
+space 0 rows 1 referenced 1 modified 0\nthread 0 exit 0 out 1\nH\n";
+
+fn words_of(alloc: Global, words: &[&str]) -> Result<Words, NoMemory> {
+    let mut all = Words::new(alloc);
+    for word in words {
+        all.push(word)?;
+    }
+    Ok(all)
+}
 
 // The exit status of a run over memory, and what it wrote.
 fn run_over(
@@ -156,30 +172,62 @@ word 0 0 0000006f\nend\n";
     Ok(())
 }
 
+// Whether each of the first writes that fails, in turn, is answered by its status, and leaves the text up to that write.
+fn writes_fail_in_turn(rt: &HostRuntime, words: &[&str], writes: u64) -> Result<bool, Fail> {
+    let words = words_of(rt.alloc(), words)?;
+    let (whole, text) = run_over(rt, &words, HELLO, &[], &[])?;
+    for at in 0..writes {
+        let (status, held) = run_over(rt, &words, HELLO, &[], &[at])?;
+        let front = text.len().min((at as usize).saturating_mul(16));
+        let due = if front < text.len() { 4 } else { whole };
+        if held.as_slice() != &text[..front] || status != due {
+            return Ok(false);
+        }
+    }
+    Ok(true)
+}
+
 #[test]
-fn ends_that_fail(rt: HostRuntime) -> Result<(), Fail> {
-    let no_words = Words::new(rt.alloc());
-    let (status, held) = run_over(&rt, &no_words, HELLO, &[0], &[])?;
-    assert_eq!(rt; (status, held.len()), (3, 0));
-    let (status, held) = run_over(&rt, &no_words, HELLO, &[], &[1])?;
-    assert_eq!(rt; status, 4);
-    assert_eq!(rt; held.as_slice(), b"status done\nstep".as_slice());
+fn each_write_fails(rt: HostRuntime) -> Result<(), Fail> {
+    assert!(rt; writes_fail_in_turn(&rt, &[], 7)?);
+    assert!(rt; writes_fail_in_turn(&rt, &["--mode", "journal"], 28)?);
+    assert!(rt; writes_fail_in_turn(&rt, &["x"], 8)?);
+    assert!(rt; writes_fail_in_turn(&rt, &["--mode", "gen", "--steps", "1"], 4)?);
+    Ok(())
+}
+
+// The exit status of a run where one read of fifty bytes fails, and how many bytes it wrote.
+fn read_fails(rt: &HostRuntime, words: &[&str], at: u64) -> Result<(u8, usize), Fail> {
+    let words = words_of(rt.alloc(), words)?;
+    let mut source = MemSource::new(rt.alloc(), HELLO, 50, &[at])?;
+    let mut sink = MemSink::new(rt.alloc(), 4096, 16, &[])?;
+    let outcome = run_machine(rt.alloc(), &words, &mut source, &mut sink);
+    Ok((outcome.status.exit_status(), sink.held().len()))
+}
+
+#[test]
+fn each_read_fails(rt: HostRuntime) -> Result<(), Fail> {
+    for at in 0..4 {
+        assert_eq!(rt; read_fails(&rt, &[], at)?, (3, 0));
+        assert_eq!(rt; read_fails(&rt, &["--mode", "journal"], at)?, (3, 0));
+    }
+    assert_eq!(rt; read_fails(&rt, &[], 4)?, (0, HELLO_REPORT.len()));
+    assert_eq!(rt; read_fails(&rt, &["x"], 0)?, (7, USAGE.len()));
+    assert_eq!(rt;
+        read_fails(&rt, &["--mode", "gen", "--steps", "1"], 0)?.0,
+        2
+    );
     Ok(())
 }
 
 #[test]
-fn a_word_and_too_many_bytes(rt: HostRuntime) -> Result<(), Fail> {
-    let mut words = Words::new(rt.alloc());
-    assert!(rt; words.is_empty());
-    words.push("x")?;
-    let (status, held) = run_over(&rt, &words, HELLO, &[], &[])?;
-    assert_eq!(rt; status, 7);
-    assert_eq!(rt; held.as_slice(), USAGE);
+fn too_many_bytes(rt: HostRuntime) -> Result<(), Fail> {
+    let no_words = Words::new(rt.alloc());
     let long = vec![in rt.alloc(); b'#'; 4_194_305]?;
-    let (status, held) = run_over(&rt, &Words::new(rt.alloc()), &long, &[], &[])?;
+    let (status, held) = run_over(&rt, &no_words, &long, &[], &[])?;
     assert_eq!(rt; status, 8);
     assert_eq!(rt; held.as_slice(), b"too long\n".as_slice());
-    let (status, held) = run_over(&rt, &Words::new(rt.alloc()), &long[1..], &[], &[])?;
+    let (status, held) = run_over(&rt, &no_words, &long[1..], &[], &[])?;
     assert_eq!(rt; status, 5);
     assert_eq!(rt;
         held.as_slice(),

@@ -1,10 +1,7 @@
-use Rattle.std.proofs.Common.{◌≡◌, ◌∙◌, ℕ, List, subst}
-use Rattle.std.specs.Prelude.{IfOk}
-use Rattle.scenario_reader.specs.Scenarios.{scenario}
-use Rattle.proc_run.specs.Outcomes.{ComesOut}
+use Rattle.std.proofs.lemmas.Result.{IfOk-weaker}
+use Rattle.proc_run.proofs.Answered.{by_words}
 use Rattle.proc_run.proofs.machine.due.Goals as goal
 
-pub returns-in-Ok-clause-comes_out : goal.returns-in-Ok-clause-comes_out
-returns-in-Ok-clause-comes_out g c none bytes told short =
-    let whole : c.in-Ok.bytes.items ≡ bytes = rw told at c.in-Ok.ensures.whole in
-    subst (λ (x : List ℕ). IfOk c.due_for.result (λ d. ComesOut (scenario x) d.status)) (c.deref.ensures.value ∙ whole) c.due_for.ensures.comes_out
+pub returns-in-Ok-clause-due : goal.returns-in-Ok-clause-due
+returns-in-Ok-clause-due g c =
+    IfOk-weaker c.due_by.result _ _ (λ d h. by_words c.args.words.now c.in-Ok.options _ _ d.status d.kept d.text.items c.in-Ok.ensures.meant h) c.due_by.ensures.due

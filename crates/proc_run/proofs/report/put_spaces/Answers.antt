@@ -1,4 +1,4 @@
-use Rattle.std.proofs.Common.{◌≡◌, ◌∙◌, ◌+◌, ◌<◌, ◌++◌, length, get_or, drop, ap, sym, arith}
+use Rattle.std.proofs.Common.{◌≡◌, ◌∙◌, ◌+◌, ◌<◌, ◌++◌, length, drop, ap, arith}
 use Rattle.proc_run.specs.declared.report.RowCounts.{RowCounts}
 use Rattle.report_text.specs.Reports.{counts_text, lines_of_spaces}
 use Rattle.proc_run.specs.Counts.{counted}
