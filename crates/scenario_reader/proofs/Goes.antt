@@ -10,10 +10,9 @@ use Rattle.flat_state.specs.declared.events.Machine.{Machine}
 use Rattle.flat_state.specs.declared.events.Decl.{Decl}
 use Rattle.flat_state.specs.declared.events.Decl.TheVariants as decls
 use Rattle.flat_state.specs.State.{FlatState}
-use Rattle.flat_state.specs.Declaration.{broken_rule, rule_by_machine, has_frame, rule_of_early, declared}
+use Rattle.flat_state.specs.Declaration.{broken_rule, rule_by_machine, has_frame}
 use Rattle.text_fields.specs.Reading.{first_of}
-use Rattle.text_fields.specs.Lines.{fields, lines}
-use Rattle.text_fields.specs.Numbers.{word}
+use Rattle.text_fields.specs.Lines.{lines}
 use Rattle.scenario_lines.specs.Forms.{word_value}
 use Rattle.scenario_reader.specs.declared.fault.ScenarioFault.{ScenarioFault}
 use Rattle.scenario_reader.specs.declared.fault.ScenarioFault.TheVariants.{NoMemory}

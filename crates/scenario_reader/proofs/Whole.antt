@@ -72,11 +72,11 @@ weaker : (x : Result Reading ScenarioFault) → IfOk x Firm → IfOk x Stands
 weaker (Ok r) h = (h.0, has_some r.place (length r.decls) h.1)
 weaker (Err e) h = tt
 
-followed : {B : Type 0} (P : Reading → Type 0) (Q : B → Type 0) (x : Result Reading ScenarioFault) (f : Reading → Result B ScenarioFault) → IfOk x P → ((r : Reading) → P r → IfOk (f r) Q) → IfOk (x >>= f) Q
+pub followed : {B : Type 0} (P : Reading → Type 0) (Q : B → Type 0) (x : Result Reading ScenarioFault) (f : Reading → Result B ScenarioFault) → IfOk x P → ((r : Reading) → P r → IfOk (f r) Q) → IfOk (x >>= f) Q
 followed P Q (Ok r) f h next = next r h
 followed P Q (Err e) f h next = tt
 
-unless_keeps : (P : Reading → Type 0) (o : Option ℕ) (r next : Reading) → P next → IfOk (unless o r next) P
+pub unless_keeps : (P : Reading → Type 0) (o : Option ℕ) (r next : Reading) → P next → IfOk (unless o r next) P
 unless_keeps P None r next h = h
 unless_keeps P (Some rule) r next h = tt
 
@@ -192,19 +192,19 @@ place_keeps (Code frame offset) r line h some = weaker (in_code r frame offset (
 place_keeps (Image space frame thread) r line h some = weaker (in_image r space frame thread (image_line_of line)) (image_keeps r space frame thread (image_line_of line) (h.0, some))
 place_keeps Ended r line h some = form_keeps at_end r (line_of line) (λ l. end_stays r l h)
 
-step_keeps : (number : ℕ) (r : Reading) (line : List ℕ) → Stands r → IfOk (step number r line) Stands
+pub step_keeps : (number : ℕ) (r : Reading) (line : List ℕ) → Stands r → IfOk (step number r line) Stands
 unfolding step
 step_keeps number r line h = place_keeps r.place (numbered r number) line h h.1
 
 -- ---- a text
 
-unended_fails : (r : Reading) (words : Result (List ℕ) CodeFault) → IfOk (unended r words) IsWhole
-unended_fails r (Ok words) = tt
-unended_fails r (Err fault) = tt
+pub unended_fails : (P : List Decl → Type 0) (r : Reading) (words : Result (List ℕ) CodeFault) → IfOk (unended r words) P
+unended_fails P r (Ok words) = tt
+unended_fails P r (Err fault) = tt
 
 whole_at : (p : Place) (r : Reading) → Fits r → HasSome p (length r.decls) → IfOk (finish_at p r) IsWhole
 whole_at Ended r h some = (h.0, some)
-whole_at (Code frame offset) r h some = unended_fails r (block_words (room offset) r.block)
+whole_at (Code frame offset) r h some = unended_fails IsWhole r (block_words (room offset) r.block)
 whole_at Start r h some = tt
 whole_at (Memory groups) r h some = tt
 whole_at Body r h some = tt

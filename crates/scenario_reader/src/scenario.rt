@@ -2,7 +2,7 @@
 
 ghost use Rattle.std.specs.Prelude.{◌≡◌, ◌<◌, IfOk, length};
 ghost use Rattle.flat_state.specs.State.{nothing_declared};
-ghost use Rattle.flat_state.specs.Events.{AllFit};
+ghost use Rattle.flat_state.specs.Events.{AllFit, after_declarations};
 ghost use Rattle.scenario_reader.specs.Readings.{Takes, Answers};
 ghost use Rattle.scenario_reader.specs.Scenarios.{step, finish, scenario};
 ghost use Rattle.scenario_reader.specs.Views.{reader_view};
@@ -97,6 +97,9 @@ pub fn read(alloc: Global, text: &[u8]) -> Result<Scenario, ScenarioFault>
 
     // They fit one after another, and there are some.
     ensures fit { IfOk result (λ s. AllFit nothing_declared s × (0 < length s)) }
+
+    // A kernel is among them.
+    ensures kernel { IfOk result (λ s. 0 < length (after_declarations nothing_declared s).kernels) }
 {
     let mut reader = Reader::new(alloc);
     let mut number = 1u64;

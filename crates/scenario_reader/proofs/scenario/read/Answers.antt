@@ -1,4 +1,4 @@
-use Rattle.std.proofs.Common.{◌≡◌, List, Result, subst, arith}
+use Rattle.std.proofs.Common.{List, Result, subst, arith}
 use Rattle.std.proofs.lemmas.Result.{err_from_is_err_and}
 use Rattle.flat_state.specs.declared.events.Decl.{Decl}
 use Rattle.text_fields.specs.Lines.{lines}
@@ -8,6 +8,7 @@ use Rattle.scenario_reader.specs.Scenarios.{scenario}
 use Rattle.scenario_reader.specs.Views.{reader_view}
 use Rattle.scenario_reader.proofs.Goes.{begins, some_more, at_some, at_none, shorter_at, line_more, line_last, line_fails}
 use Rattle.scenario_reader.proofs.Whole.{answer_whole}
+use Rattle.scenario_reader.proofs.Kernels.{answer_kernel}
 use Rattle.scenario_reader.proofs.scenario.read.Goals as goal
 
 pub loop-reader-init : goal.loop-reader-init
@@ -39,3 +40,9 @@ returns-in-None-clause-fit c =
     let first = at_none (lines c.loop-reader.rest.now) c.next_line.result.0.now c.next_line.result.1 c.next_line.ensures.first c.in-None.is in
     let last = line_last c.loop-reader.number (reader_view c.loop-reader.reader) (reader_view c.step.new.self) c.next_line.result.0.now (lines c.loop-reader.rest.now) (scenario c.args.text.now) c.loop-reader.invariant.meant first c.in_ok-step.ensures in
     answer_whole c.args.text.now c.finish.result (subst (λ (m : Result (List Decl) ScenarioFault). Answers (λ s. s) c.finish.result m) last c.finish.ensures)
+
+pub returns-in-None-clause-kernel : goal.returns-in-None-clause-kernel
+returns-in-None-clause-kernel c =
+    let first = at_none (lines c.loop-reader.rest.now) c.next_line.result.0.now c.next_line.result.1 c.next_line.ensures.first c.in-None.is in
+    let last = line_last c.loop-reader.number (reader_view c.loop-reader.reader) (reader_view c.step.new.self) c.next_line.result.0.now (lines c.loop-reader.rest.now) (scenario c.args.text.now) c.loop-reader.invariant.meant first c.in_ok-step.ensures in
+    answer_kernel c.args.text.now c.finish.result (subst (λ (m : Result (List Decl) ScenarioFault). Answers (λ s. s) c.finish.result m) last c.finish.ensures)
