@@ -1,0 +1,5 @@
+pub mod Decimals
+pub mod Lines
+pub mod Values
+pub mod Forms
+pub mod Again
