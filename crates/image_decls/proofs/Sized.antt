@@ -14,7 +14,7 @@ pub placed : (bytes : List ℕ) (parts : List Part) → AllByRecursion (LiesIn b
 placed bytes [] all = tt
 placed bytes (p ∷ ps) all = (record { some = all.0.some; in_space = all.0.in_space }, placed bytes ps all.1)
 
-unbroken : (b : Bool) (rule : ℕ) (later : Option ℕ) → cond b (Some rule) later ≡ None → (b ≡ false) × (later ≡ None)
+pub unbroken : (b : Bool) (rule : ℕ) (later : Option ℕ) → cond b (Some rule) later ≡ None → (b ≡ false) × (later ≡ None)
 unbroken true rule later e = absurd cc
 unbroken false rule later e = (refl, e)
 

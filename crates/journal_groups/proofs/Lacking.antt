@@ -1,8 +1,8 @@
 -- Those that left, one after another.
-use Rattle.std.proofs.Common.{◌≡◌, ◌↔◌, ℕ, zero, suc, ◌+◌, ◌-◌, ◌<◌, List, [], ◌∷◌, length, get_or, map, Option, Some, None, IfSome, slice_get, refl, ap, sym, ◌∙◌, subst, inl, inr, arith}
+use Rattle.std.proofs.Common.{◌≡◌, ◌↔◌, ℕ, ◌+◌, ◌-◌, ◌<◌, List, length, get_or, map, Option, Some, None, IfSome, slice_get, ap, sym, ◌∙◌, subst, inl, inr, arith}
 use Rattle.std.specs.Option.{option_map}
 use Rattle.std.proofs.lemmas.Bool.{cases_lt}
-use Rattle.std.proofs.lemmas.List.{length-map}
+use Rattle.std.proofs.lemmas.List.{get_or_default, length-map}
 use Rattle.std.proofs.lemmas.Option.{slice_get-map}
 use Rattle.std.specs.declared.cmp.Ordering.TheVariants.{Less}
 use Rattle.cache_ident.specs.Residents.{Resident}
@@ -37,17 +37,13 @@ LackTo s rs all n = (i : ℕ) (gone : Gone) → i < n → i < length all → get
 pub lack_none : (s : FlatState) (rs : List Resident) (all : List Gone) → LackTo s rs all 0
 lack_none s rs all i gone low within is = absurd (omega arith)
 
-any_default : {X : Type 0} (xs : List X) (i : ℕ) (d e : X) → i < length xs → get_or xs i d ≡ get_or xs i e
-any_default [] i d e within = absurd (omega arith)
-any_default (x ∷ xs) zero d e within = refl
-any_default (x ∷ xs) (suc i) d e within = any_default xs i d e (omega arith)
 
 pub lack_more : (s : FlatState) (rs : List Resident) (all : List Gone) (n : ℕ) (e : Gone) → n < length all → LackTo s rs all n → LacksParent s rs (get_or all n e).name → LackTo s rs all (n + 1)
 lack_more s rs all n e n_within before here i gone low within is = elim (cases_lt i n) [
   | inl below ↦ before i gone below within is
   | inr above ↦
       let last : i ≡ n = omega (arith, low) in
-      subst (λ (g : Gone). LacksParent s rs g.name) (any_default all n e gone n_within ∙ ap (λ (k : ℕ). get_or all k gone) (sym last) ∙ is) here
+      subst (λ (g : Gone). LacksParent s rs g.name) (get_or_default all n e gone n_within ∙ ap (λ (k : ℕ). get_or all k gone) (sym last) ∙ is) here
 ]
 
 pub lack_all : (s : FlatState) (rs : List Resident) (all : List Gone) → LackTo s rs all (length all) → LackOneEach s rs all
@@ -55,5 +51,5 @@ lack_all s rs all lack gone there = lack there.0 gone there.1 there.1 there.2
 
 pub has_all : (s : FlatState) (rs : List Resident) (all : List Gone) (n : ℕ) (e : Gone) → n < length all → HasParents s rs (get_or all n e).name → LackOneEach s rs all → ⊥
 has_all s rs all n e within has lack =
-    let lacks = lack (get_or all n e) (n, within, any_default all n (get_or all n e) e within) in
+    let lacks = lack (get_or all n e) (n, within, get_or_default all n (get_or all n e) e within) in
     lacks.2 (has lacks.0 lacks.1)

@@ -1,5 +1,5 @@
 -- What stays of a group where one more leaves, and when it is the group of what leaves last.
-use Rattle.std.proofs.Common.{◌≡◌, ◌≢◌, ◌↔◌, ℕ, suc, ◌+◌, Bool, cond, not, List, [], ◌∷◌, ◌++◌, map, count_by, Contains, IsTrue, refl, ap, sym, ◌∙◌, subst, inl, inr, ◌⊎◌, arith}
+use Rattle.std.proofs.Common.{◌≡◌, ◌≢◌, ◌↔◌, ℕ, ◌+◌, Bool, cond, not, List, [], ◌∷◌, ◌++◌, map, count_by, Contains, IsTrue, refl, ap, sym, ◌∙◌, subst, inl, inr, ◌⊎◌, arith}
 use Rattle.std.specs.Prelude.{Result, Ok, Err, OnErr}
 use Rattle.std.proofs.lemmas.Bool.{cases_Bool}
 use Rattle.std.proofs.lemmas.List.{map-append}
@@ -8,7 +8,7 @@ use Rattle.std.proofs.lemmas.List.Kept.{AllPairs-filter}
 use Rattle.cache_ident.specs.declared.idents.Ident.{Ident}
 use Rattle.cache_ident.specs.declared.idents.Kind.{Kind}
 use Rattle.cache_ident.specs.Rolls.{is_same}
-use Rattle.cache_ident.proofs.RollLemmas.{is_same-refl, same_ident}
+use Rattle.cache_ident.proofs.RollLemmas.{same_ident}
 use Rattle.cache_ident.specs.Residents.{Resident, without}
 use Rattle.depend_lists.specs.declared.nodes.Node.{Node}
 use Rattle.sorted_list.specs.Sorted.{IsRising}
@@ -16,17 +16,18 @@ use Rattle.writeback_order.specs.Order.{leaving_cmp}
 use Rattle.flat_state.specs.State.{FlatState}
 use Rattle.flat_state.specs.WellFormed.{IsWellFormed}
 use Rattle.flat_state.proofs.Places.{count_by-cons}
-use Rattle.flat_laws.proofs.Members.{contains_nothing, Contains-here, Contains-behind, Contains-cases, Contains-map, Contains-from_map}
+use Rattle.flat_laws.proofs.Members.{Contains-map, Contains-from_map}
 use Rattle.run_journal.specs.Groups.{node_of, IsGroup}
-use Rattle.run_journal.specs.Legal.{is_kind, count_of}
+use Rattle.run_journal.specs.Legal.{is_kind, count_of, AreGood}
 use Rattle.run_journal.proofs.Growth.{count-append}
-use Rattle.run_journal.proofs.Others.{differ, other_ident, without_cases, stays_without}
+use Rattle.run_journal.proofs.Others.{other_ident, without_cases, stays_without}
 use Rattle.journal_laws.specs.Leaving.{LacksParent, HaveOneEach, HaveLeft}
-use Rattle.journal_laws.specs.Staying.{AreGood}
 use Rattle.journal_laws.proofs.GroupLaw.{group_if, order_if}
+use Rattle.journal_tables.specs.Whole.{AreApart}
+use Rattle.journal_tables.proofs.Counting.{count-without}
 use Rattle.journal_groups.specs.declared.gone.Gone.{Gone}
 use Rattle.journal_groups.specs.declared.group.Group.{Group}
-use Rattle.journal_groups.specs.Leaving.{gone_of, node_of_gone, AreApart, IsLeaving, IsBehindLast, LackOneEach}
+use Rattle.journal_groups.specs.Leaving.{gone_of, node_of_gone, IsLeaving, IsBehindLast, LackOneEach}
 use Rattle.journal_groups.proofs.Rising.{IsLastBefore, rising_more, rising_front, rising_last}
 use Rattle.journal_groups.proofs.Lacking.{last_is}
 
@@ -37,19 +38,6 @@ on_err (Err e) p = p
 
 -- ---- counts
 
-apart_behind : (x : Resident) (xs : List Resident) → AreApart (x ∷ xs) → AreApart xs
-apart_behind x xs apart i j d lt within = apart (suc i) (suc j) d (omega arith) (omega arith)
-
-apart_first : (x : Resident) (xs : List Resident) → AreApart (x ∷ xs) → (r : Resident) → Contains xs r → x.ident ≢ r.ident
-apart_first x xs apart r there = subst (λ (y : Resident). x.ident ≢ y.ident) there.2 (apart 0 (suc there.0) r (omega arith) (omega (arith, there.1)))
-
--- where nothing has the identifier, all stay
-none_leaves : (ident : Ident) (rs : List Resident) → ((r : Resident) → Contains rs r → r.ident ≢ ident) → without ident rs ≡ rs
-none_leaves ident [] none = refl
-none_leaves ident (x ∷ xs) none =
-    ap (λ (b : Bool). cond (not b) (x ∷ without ident xs) (without ident xs)) (differ x.ident ident (none x (Contains-here x xs)))
-    ∙ ap (λ (ys : List Resident). x ∷ ys) (none_leaves ident xs (λ r there. none r (Contains-behind x xs r there)))
-
 -- of each kind one fewer stays where one of that kind leaves
 module _ (kind : Kind) where
   abbrev Is : Resident → Bool
@@ -59,23 +47,10 @@ module _ (kind : Kind) where
   one_if r = cond (Is r) 1 0
 
   count_without : (rs : List Resident) (r : Resident) → AreApart rs → Contains rs r → count_of rs kind ≡ count_of (without r.ident rs) kind + count_of (r ∷ []) kind
-  count_without [] r apart there = absurd (contains_nothing r there)
-  count_without (x ∷ xs) r apart there =
-      let all : count_of (x ∷ xs) kind ≡ one_if x + count_of xs kind = count_by-cons Is x xs in
+  count_without rs r apart there =
+      let fewer = count-without Is r rs apart there in
       let last : count_of (r ∷ []) kind ≡ one_if r + 0 = count_by-cons Is r [] in
-      elim (Contains-cases x xs r there) [
-        | inl same ↦
-            let rest : without r.ident xs ≡ xs = none_leaves r.ident xs (λ y y_there e. apart_first x xs apart y y_there (ap (λ (z : Resident). z.ident) same ∙ sym e)) in
-            let stay : without r.ident (x ∷ xs) ≡ xs = ap (λ (b : Bool). cond (not b) (x ∷ without r.ident xs) (without r.ident xs)) (ap (λ (z : Resident). is_same z.ident r.ident) same ∙ is_same-refl r.ident) ∙ rest in
-            let now : count_of (without r.ident (x ∷ xs)) kind ≡ count_of xs kind = ap (λ (rs : List Resident). count_of rs kind) stay in
-            let kinds : one_if x ≡ one_if r = ap one_if same in
-            omega arith
-        | inr behind ↦
-            let stay : without r.ident (x ∷ xs) ≡ x ∷ without r.ident xs = ap (λ (b : Bool). cond (not b) (x ∷ without r.ident xs) (without r.ident xs)) (differ x.ident r.ident (apart_first x xs apart r behind)) in
-            let now : count_of (without r.ident (x ∷ xs)) kind ≡ one_if x + count_of (without r.ident xs) kind = ap (λ (rs : List Resident). count_of rs kind) stay ∙ count_by-cons Is x (without r.ident xs) in
-            let rest = count_without xs r (apart_behind x xs apart) behind in
-            omega arith
-      ]
+      omega arith
 
   -- what is kept of those that left has their kinds
   count_gone : (s : FlatState) (rs : List Resident) → count_by (λ (g : Gone). is_kind g.ident.kind kind) (map (gone_of s) rs) ≡ count_of rs kind

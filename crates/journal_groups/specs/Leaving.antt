@@ -1,5 +1,5 @@
 -- What has left since a group began, and what stays.
-use Rattle.std.specs.Prelude.{◌≡◌, ◌≢◌, ◌⊎◌, ◌↔◌, ◌+◌, ◌-◌, List, map, length, AllPairs, Contains, IsTrue, IfSome, slice_get}
+use Rattle.std.specs.Prelude.{◌≡◌, ◌⊎◌, ◌↔◌, ◌+◌, ◌-◌, List, map, length, Contains, IsTrue, IfSome, slice_get}
 use Rattle.std.specs.declared.cmp.Ordering.TheVariants.{Less}
 use Rattle.cache_ident.specs.declared.idents.Ident.{Ident}
 use Rattle.cache_ident.specs.declared.idents.Kind.{Kind}
@@ -10,9 +10,9 @@ use Rattle.writeback_order.specs.Order.{leaving_cmp}
 use Rattle.flat_state.specs.State.{FlatState}
 use Rattle.flat_state.specs.Names.{class_of}
 use Rattle.run_journal.specs.Groups.{node_of}
-use Rattle.run_journal.specs.Legal.{count_of}
+use Rattle.run_journal.specs.Legal.{count_of, AreGood}
 use Rattle.journal_laws.specs.Leaving.{HaveOneEach, LacksParent}
-use Rattle.journal_laws.specs.Staying.{AreGood}
+use Rattle.journal_tables.specs.Whole.{AreApart}
 use Rattle.journal_groups.specs.declared.group.Group.{Group}
 use Rattle.journal_groups.specs.declared.gone.Gone.{Gone}
 
@@ -22,10 +22,6 @@ gone_of s r = record { ident = r.ident; name = r.name; class = class_of s r.name
 
 abbrev pub node_of_gone : Gone → Node
 node_of_gone gone = record { ident = gone.ident; class = gone.class }
-
--- no identifier stands twice
-abbrev pub AreApart : List Resident → Type 0
-AreApart rs = AllPairs (λ a b. a.ident ≢ b.ident) rs
 
 -- Since the group began, when those before were resident, these identifiers left in this order; the rest is resident now. What
 -- was resident and what is resident is whole: each stands, is fit, and has all that it depends on.

@@ -7,9 +7,9 @@ ghost use Rattle.flat_state.specs.State.{FlatState};
 ghost use Rattle.flat_state.specs.WellFormed.{IsWellFormed};
 ghost use Rattle.residents.specs.Tables.{AreThose, resident_of};
 ghost use Rattle.run_journal.specs.Groups.{IsGroup};
-ghost use Rattle.run_journal.specs.Legal.{count_of, is_kind};
+ghost use Rattle.run_journal.specs.Legal.{AreGood, count_of, is_kind};
 ghost use Rattle.journal_laws.specs.Leaving.{HaveOneEach};
-ghost use Rattle.journal_laws.specs.Staying.{AreGood};
+ghost use Rattle.journal_tables.specs.Whole.{AreApart};
 
 use crate::gone::Gone;
 use cache_ident::{Kind, NoMemory};
@@ -30,7 +30,7 @@ pub struct Group {
 }
 
 impl Group {
-    ghost use Rattle.journal_groups.specs.Leaving.{AreApart, IsLeaving, IsBehindLast, LackOneEach};
+    ghost use Rattle.journal_groups.specs.Leaving.{IsLeaving, IsBehindLast, LackOneEach};
 
     /// Nothing has left.
     pub fn new(alloc: Global) -> Group

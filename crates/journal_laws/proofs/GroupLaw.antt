@@ -17,7 +17,7 @@ use Rattle.flat_state.specs.WellFormed.{IsWellFormed}
 use Rattle.flat_laws.proofs.Members.{contains_nothing, Contains-here, Contains-behind, Contains-cases, Contains-map, Contains-from_map}
 use Rattle.flat_laws.proofs.ParentLaws.{parent_leaves_later}
 use Rattle.run_journal.specs.Groups.{node_of, IsPairOf, ArePairsOf, IsGroup}
-use Rattle.journal_laws.specs.Staying.{AreGood}
+use Rattle.run_journal.specs.Legal.{AreGood}
 use Rattle.journal_laws.specs.Leaving.{LacksParent, HaveOneEach, HaveLeft}
 
 -- ---- the pairs of what is resident

@@ -1,5 +1,5 @@
 -- What stays good depends on the same, has the same owner and the same class.
-use Rattle.std.proofs.Common.{◌≡◌, ◌↔◌, ℕ, zero, suc, ◌<◌, Bool, true, false, List, [], ◌∷◌, map, filter, length, Option, Some, None, is_some, slice_get, Contains, refl, ap, ap₂, sym, ◌∙◌, subst, inl, inr, arith}
+use Rattle.std.proofs.Common.{◌≡◌, ◌↔◌, ℕ, ◌<◌, Bool, true, false, List, [], ◌∷◌, map, filter, length, Option, Some, None, is_some, slice_get, Contains, refl, ap, ap₂, sym, ◌∙◌, subst, inl, inr, arith}
 use Rattle.std.specs.Prelude.{if◌then◌else◌, ◌==◌, ◌&&◌, option_to_list, nat_lt}
 use Rattle.std.specs.Option.{option_map}
 use Rattle.std.proofs.lemmas.Bool.{and_parts, and_from}
@@ -32,7 +32,7 @@ use Rattle.flat_laws.proofs.Members.{contains_nothing, Contains-here, Contains-b
 use Rattle.flat_laws.proofs.ShortChains.{own_row}
 use Rattle.flat_laws.proofs.ParentLaws.{there_is}
 use Rattle.run_journal.proofs.Others.{Contains-from_filter}
-use Rattle.journal_laws.specs.Staying.{AreGood}
+use Rattle.run_journal.specs.Legal.{AreGood}
 
 abbrev kernel_zero : KernelNo
 kernel_zero = record { 0 = 0 }

@@ -1,3 +1,2 @@
 pub mod Touching
-pub mod Staying
 pub mod Leaving

@@ -7,8 +7,8 @@ ghost use Rattle.writeback_order.specs.Order.{leaving_cmp};
 ghost use Rattle.flat_state.specs.declared.events.Event.{Event};
 ghost use Rattle.flat_state.specs.Events.{flat};
 ghost use Rattle.run_journal.specs.Groups.{IsGroup, node_of};
+ghost use Rattle.run_journal.specs.Legal.{AreGood};
 ghost use Rattle.journal_laws.specs.Leaving.{HaveLeft, LacksParent};
-ghost use Rattle.journal_laws.specs.Staying.{AreGood};
 
 /// Where residents are whole before some of them leave and after a root has left behind these, what left is the group of
 /// the root exactly where it left in the order of leaving and each one now lacks something that it depends on. So no closure

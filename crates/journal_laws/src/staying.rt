@@ -7,7 +7,7 @@ ghost use Rattle.flat_state.specs.declared.events.Event.{Event};
 ghost use Rattle.flat_state.specs.Dependence.{Depends, owner};
 ghost use Rattle.flat_state.specs.Events.{applied, flat};
 ghost use Rattle.flat_state.specs.Names.{class_of, stands};
-ghost use Rattle.journal_laws.specs.Staying.{AreGood};
+ghost use Rattle.run_journal.specs.Legal.{AreGood};
 
 /// Where residents are whole before and after an event, each depends on what it depended on. So nothing that is kept of
 /// who depends on whom has to change while steps are taken and calls completed. A descriptor that stands before and after

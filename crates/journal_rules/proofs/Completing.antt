@@ -1,21 +1,21 @@
 -- Completed calls, and what they leave.
-use Rattle.std.proofs.Common.{◌≡◌, ◌≢◌, ℕ, zero, suc, ◌+◌, ◌<◌, Bool, true, false, List, [], ◌∷◌, length, get_or, Option, Some, None, is_some, IsSome, slice_get, Contains, refl, ap, sym, ◌∙◌, subst, inl, inr, arith}
-use Rattle.std.specs.Prelude.{◌==◌, if◌then◌else◌, ◌%◌}
+use Rattle.std.proofs.Common.{◌≡◌, ◌≢◌, ℕ, ◌+◌, ◌<◌, Bool, true, false, List, [], ◌∷◌, length, get_or, Option, Some, None, is_some, IsSome, slice_get, Contains, refl, ap, sym, ◌∙◌, subst, inl, inr, arith}
+use Rattle.std.specs.Prelude.{◌==◌, if◌then◌else◌}
 use Rattle.std.specs.Bool.{MatchBool}
-use Rattle.std.proofs.lemmas.Bool.{cases_lt, cases_Bool, false≢true, eqb-true}
+use Rattle.std.proofs.lemmas.Bool.{cases_lt, false≢true, eqb-true}
+use Rattle.std.proofs.lemmas.List.{get_or_default}
 use Rattle.cache_ident.specs.declared.names.Name.{Name}
 use Rattle.cache_ident.specs.declared.names.SpaceNo.{SpaceNo}
 use Rattle.cache_ident.specs.declared.names.ThreadNo.{ThreadNo}
 use Rattle.cache_ident.specs.Residents.{Resident, IsNameResident}
 use Rattle.rv32_exec.specs.declared.contexts.Context.{Context}
-use Rattle.fault_forward.specs.Calls.{Completion, completion_by, completion_of, call_number, taken}
+use Rattle.fault_forward.specs.Calls.{Completion, completion_by, call_number, taken}
 use Rattle.flat_state.specs.declared.events.Event.TheVariants.{Complete}
 use Rattle.flat_state.specs.declared.records.FlatThread.{FlatThread}
 use Rattle.flat_state.specs.State.{FlatState}
 use Rattle.flat_state.specs.Call.{is_completable, complete_if, completion_for, after_completion}
 use Rattle.flat_state.specs.Events.{after_event, applied}
-use Rattle.run_journal.specs.Legal.{StaysGood}
-use Rattle.journal_laws.specs.Staying.{AreGood}
+use Rattle.run_journal.specs.Legal.{StaysGood, AreGood}
 use Rattle.journal_laws.specs.Touching.{TouchesBy, TouchesFor, Touches}
 use Rattle.journal_laws.proofs.Untouched.{untouched_stays}
 use Rattle.journal_rules.specs.Running.{AreGoodNames, IsHarmless, LeavesGood, SpoilOne}
@@ -94,21 +94,17 @@ AreGoodTo s rs names n = (i : ℕ) (r : Resident) → i < n → i < length names
 pub good_none : (s : FlatState) (rs : List Resident) (names : List Name) → AreGoodTo s rs names 0
 good_none s rs names i r low within is = absurd (omega arith)
 
-any_default : {X : Type 0} (xs : List X) (i : ℕ) (d e : X) → i < length xs → get_or xs i d ≡ get_or xs i e
-any_default [] i d e within = absurd (omega arith)
-any_default (x ∷ xs) zero d e within = refl
-any_default (x ∷ xs) (suc i) d e within = any_default xs i d e (omega arith)
 
 pub good_more : (s : FlatState) (rs : List Resident) (names : List Name) (n : ℕ) (e : Name) → n < length names → AreGoodTo s rs names n → ((r : Resident) → r.name ≡ get_or names n e → StaysGood s rs r) → AreGoodTo s rs names (n + 1)
 good_more s rs names n e n_within before here i r low within is = elim (cases_lt i n) [
   | inl below ↦ before i r below within is
   | inr above ↦
       let last : i ≡ n = omega (arith, low) in
-      here r (sym is ∙ ap (λ (k : ℕ). get_or names k r.name) last ∙ any_default names n r.name e n_within)
+      here r (sym is ∙ ap (λ (k : ℕ). get_or names k r.name) last ∙ get_or_default names n r.name e n_within)
 ]
 
 pub good_all : (s : FlatState) (rs : List Resident) (names : List Name) → AreGoodTo s rs names (length names) → AreGoodNames s rs names
 good_all s rs names all r there = all there.0 r there.1 there.1 there.2
 
 pub spoils_at : (s : FlatState) (rs : List Resident) (names : List Name) (n : ℕ) (e : Name) → n < length names → ((r : Resident) → r.name ≡ get_or names n e → StaysGood s rs r → ⊥) → SpoilOne s rs names
-spoils_at s rs names n e within bad = (get_or names n e, (n, within, any_default names n (get_or names n e) e within), bad)
+spoils_at s rs names n e within bad = (get_or names n e, (n, within, get_or_default names n (get_or names n e) e within), bad)

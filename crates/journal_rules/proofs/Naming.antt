@@ -1,9 +1,10 @@
 -- What a machine's readers answer, by name.
-use Rattle.std.proofs.Common.{◌≡◌, ◌↔◌, ℕ, zero, suc, ◌+◌, ◌<◌, Bool, true, false, List, [], ◌∷◌, length, get_or, Option, Some, None, is_some, slice_get, Contains, Bor, refl, ap, sym, ◌∙◌, subst, inl, inr, arith}
+use Rattle.std.proofs.Common.{◌≡◌, ℕ, zero, suc, ◌+◌, ◌<◌, Bool, true, List, [], ◌∷◌, length, get_or, Option, Some, None, is_some, slice_get, Contains, Bor, refl, ap, sym, ◌∙◌, subst, inl, inr, arith}
 use Rattle.std.specs.Prelude.{nat_lt, if◌then◌else◌}
 use Rattle.std.specs.Option.{option_map, option_copied}
-use Rattle.std.proofs.lemmas.Bool.{cases_lt, false≢true}
+use Rattle.std.proofs.lemmas.Bool.{cases_lt}
 use Rattle.std.proofs.lemmas.Bool.Decides.{nat_tests}
+use Rattle.std.proofs.lemmas.List.{get_or_default}
 use Rattle.cache_ident.specs.declared.names.Caps.{Caps}
 use Rattle.cache_ident.specs.declared.names.KernelNo.{KernelNo}
 use Rattle.cache_ident.specs.declared.names.Name.{Name}
@@ -119,21 +120,17 @@ AreResidentTo rs names n = (i : ℕ) (name : Name) → i < n → i < length name
 pub resident_none : (rs : List Resident) (names : List Name) → AreResidentTo rs names 0
 resident_none rs names i name low within is = absurd (omega arith)
 
-any_default : {X : Type 0} (xs : List X) (i : ℕ) (d e : X) → i < length xs → get_or xs i d ≡ get_or xs i e
-any_default [] i d e within = absurd (omega arith)
-any_default (x ∷ xs) zero d e within = refl
-any_default (x ∷ xs) (suc i) d e within = any_default xs i d e (omega arith)
 
 pub resident_more : (rs : List Resident) (names : List Name) (n : ℕ) (e : Name) → n < length names → AreResidentTo rs names n → IsNameResident rs (get_or names n e) → AreResidentTo rs names (n + 1)
 resident_more rs names n e n_within before here i name low within is = elim (cases_lt i n) [
   | inl below ↦ before i name below within is
   | inr above ↦
       let last : i ≡ n = omega (arith, low) in
-      subst (λ (m : Name). IsNameResident rs m) (any_default names n e name n_within ∙ ap (λ (k : ℕ). get_or names k name) (sym last) ∙ is) here
+      subst (λ (m : Name). IsNameResident rs m) (get_or_default names n e name n_within ∙ ap (λ (k : ℕ). get_or names k name) (sym last) ∙ is) here
 ]
 
 pub resident_all : (rs : List Resident) (names : List Name) → AreResidentTo rs names (length names) → (name : Name) → Contains names name → IsNameResident rs name
 resident_all rs names all name there = all there.0 name there.1 there.1 there.2
 
 pub lacks_at : (rs : List Resident) (names : List Name) (n : ℕ) (e : Name) → n < length names → (IsNameResident rs (get_or names n e) → ⊥) → LackOne rs names
-lacks_at rs names n e within missing = (get_or names n e, (n, within, any_default names n (get_or names n e) e within), missing)
+lacks_at rs names n e within missing = (get_or names n e, (n, within, get_or_default names n (get_or names n e) e within), missing)

@@ -8,8 +8,7 @@ use Rattle.fault_forward.specs.Calls.{completion_of}
 use Rattle.flat_state.specs.declared.records.FlatThread.{FlatThread}
 use Rattle.flat_state.specs.State.{FlatState}
 use Rattle.flat_state.specs.Events.{after_event, applied}
-use Rattle.run_journal.specs.Legal.{MayStep, StaysGood, after_steps}
-use Rattle.journal_laws.specs.Staying.{AreGood}
+use Rattle.run_journal.specs.Legal.{MayStep, StaysGood, after_steps, AreGood}
 use Rattle.journal_laws.specs.Touching.{TouchesBy}
 
 -- the thread may take each of so many steps

@@ -6,8 +6,8 @@ ghost use Rattle.cache_ident.specs.declared.names.Name.{Name};
 ghost use Rattle.cache_ident.specs.Residents.{Resident};
 ghost use Rattle.flat_state.specs.declared.events.Event.TheVariants.{Complete};
 ghost use Rattle.flat_state.specs.Events.{after_event, applied};
+ghost use Rattle.run_journal.specs.Legal.{AreGood};
 ghost use Rattle.residents.specs.Tables.{AreThose};
-ghost use Rattle.journal_laws.specs.Staying.{AreGood};
 ghost use Rattle.journal_laws.specs.Touching.{Touches};
 ghost use Rattle.journal_rules.specs.Running.{AreGoodNames, IsHarmless, LeavesGood, SpoilOne};
 

@@ -1,6 +1,6 @@
 -- How many of what is resident pass a test, once one comes, leaves or is locked.
 use Rattle.std.proofs.Common.{◌≡◌, ◌≢◌, ℕ, suc, ◌+◌, Bool, true, false, cond, not, List, [], ◌∷◌, Contains, refl, ap, sym, ◌∙◌, inl, inr, arith}
-use Rattle.std.specs.Prelude.{count_by, AllPairs}
+use Rattle.std.specs.Prelude.{count_by}
 use Rattle.cache_ident.specs.declared.idents.Ident.{Ident}
 use Rattle.cache_ident.specs.declared.names.Name.{Name}
 use Rattle.cache_ident.specs.Rolls.{is_same}
@@ -9,9 +9,7 @@ use Rattle.cache_ident.specs.Residents.{Resident, with_loaded, without, locked_i
 use Rattle.flat_state.proofs.Places.{count_by-cons}
 use Rattle.flat_laws.proofs.Members.{Contains-here, Contains-behind, Contains-cases, contains_nothing}
 use Rattle.run_journal.proofs.Others.{differ}
-
-abbrev pub AreApart : List Resident → Type 0
-AreApart rs = AllPairs (λ a b. a.ident ≢ b.ident) rs
+use Rattle.journal_tables.specs.Whole.{AreApart}
 
 pub apart_behind : (x : Resident) (xs : List Resident) → AreApart (x ∷ xs) → AreApart xs
 apart_behind x xs apart = λ i j d lower within. apart (suc i) (suc j) d (omega arith) (omega arith)

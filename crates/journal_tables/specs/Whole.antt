@@ -3,13 +3,17 @@ use Rattle.std.specs.Prelude.{◌≡◌, ◌≢◌, ℕ, ◌<◌, List, AllPairs
 use Rattle.cache_ident.specs.Names.{kind_of}
 use Rattle.cache_ident.specs.Residents.{Resident}
 use Rattle.flat_state.specs.State.{FlatState}
+use Rattle.run_journal.specs.Legal.{AreGood}
 use Rattle.journal_laws.specs.Leaving.{HaveOneEach}
-use Rattle.journal_laws.specs.Staying.{AreGood}
+
+-- no identifier stands twice
+abbrev pub AreApart : List Resident → Type 0
+AreApart rs = AllPairs (λ a b. a.ident ≢ b.ident) rs
 
 -- After so many loads no identifier stands twice. Each has a serial that a load gave out, the kind of its name, and an
 -- identifier, a name and a slot of its own; it stands, is fit, and has all that it depends on.
 pub record AreWhole (s : FlatState) (loads : ℕ) (rs : List Resident) : Type 0 where
-  pub apart : AllPairs (λ a b. a.ident ≢ b.ident) rs
+  pub apart : AreApart rs
   pub issued : (r : Resident) → Contains rs r → r.ident.serial < loads
   pub kinds : (r : Resident) → Contains rs r → r.ident.kind ≡ kind_of r.name
   pub one : HaveOneEach rs

@@ -50,7 +50,8 @@ fn put_flag(out: &mut Vec<u8>, is_set: bool, letter: &[u8]) -> Result<(), NoMemo
     Ok(())
 }
 
-fn put_rights(out: &mut Vec<u8>, read: bool, write: bool) -> Result<(), NoMemory>
+/// Adds what a right allows: `r`, `w` or both, and `-` where it allows neither.
+pub fn put_rights(out: &mut Vec<u8>, read: bool, write: bool) -> Result<(), NoMemory>
     ensures { OnOk result (out.new.items ≡ out.old.items ++ rights_text read write) }
 {
     put_flag(out, read, b"r")?;
@@ -58,7 +59,8 @@ fn put_rights(out: &mut Vec<u8>, read: bool, write: bool) -> Result<(), NoMemory
     put_flag(out, !(read || write), b"-")
 }
 
-fn put_flags(out: &mut Vec<u8>, flags: Flags) -> Result<(), NoMemory>
+/// Adds the letters of the flags that are set, in the order `rwxm`, and `-` where none is.
+pub fn put_flags(out: &mut Vec<u8>, flags: Flags) -> Result<(), NoMemory>
     ensures { OnOk result (out.new.items ≡ out.old.items ++ flags_text flags) }
 {
     put_flag(out, flags.r, b"r")?;
@@ -77,9 +79,9 @@ fn put_receiver(out: &mut Vec<u8>, receiver: Option<ThreadNo>) -> Result<(), NoM
     }
 }
 
-// Eight hexadecimal digits.
+/// Adds the eight hexadecimal digits of a word.
 #[tactic(auto, unfolding(crate::specs::Lines::word_text))]
-fn put_word(out: &mut Vec<u8>, value: u32) -> Result<(), NoMemory>
+pub fn put_word(out: &mut Vec<u8>, value: u32) -> Result<(), NoMemory>
     ensures { OnOk result (out.new.items ≡ out.old.items ++ word_text value) }
 {
     let mut digits = [0; 8];

@@ -160,12 +160,9 @@ refused_so words bytes left NoMemory k text none due = tt
 refused_so words bytes left Usage k text none due = tt
 refused_so words bytes left TooLong k text none due = taken_or_not words due.0 _ none due.1
 
-some_is : (o p : Options) → Some o ≡ Some p → o ≡ p
-some_is o p e = cc
-
 by_options : (words : List (List ℕ)) (o : Options) (bytes left : Option (List ℕ)) (status : RunStatus) (k : Kept) (text told : List ℕ) → options words ≡ Some o → IsTold o bytes told → (p : Options) × (options words ≡ Some p) × IsDueBy p bytes left status k text → ComesOut (scenario told) status
 by_options words o bytes left status k text told taken is due =
-    complete_by o bytes left status k text told is (subst (λ (p : Options). IsDueBy p bytes left status k text) (some_is due.0 o (sym due.1 ∙ taken)) due.2)
+    complete_by o bytes left status k text told is (subst (λ (p : Options). IsDueBy p bytes left status k text) (same_Some due.0 o (sym due.1 ∙ taken)) due.2)
 
 complete_so : (words : List (List ℕ)) (o : Options) (bytes left : Option (List ℕ)) (status : RunStatus) (k : Kept) (text told : List ℕ) → options words ≡ Some o → IsTold o bytes told → IsDue words bytes left status k text → ComesOut (scenario told) status
 complete_so words o bytes left Done k text told taken is due = by_options words o bytes left Done k text told taken is due

@@ -8,11 +8,11 @@ ghost use Rattle.byte_ports.specs.Whole.{AppendsFront};
 ghost use Rattle.flat_state.specs.State.{nothing_declared};
 ghost use Rattle.flat_state.specs.Events.{AllFit};
 ghost use Rattle.scenario_reader.specs.Scenarios.{scenario};
-ghost use Rattle.run_words.specs.declared.options.Options.{Options as OptionsLem};
+ghost use Rattle.run_words.specs.declared.options.Options.{Options};
 ghost use Rattle.run_words.specs.Options.{options};
-ghost use Rattle.proc_run.specs.declared.outcome.RunStatus.{RunStatus as RunStatusLem};
+ghost use Rattle.proc_run.specs.declared.outcome.RunStatus.{RunStatus};
 ghost use Rattle.proc_run.specs.declared.outcome.Kept.TheVariants.{Nothing};
-ghost use Rattle.proc_run.specs.declared.machine.NoText.TheVariants.{NoMemory as NoMemoryLem};
+ghost use Rattle.proc_run.specs.declared.machine.NoText.TheVariants as no_text;
 ghost use Rattle.proc_run.specs.Outcomes.{IsDue, IsDueBy, IsAnswer, IsScenario, IsTold, IsFaultless, reads_source, OnWritten, OnWriteFault, OnReadFault, OnNothingDue, UnlessReadFault, UnlessWriteFault, ComesOutOrNoMemory, IsRefusal, usage_line, too_long_line, fault_line};
 ghost use Rattle.proc_run.specs.Dues.{OnFailed, UnlessFailed, status_of};
 
@@ -48,7 +48,7 @@ enum NoText {
 }
 
 impl From<AllocError> for NoText {
-    ghost from_gives = { λ _ e. e ≡ NoMemoryLem };
+    ghost from_gives = { λ _ e. e ≡ no_text.NoMemory };
 
     fn from(_e: AllocError) -> NoText {
         NoText::NoMemory
@@ -195,7 +195,7 @@ pub fn run_machine<S: Source, W: Sink>(
 
     // After a write fault it is the beginning of such a text.
     ensures write_fault { OnWriteFault result.status (HasRisen (W.faults sink.old) (W.faults sink.new)
-        × ((status : RunStatusLem) × (text : List ℕ)
+        × ((status : RunStatus) × (text : List ℕ)
         × IsDue words.now (S.bytes_left source.old) (S.bytes_left source.new) status result.kept text
         × AppendsFront (W.bytes_held sink.old) (W.bytes_held sink.new) text)) }
 
@@ -213,7 +213,7 @@ pub fn run_machine<S: Source, W: Sink>(
 
     // With words that are taken, a scenario runs to its end, and any other text that isn't too long is answered by its
     // first fault, unless an end fails or memory runs out.
-    ensures complete { (o : OptionsLem) → options words.now ≡ Some o → (text : List ℕ) → IsTold o (S.bytes_left source.old) text
+    ensures complete { (o : Options) → options words.now ≡ Some o → (text : List ℕ) → IsTold o (S.bytes_left source.old) text
         → IsFaultless o (HasRisen (S.faults source.old) (S.faults source.new))
         → (HasRisen (W.faults sink.old) (W.faults sink.new) → ⊥) → ComesOutOrNoMemory (scenario text) result.status }
 {

@@ -1,5 +1,5 @@
 -- Which pairs there are after a change, and which is the first of a parent.
-use Rattle.std.proofs.Common.{◌≡◌, ◌≢◌, ◌↔◌, ◌⊎◌, ℕ, zero, suc, ◌+◌, ◌<◌, Bool, true, false, List, [], ◌∷◌, length, get_or, Contains, refl, ap, sym, ◌∙◌, inl, inr, arith}
+use Rattle.std.proofs.Common.{◌≡◌, ◌≢◌, ◌↔◌, ◌⊎◌, ℕ, ◌+◌, ◌<◌, Bool, true, false, List, length, get_or, Contains, refl, ap, sym, ◌∙◌, inl, inr, arith}
 use Rattle.std.proofs.lemmas.Bool.{cases_lt, false≢true}
 use Rattle.std.specs.BTreeSet.{contains}
 use Rattle.std.specs.declared.cmp.Ordering.{Ordering}
@@ -51,10 +51,6 @@ pub removed_none : (old : Dependents) (child : Name) (parents : List Name) → A
 removed_none old child parents parent other = (λ pair. (pair, λ one. let low = one.1.1 in omega arith), λ both. both.0)
 
 -- what stands at a place of a list
-pub any_default : {X : Type 0} (xs : List X) (i : ℕ) (d e : X) → i < length xs → get_or xs i d ≡ get_or xs i e
-any_default [] i d e within = absurd (omega arith)
-any_default (x ∷ xs) zero d e within = refl
-any_default (x ∷ xs) (suc i) d e within = any_default xs i d e (omega arith)
 
 module _ (old mid new : Dependents) (child : Name) (parents : List Name) (n : ℕ) (within : n < length parents) (x : Name) (is : (d : Name) → get_or parents n d ≡ x) where
   apart : (parent other : Name) → ◌≢◌ {A = Name × Name} (parent, other) (x, child) → other ≡ child → parent ≢ x

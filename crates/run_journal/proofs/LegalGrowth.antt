@@ -21,10 +21,10 @@ use Rattle.run_journal.specs.declared.entries.Entry.TheVariants.{Sealed, Loaded,
 use Rattle.run_journal.specs.Entries.{erase}
 use Rattle.run_journal.specs.Told.{Due, Anything, FirstLock, Load, is_load, is_seal, Told, nothing_told, told_of, told_after, told_from, told, residents, due_after_load}
 use Rattle.run_journal.specs.Groups.{node_of, ArePairsOf, departures}
-use Rattle.run_journal.specs.Legal.{first_ident, Comes, IsInPlace, IsByProcessor, IsFullBefore, MayLoad, MayLock, MayHappen, MayCome, AreLegal, IsLegal}
+use Rattle.run_journal.specs.Legal.{first_ident, Comes, IsInPlace, IsByProcessor, IsFullBefore, AreGood, MayLoad, MayLock, MayHappen, MayCome, AreLegal, IsLegal}
 use Rattle.run_journal.proofs.Growth.{told_from-append, after_events-append, erase-append, legal-append, state_from, residents_told_from, loads_from, sealed_from}
 use Rattle.run_journal.proofs.Sound.{no_group, AreNumbered, are_numbered, not_first}
-use Rattle.run_journal.proofs.Whole.{nothing_loaded, AreGood, AreApart, whole_from, nothing_whole}
+use Rattle.run_journal.proofs.Whole.{nothing_loaded, AreApart, whole_from, nothing_whole}
 use Rattle.run_journal.proofs.Leaving.{departs}
 
 pub state_told : (j : List Entry) → (told j).state ≡ flat (erase j)

@@ -20,7 +20,7 @@ use Rattle.run_journal.specs.declared.entries.Entry.{Entry}
 use Rattle.run_journal.specs.declared.entries.Entry.TheVariants.{Declared, Sealed, Loaded, WrittenBack, Locked, Unlocked, Ran, Ended, Completed}
 use Rattle.run_journal.specs.Told.{is_seal, Told, nothing_told, told_after, told_from}
 use Rattle.run_journal.specs.Groups.{NothingDependsOn, HasParents}
-use Rattle.run_journal.specs.Legal.{MayLoad, MayCome, IsInPlace, StaysGood, AreLegal}
+use Rattle.run_journal.specs.Legal.{MayLoad, MayCome, IsInPlace, StaysGood, AreGood, AreLegal}
 use Rattle.run_journal.proofs.Growth.{sealed_after}
 use Rattle.run_journal.proofs.Others.{without_cases, stays_without, locked_keeps}
 use Rattle.run_journal.proofs.Sound.{IsOneEach, AreNumbered, numbered_after}
@@ -54,9 +54,6 @@ pub nothing_loaded : (j : List Entry) → AreLegal nothing_told j → (told_from
 nothing_loaded j legal = unsealed_from nothing_told j legal (λ e. (refl, refl))
 
 -- ---- what stands, and has what it depends on
-
-abbrev pub AreGood : FlatState → List Resident → Type 0
-AreGood s rs = (r : Resident) → Contains rs r → StaysGood s rs r
 
 good_nothing : (s : FlatState) (rs : List Resident) → rs ≡ [] → AreGood s rs
 good_nothing s rs none r there = absurd (contains_nothing r (subst (λ (xs : List Resident). Contains xs r) none there))

@@ -177,10 +177,14 @@ pub record StaysGood (s : FlatState) (rs : List Resident) (r : Resident) : Type 
   pub fit : is_fit_name s r.name ≡ true
   pub parents : HasParents s rs r.name
 
+-- each of them does
+abbrev pub AreGood : FlatState → List Resident → Type 0
+AreGood s rs = (r : Resident) → Contains rs r → StaysGood s rs r
+
 pub record MayComplete (k : Told) (thread : ThreadNo) : Type 0 where
   pub resident : IsNameResident k.residents (Thread thread)
   pub fits : IsSome (after_event k.state (Complete thread))
-  pub good : (r : Resident) → Contains k.residents r → StaysGood (applied k.state (Complete thread)) k.residents r
+  pub good : AreGood (applied k.state (Complete thread)) k.residents
 
 -- ---- all rules
 

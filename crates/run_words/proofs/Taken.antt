@@ -1,6 +1,7 @@
 -- Which words the command takes.
 use Rattle.std.proofs.Common.{◌≡◌, Bool, true, false, List, [], ◌∷◌, length, Option, Some, None, refl, sym, ap, ◌∙◌, ◌⊎◌, inl, inr, ◌==◌, Result, Ok, Err, arith}
 use Rattle.std.proofs.lemmas.Bool.{ne_eqb}
+use Rattle.std.proofs.lemmas.Option.{same_Some}
 use Rattle.std.specs.Prelude.{if◌then◌else◌, IfOk}
 use Rattle.std.specs.Option.{ok_or}
 use Rattle.clap.specs.Words.{IsAmong, Kinds, Row, Text, fault_of, is_simple, is_simple_and_free, matches_of}
@@ -61,9 +62,6 @@ pub no_words : options [] ≡ Some by_default
 unfolding options options_in clap_on_literals
 no_words = refl
 
-some_is : (o p : Options) → Some o ≡ Some p → o ≡ p
-some_is o p e = cc
-
 pub by_default_so : (words : List Text) (r : Result Options WordsFault) → words ≡ [] → IsReading words r → IfOk r (λ o. o ≡ by_default)
-by_default_so words (Ok o) none meant = some_is o by_default (sym meant ∙ (ap options none ∙ no_words))
+by_default_so words (Ok o) none meant = same_Some o by_default (sym meant ∙ (ap options none ∙ no_words))
 by_default_so words (Err fault) none meant = tt

@@ -2,7 +2,7 @@
 
 ghost use Rattle.std.specs.Prelude.{◌≡◌, [], false, IfOk};
 ghost use Rattle.clap.specs.Words.{app_of, rule_of, found_of, rows_of};
-ghost use Rattle.run_words.specs.Command.{option, bare, command as command_lem};
+ghost use Rattle.run_words.specs.Command.{option, bare, command};
 ghost use Rattle.run_words.specs.Options.{mode_in, number_in, options_in, fault_by, IsReading, by_default};
 
 use crate::options::{Mode, Options, WordsFault};
@@ -35,7 +35,7 @@ fn bare<'a>(alloc: Global) -> Command<'a>
 
 // The command of the program, without a help flag and without subcommands.
 fn command<'a>(alloc: Global) -> Result<Command<'a>, AllocError>
-    ensures { IfOk result (λ c. app_of c ≡ command_lem) }
+    ensures { IfOk result (λ c. app_of c ≡ command) }
 {
     let mode = option(alloc, "mode", "run", ValueParser::String);
     let cpus = option(alloc, "cpus", "1", ValueParser::unsigned(1, 8));

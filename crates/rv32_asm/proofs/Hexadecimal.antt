@@ -4,6 +4,7 @@ use Rattle.std.specs.Prelude.{codes}
 use Rattle.std.proofs.lemmas.Bool.{cases_lt, lt-ltb, le-ltb, le-leb, ne_eqb}
 use Rattle.text_fields.specs.Numbers.{digit, digits_from, digits, number}
 use Rattle.text_fields.specs.Reading.{after}
+use Rattle.text_fields.proofs.Decimals.{digits_end}
 use Rattle.rv32_asm.specs.Fields.{cut}
 use Rattle.rv32_asm.specs.Line.{Word, of_one, operation}
 use Rattle.rv32_asm.specs.Listing.{glyph, hexadecimal}
@@ -52,10 +53,6 @@ step k d rest lt small =
 step_to : (k d m : ℕ) (rest : List ℕ) → d < 16 → 16 * k + d ≡ m → m < 2 ^ 32 → digits_from 16 k (glyph d ∷ rest) ≡ digits_from 16 m rest
 step_to k d m rest lt same small = step k d rest lt (omega (arith, same, small)) ∙ ap (λ (n : ℕ). digits_from 16 n rest) same
 
-ends : (n : ℕ) → digits_from 16 n [] ≡ Some n
-unfolding digits_from
-ends n = refl
-
 from_reads : (w : ℕ) → w < 2 ^ 32 → digits_from 16 0 (hexadecimal w) ≡ Some w
 from_reads w small =
     step_to 0 (w / 2 ^ 28 % 16) (w / 2 ^ 28) _ (omega arith) (omega arith) (omega arith)
@@ -66,7 +63,7 @@ from_reads w small =
     ∙ step_to (w / 2 ^ 12) (w / 2 ^ 8 % 16) (w / 2 ^ 8) _ (omega arith) (omega arith) (omega arith)
     ∙ step_to (w / 2 ^ 8) (w / 2 ^ 4 % 16) (w / 2 ^ 4) _ (omega arith) (omega arith) (omega arith)
     ∙ step_to (w / 2 ^ 4) (w % 16) w [] (omega arith) (omega arith) small
-    ∙ ends w
+    ∙ digits_end 16 w
 
 after_0x : (xs : List ℕ) → after (codes "0x") (codes "0x" ++ xs) ≡ Some xs
 unfolding after

@@ -1,12 +1,12 @@
 -- The text of a register or of a number is read as it.
-use Rattle.std.proofs.Common.{◌≡◌, ℕ, suc, ◌+◌, ◌-◌, ◌*◌, ◌/◌, ◌%◌, ◌^◌, ◌<◌, ◌≤◌, Bool, true, false, eqb, ltb, leb, List, [], ◌∷◌, ◌++◌, length, Option, Some, None, refl, sym, ap, subst, ◌∙◌, append_assoc, arith, eq-eqb, inl, inr}
+use Rattle.std.proofs.Common.{◌≡◌, ℕ, suc, ◌+◌, ◌-◌, ◌*◌, ◌/◌, ◌%◌, ◌^◌, ◌<◌, ◌≤◌, Bool, true, false, eqb, ltb, leb, List, [], ◌∷◌, ◌++◌, length, Option, Some, None, refl, ap, subst, ◌∙◌, arith, eq-eqb, inl, inr}
 use Rattle.std.specs.Prelude.{ℤ, pos, negsuc, int_le, unsigned_abs, codes, T}
 use Rattle.std.specs.Fmt.{decimal, signed_decimal}
-use Rattle.std.proofs.lemmas.Bool.{cases_Bool, cases_lt, lt-ltb, le-leb, ne_eqb, leb-true}
-use Rattle.std.proofs.lemmas.List.{append-nil}
-use Rattle.std.proofs.lemmas.Fmt.{decimal_digit, decimal_step, decimal_by_steps, decimal_nonempty, length-decimal-le}
+use Rattle.std.proofs.lemmas.Bool.{cases_Bool, cases_lt, lt-ltb, ne_eqb, leb-true}
+use Rattle.std.proofs.lemmas.Fmt.{decimal_digit, decimal_step, decimal_nonempty}
 use Rattle.rv32_isa.specs.Table.{LiesFrom}
-use Rattle.text_fields.specs.Numbers.{digit, digits_from, digits, number}
+use Rattle.text_fields.specs.Numbers.{digit}
+use Rattle.text_fields.proofs.Decimals.{IsDigits, decimal_digits, digit_reads, number_reads}
 use Rattle.text_fields.specs.Reading.{◌>>=◌, after}
 use Rattle.rv32_asm.specs.Fields.{immediate, immediate_in, short_number, lettered, numbered, register, bracketed, is_name}
 use Rattle.rv32_asm.specs.Line.{Distance, target_at, IsEven}
@@ -14,26 +14,6 @@ use Rattle.rv32_asm.specs.Listing.{register_text, based_text}
 use Rattle.rv32_asm.proofs.Tokens.{lacks, lacks_parts, lacks_append, cut_found, cut_none, IsToken}
 
 -- ---- digits
-
-abbrev pub IsDigits : List ℕ → Type 0
-IsDigits [] = Unit {0}
-IsDigits (b ∷ bytes) = (48 ≤ b) × (b ≤ 57) × IsDigits bytes
-
-digits_append : (xs ys : List ℕ) → IsDigits xs → IsDigits ys → IsDigits (xs ++ ys)
-digits_append [] ys h k = k
-digits_append (x ∷ xs) ys h k = (h.0, h.1, digits_append xs ys h.2 k)
-
-one_digit : (n : ℕ) → n < 10 → IsDigits ((48 + n) ∷ [])
-one_digit n lt = (omega arith, omega arith, tt)
-
-more_digits : (n : ℕ) (ds : List ℕ) → 10 ≤ n → IsDigits ds → IsDigits (ds ++ ((48 + n % 10) ∷ []))
-more_digits n ds ge h = digits_append ds ((48 + n % 10) ∷ []) h (omega arith, omega arith, tt)
-
-abbrev AreDigits : ℕ → List ℕ → Type 0
-AreDigits n ds = IsDigits ds
-
-decimal_digits : (n : ℕ) → n < 2 ^ 64 → IsDigits (decimal n)
-decimal_digits n small = decimal_by_steps AreDigits one_digit more_digits n small
 
 digits_lack : (at : ℕ) → ((b : ℕ) → 48 ≤ b → b ≤ 57 → eqb b at ≡ false) → (ds : List ℕ) → IsDigits ds → lacks at ds ≡ true
 digits_lack at apart [] h = refl
@@ -50,15 +30,6 @@ nonempty [] h = absurd (omega (arith, h))
 nonempty (b ∷ bytes) h = (b, bytes, refl)
 
 -- ---- registers
-
-digit_reads : (d : ℕ) → d < 10 → digit 10 (48 + d) ≡ Some d
-unfolding digit
-digit_reads d lt =
-    let low : leb 48 (48 + d) ≡ true = le-leb _ _ (omega arith) in
-    let high : leb (48 + d) 57 ≡ true = le-leb _ _ (omega arith) in
-    let value : 48 + d - 48 ≡ d = omega arith in
-    let below : ltb d 10 ≡ true = lt-ltb _ _ lt in
-    rw (low, high, value, below) refl
 
 short_two : (a b s t : ℕ) → eqb a 48 ≡ false → digit 10 a ≡ Some s → digit 10 b ≡ Some t → short_number (a ∷ b ∷ []) ≡ Some (10 * s + t)
 unfolding short_number
@@ -127,48 +98,6 @@ low_no_name b bytes low =
 
 -- ---- numbers
 
-from_step : (k d : ℕ) (rest : List ℕ) → d < 10 → 10 * k + d < 2 ^ 32 → digits_from 10 k ((48 + d) ∷ rest) ≡ digits_from 10 (10 * k + d) rest
-unfolding digits_from
-from_step k d rest lt small =
-    let fits : ltb (10 * k + d) (2 ^ 32) ≡ true = lt-ltb _ _ small in
-    rw (digit_reads d lt, fits) refl
-
-abbrev IsRead : ℕ → List ℕ → Type 0
-IsRead n ds = (rest : List ℕ) → n < 2 ^ 32 → digits_from 10 0 (ds ++ rest) ≡ digits_from 10 n rest
-
-read_one : (n : ℕ) → n < 10 → IsRead n ((48 + n) ∷ [])
-read_one n lt rest small =
-    let same : 10 * 0 + n ≡ n = omega arith in
-    from_step 0 n rest lt (omega arith) ∙ ap (λ (k : ℕ). digits_from 10 k rest) same
-
-read_more : (n : ℕ) (ds : List ℕ) → 10 ≤ n → IsRead (n / 10) ds → IsRead n (ds ++ ((48 + n % 10) ∷ []))
-read_more n ds ge front rest small =
-    let whole : 10 * (n / 10) + n % 10 ≡ n = omega arith in
-    ap (digits_from 10 0) (append_assoc ds ((48 + n % 10) ∷ []) rest) ∙ front ((48 + n % 10) ∷ rest) (omega arith) ∙ from_step (n / 10) (n % 10) rest (omega arith) (omega arith) ∙ ap (λ (m : ℕ). digits_from 10 m rest) whole
-
-from_end : (n : ℕ) → digits_from 10 n [] ≡ Some n
-unfolding digits_from
-from_end n = refl
-
-from_reads : (n : ℕ) → n < 2 ^ 32 → digits_from 10 0 (decimal n) ≡ Some n
-from_reads n small = ap (digits_from 10 0) (sym (append-nil (decimal n))) ∙ decimal_by_steps IsRead read_one read_more n (omega arith) [] small ∙ from_end n
-
-digits_reads : (n : ℕ) → n < 2 ^ 32 → digits 10 1 10 (decimal n) ≡ Some n
-unfolding digits
-digits_reads n small =
-    let some : leb 1 (length (decimal n)) ≡ true = le-leb _ _ (omega (arith, decimal_nonempty n (omega arith))) in
-    let few : leb (length (decimal n)) 10 ≡ true = le-leb _ _ (length-decimal-le 10 n (omega arith) (omega arith) (omega arith)) in
-    rw (some, few) (from_reads n small)
-
-no_0x : (xs : List ℕ) → lacks 120 xs ≡ true → after (codes "0x") xs ≡ None
-unfolding after
-no_0x [] h = refl
-no_0x (a ∷ []) h = elim (cases_Bool (eqb a 48)) [ inl e ↦ rw e refl | inr e ↦ rw e refl ]
-no_0x (a ∷ b ∷ more) h =
-    let p = lacks_parts 120 a (b ∷ more) h in
-    let q = lacks_parts 120 b more p.1 in
-    elim (cases_Bool (eqb a 48)) [ inl e ↦ rw (e, q.0) refl | inr e ↦ rw e refl ]
-
 no_minus : (xs : List ℕ) → lacks 45 xs ≡ true → after (codes "-") xs ≡ None
 unfolding after
 no_minus [] h = refl
@@ -177,12 +106,6 @@ no_minus (a ∷ more) h = let p = lacks_parts 45 a more h in rw p.0 refl
 minus : (xs : List ℕ) → after (codes "-") (45 ∷ xs) ≡ Some xs
 unfolding after
 minus xs = refl
-
-number_reads : (n : ℕ) → n < 2 ^ 32 → number (decimal n) ≡ Some n
-unfolding number
-number_reads n small =
-    let plain : after (codes "0x") (decimal n) ≡ None = no_0x (decimal n) (digits_lack 120 (apart_high 120 (omega arith)) (decimal n) (decimal_digits n (omega arith))) in
-    rw plain (digits_reads n small)
 
 abbrev pub IsSmall : ℤ → Type 0
 IsSmall z = unsigned_abs z < 2 ^ 32

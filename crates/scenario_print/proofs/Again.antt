@@ -12,7 +12,7 @@ use Rattle.flat_state.specs.declared.events.TheConstants.{GREATEST_CAPS}
 use Rattle.flat_state.specs.declared.events.Decl.{Decl}
 use Rattle.flat_state.specs.declared.events.Decl.TheVariants as decls
 use Rattle.flat_state.specs.State.{FlatState, nothing_declared}
-use Rattle.flat_state.specs.Declaration.{broken_rule, rule_by_machine, rule_of_machine, breaks, has_no_flag, declared}
+use Rattle.flat_state.specs.Declaration.{broken_rule, rule_by_machine, rule_of_machine, has_no_flag, declared}
 use Rattle.flat_state.specs.Events.{AllFit, after_declarations}
 use Rattle.code_blocks.specs.Blocks.{no_lines}
 use Rattle.text_fields.specs.Lines.{lines, pieces}
@@ -23,6 +23,7 @@ use Rattle.scenario_lines.specs.Forms.{Line}
 use Rattle.scenario_lines.specs.Forms as forms
 use Rattle.scenario_lines.specs.Shapes as shapes
 use Rattle.scenario_lines.specs.Lines.{by_word, line_of}
+use Rattle.image_decls.proofs.Sized.{unbroken}
 use Rattle.scenario_reader.specs.Readings.{Memory, Body, Reading, start, declare, declare_all, word_decls, in_place}
 use Rattle.scenario_reader.specs.Scenarios.{in_body, behind_memory, at_start, at_end, numbered, step, finish, reads, scenario}
 use Rattle.scenario_print.specs.Texts.{spaced, numbers, amounts, signal_text, decl_text, scenario_text}
@@ -239,16 +240,12 @@ is_behind s m d there fits = by d (sym (ap (λ (o : Option Machine). rule_by_mac
     by (decls.Map space vpn frame flags receiver) e = tt
     by (decls.Word frame offset value) e = tt
 
-unbroken : (b : Bool) (rule : ℕ) (later : Option ℕ) → breaks b rule later ≡ None → b ≡ false
-unbroken true rule later e = absurd cc
-unbroken false rule later e = refl
-
 has_flag : (s : FlatState) (m : Machine) (d : Decl) → s.machine ≡ Some m → broken_rule s d ≡ None → HasFlag d
 unfolding broken_rule
 has_flag s m d there fits = by d (sym (ap (λ (o : Option Machine). rule_by_machine o s d) there) ∙ fits)
   where
     by : (d : Decl) → rule_by_machine (Some m) s d ≡ None → HasFlag d
-    by (decls.Map space vpn frame flags receiver) e = unbroken (has_no_flag flags) 4 _ e
+    by (decls.Map space vpn frame flags receiver) e = (unbroken (has_no_flag flags) 4 _ e).0
     by (decls.Machine machine) e = tt
     by (decls.Kernel n limits) e = tt
     by (decls.Right kernel group read write) e = tt
@@ -314,7 +311,7 @@ machine_text m rest = around (machine_line m.groups) (codes "\ncaps" ++ flat_map
 
 -- memory of a machine that fits, with the greatest capacities, fits too
 memory_fits : (m : Machine) → rule_of_machine m ≡ None → rule_of_machine (record { groups = m.groups; caps = GREATEST_CAPS }) ≡ None
-memory_fits m fits = let some = unbroken (not (nat_lt 0 m.groups && nat_le m.groups 16)) 6 _ fits in rw some refl
+memory_fits m fits = let some = (unbroken (not (nat_lt 0 m.groups && nat_le m.groups 16)) 6 _ fits).0 in rw some refl
 
 memory_step : (m : Machine) → IsSmall m.groups → rule_of_machine m ≡ None → step 1 start (machine_line m.groups) ≡ Ok (in_place (numbered start 1) (Memory m.groups))
 unfolding step at_start broken_rule

@@ -1,4 +1,3 @@
-pub mod Decimals
 pub mod Lines
 pub mod Values
 pub mod Forms

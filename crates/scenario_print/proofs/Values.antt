@@ -9,7 +9,7 @@ use Rattle.hex.specs.Hex.{lower_digits, encode_with}
 use Rattle.phys_groups.specs.declared.rows.Flags.{Flags}
 use Rattle.flat_state.specs.Declaration.{has_no_flag}
 use Rattle.text_fields.specs.Numbers.{digit, digits_from, digits, word}
-use Rattle.scenario_print.proofs.Decimals.{IsDigits, decimal_digits, number_reads}
+use Rattle.text_fields.proofs.Decimals.{IsDigits, decimal_digits, number_reads}
 use Rattle.journal_text.specs.Lines.{flag_text, rights_text, flags_text, word_text}
 use Rattle.journal_text.specs.Ranges.{IsSmall}
 use Rattle.scenario_lines.specs.Values.{value, value_or, rights, flags}

@@ -5,7 +5,7 @@ ghost use Rattle.std.specs.Fmt.{decimal};
 ghost use Rattle.std.specs.List.{AllByRecursion, flat_map};
 ghost use Rattle.flat_state.specs.State.{nothing_declared};
 ghost use Rattle.flat_state.specs.Events.{AllFit, after_declarations};
-ghost use Rattle.journal_text.specs.Lines.{flag_text, flags_text, rights_text, word_text};
+ghost use Rattle.journal_text.specs.Lines.{word_text};
 ghost use Rattle.journal_text.specs.Ranges.{AreCapsInRange, IsDeclInRange, IsReceiverInRange, IsSmall};
 ghost use Rattle.scenario_reader.specs.Scenarios.{scenario as declared_by};
 ghost use Rattle.scenario_print.specs.Texts.{amounts, decl_text, numbers, scenario_text, signal_text, spaced};
@@ -13,7 +13,7 @@ ghost use Rattle.scenario_print.specs.Texts.{amounts, decl_text, numbers, scenar
 use cache_ident::{Caps, NoMemory, ThreadNo};
 use flat_state::Decl;
 use itoa::Buffer;
-use phys_groups::Flags;
+use journal_text::{put_flags, put_rights, put_word};
 use scenario_reader::Scenario;
 use std::alloc::Global;
 
@@ -56,38 +56,6 @@ fn put_amounts(out: &mut Vec<u8>, word: &[u8], caps: Caps) -> Result<(), NoMemor
     )
 }
 
-fn rights_name(read: bool, write: bool) -> &'static [u8]
-    ensures { result.now ≡ rights_text read write }
-{
-    match (read, write) {
-        (true, true) => b"rw",
-        (true, false) => b"r",
-        (false, true) => b"w",
-        (false, false) => b"-",
-    }
-}
-
-// The letter, where the flag is set.
-fn put_flag(out: &mut Vec<u8>, is_set: bool, letter: &[u8]) -> Result<(), NoMemory>
-    ensures { OnOk result (out.new.items ≡ out.old.items ++ flag_text is_set letter.now) }
-{
-    if is_set {
-        out.extend_from_slice(letter)?;
-    }
-    Ok(())
-}
-
-fn put_flags(out: &mut Vec<u8>, flags: Flags) -> Result<(), NoMemory>
-    ensures { OnOk result (out.new.items ≡ out.old.items ++ spaced (flags_text flags)) }
-{
-    out.push(b' ')?;
-    put_flag(out, flags.r, b"r")?;
-    put_flag(out, flags.w, b"w")?;
-    put_flag(out, flags.x, b"x")?;
-    put_flag(out, flags.m, b"m")?;
-    put_flag(out, !(flags.r || flags.w || flags.x || flags.m), b"-")
-}
-
 #[tactic(auto, unfolding(crate::specs::Texts::signal_text))]
 fn put_signal(out: &mut Vec<u8>, receiver: Option<ThreadNo>) -> Result<(), NoMemory>
     ensures text { OnOk result (out.new.items ≡ out.old.items ++ signal_text receiver) }
@@ -99,15 +67,13 @@ fn put_signal(out: &mut Vec<u8>, receiver: Option<ThreadNo>) -> Result<(), NoMem
     }
 }
 
-// Eight hexadecimal digits.
-#[tactic(auto, unfolding(journal_text::specs::Lines::word_text))]
-fn put_word(out: &mut Vec<u8>, value: u32) -> Result<(), NoMemory>
+// A space and a word.
+fn put_value(out: &mut Vec<u8>, value: u32) -> Result<(), NoMemory>
     ensures text { OnOk result (out.new.items ≡ out.old.items ++ spaced (word_text value)) }
     ensures small { IsSmall value }
 {
-    let mut digits = [0; 8];
-    let _ = hex::encode_to_slice(value.to_be_bytes(), &mut digits);
-    put(out, &digits)
+    out.push(b' ')?;
+    put_word(out, value)
 }
 
 #[tactic(auto, unfolding(crate::specs::Texts::decl_text))]
@@ -131,7 +97,8 @@ fn put_decl(out: &mut Vec<u8>, decl: &Decl) -> Result<(), NoMemory>
             write,
         } => {
             put_numbers(out, b"right", &[kernel.0, group])?;
-            put(out, rights_name(read, write))?;
+            out.push(b' ')?;
+            put_rights(out, read, write)?;
         }
         Decl::Space { no, kernel } => put_numbers(out, b"space", &[no.0, kernel.0])?,
         Decl::Thread {
@@ -155,6 +122,7 @@ fn put_decl(out: &mut Vec<u8>, decl: &Decl) -> Result<(), NoMemory>
             receiver,
         } => {
             put_numbers(out, b"map", &[space.0, vpn.0, frame.0])?;
+            out.push(b' ')?;
             put_flags(out, flags)?;
             put_signal(out, receiver)?;
         }
@@ -164,7 +132,7 @@ fn put_decl(out: &mut Vec<u8>, decl: &Decl) -> Result<(), NoMemory>
             value,
         } => {
             put_numbers(out, b"word", &[frame.0, offset])?;
-            put_word(out, value)?;
+            put_value(out, value)?;
         }
     }
     out.extend_from_slice(b"\n")

@@ -1,5 +1,5 @@
 -- Declarations and lines one after another.
-use Rattle.std.proofs.Common.{◌≡◌, ℕ, suc, ◌+◌, ◌%◌, ◌<◌, ◌≤◌, Bool, true, false, not, ◌||◌, cond, eqb, ltb, List, [], ◌∷◌, length, map, drop, get_or, Option, Some, None, Result, Ok, Err, refl, sym, ap, subst, ◌∙◌, drop-cons, arith, inl, inr, ◌⊎◌}
+use Rattle.std.proofs.Common.{◌≡◌, ℕ, suc, ◌+◌, ◌%◌, ◌<◌, ◌≤◌, Bool, true, false, not, ◌||◌, eqb, ltb, List, [], ◌∷◌, length, map, drop, get_or, Option, Some, None, Result, Ok, Err, refl, sym, ap, subst, ◌∙◌, drop-cons, arith, inl, inr, ◌⊎◌}
 use Rattle.std.proofs.lemmas.List.{drop_all}
 use Rattle.std.proofs.lemmas.Bool.{ltb-false}
 use Rattle.std.proofs.lemmas.Option.{none-some, same_Some}
@@ -14,6 +14,7 @@ use Rattle.flat_state.specs.Declaration.{broken_rule, rule_by_machine, has_frame
 use Rattle.text_fields.specs.Reading.{first_of}
 use Rattle.text_fields.specs.Lines.{lines}
 use Rattle.scenario_lines.specs.Forms.{word_value}
+use Rattle.image_decls.proofs.Sized.{unbroken}
 use Rattle.scenario_reader.specs.declared.fault.ScenarioFault.{ScenarioFault}
 use Rattle.scenario_reader.specs.declared.fault.ScenarioFault.TheVariants.{NoMemory}
 use Rattle.scenario_reader.specs.Readings.{Reading, start, unless, declare, declare_all, word_decls}
@@ -74,9 +75,6 @@ unless_ok : (o : Option ℕ) (r n m : Reading) → unless o r n ≡ Ok m → o �
 unless_ok None r n m e = refl
 unless_ok (Some rule) r n m e = absurd cc
 
-unbroken : (b : Bool) (rule : ℕ) (later : Option ℕ) → cond b (Some rule) later ≡ None → (b ≡ false) × (later ≡ None)
-unbroken true rule later e = absurd cc
-unbroken false rule later e = (refl, e)
 
 or_right : (a b : Bool) → (a || b) ≡ false → b ≡ false
 or_right true b e = absurd cc

@@ -1,6 +1,7 @@
 use Rattle.std.proofs.Common.{◌≡◌, length, subst, arith}
+use Rattle.std.proofs.lemmas.List.{get_or_default}
 use Rattle.residents.proofs.NameLemmas.{other_pair}
-use Rattle.residents.proofs.PairLemmas.{removed_none, removed_more, all_removed, any_default, AreRemoved}
+use Rattle.residents.proofs.PairLemmas.{removed_none, removed_more, all_removed, AreRemoved}
 use Rattle.residents.proofs.dependents.Dependents.remove.Goals as goal
 
 pub loop-parent-init : goal.loop-parent-init
@@ -10,7 +11,7 @@ pub loop-parent-preserved : goal.loop-parent-preserved
 loop-parent-preserved c =
     let updates = c.remove.ensures.updates in
     removed_more c.args.self.now c.loop-parent.self (record { pairs = c.remove.new.self }) c.args.child c.args.parents.now c.loop-parent.parent-index c.loop-parent-test.true _
-    (λ d. any_default c.args.parents.now c.loop-parent.parent-index d _ c.loop-parent-test.true)
+    (λ d. get_or_default c.args.parents.now c.loop-parent.parent-index d _ c.loop-parent-test.true)
     (record { here = updates.1; others = λ q other. updates.2 q (other_pair _ q other) })
     c.loop-parent.invariant
 

@@ -60,12 +60,12 @@ read_more n ds ge front rest small =
     let whole : 10 * (n / 10) + n % 10 ≡ n = omega arith in
     ap (digits_from 10 0) (append_assoc ds ((48 + n % 10) ∷ []) rest) ∙ front ((48 + n % 10) ∷ rest) (omega arith) ∙ from_step (n / 10) (n % 10) rest (omega arith) (omega arith) ∙ ap (λ (m : ℕ). digits_from 10 m rest) whole
 
-from_end : (n : ℕ) → digits_from 10 n [] ≡ Some n
+pub digits_end : (base n : ℕ) → digits_from base n [] ≡ Some n
 unfolding digits_from
-from_end n = refl
+digits_end base n = refl
 
 from_reads : (n : ℕ) → n < 2 ^ 32 → digits_from 10 0 (decimal n) ≡ Some n
-from_reads n small = ap (digits_from 10 0) (sym (append-nil (decimal n))) ∙ decimal_by_steps IsRead read_one read_more n (omega arith) [] small ∙ from_end n
+from_reads n small = ap (digits_from 10 0) (sym (append-nil (decimal n))) ∙ decimal_by_steps IsRead read_one read_more n (omega arith) [] small ∙ digits_end 10 n
 
 digits_reads : (n : ℕ) → n < 2 ^ 32 → digits 10 1 10 (decimal n) ≡ Some n
 unfolding digits
