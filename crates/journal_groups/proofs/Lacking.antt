@@ -37,7 +37,6 @@ LackTo s rs all n = (i : ℕ) (gone : Gone) → i < n → i < length all → get
 pub lack_none : (s : FlatState) (rs : List Resident) (all : List Gone) → LackTo s rs all 0
 lack_none s rs all i gone low within is = absurd (omega arith)
 
-
 pub lack_more : (s : FlatState) (rs : List Resident) (all : List Gone) (n : ℕ) (e : Gone) → n < length all → LackTo s rs all n → LacksParent s rs (get_or all n e).name → LackTo s rs all (n + 1)
 lack_more s rs all n e n_within before here i gone low within is = elim (cases_lt i n) [
   | inl below ↦ before i gone below within is

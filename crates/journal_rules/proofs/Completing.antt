@@ -94,7 +94,6 @@ AreGoodTo s rs names n = (i : ℕ) (r : Resident) → i < n → i < length names
 pub good_none : (s : FlatState) (rs : List Resident) (names : List Name) → AreGoodTo s rs names 0
 good_none s rs names i r low within is = absurd (omega arith)
 
-
 pub good_more : (s : FlatState) (rs : List Resident) (names : List Name) (n : ℕ) (e : Name) → n < length names → AreGoodTo s rs names n → ((r : Resident) → r.name ≡ get_or names n e → StaysGood s rs r) → AreGoodTo s rs names (n + 1)
 good_more s rs names n e n_within before here i r low within is = elim (cases_lt i n) [
   | inl below ↦ before i r below within is

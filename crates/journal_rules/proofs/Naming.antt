@@ -120,7 +120,6 @@ AreResidentTo rs names n = (i : ℕ) (name : Name) → i < n → i < length name
 pub resident_none : (rs : List Resident) (names : List Name) → AreResidentTo rs names 0
 resident_none rs names i name low within is = absurd (omega arith)
 
-
 pub resident_more : (rs : List Resident) (names : List Name) (n : ℕ) (e : Name) → n < length names → AreResidentTo rs names n → IsNameResident rs (get_or names n e) → AreResidentTo rs names (n + 1)
 resident_more rs names n e n_within before here i name low within is = elim (cases_lt i n) [
   | inl below ↦ before i name below within is

@@ -25,7 +25,8 @@ use Rattle.cache_ident.specs.declared.names.ThreadNo.{ThreadNo}
 use Rattle.cache_ident.specs.Idents.{letter_of, ident_text, cause_text}
 use Rattle.cache_ident.specs.Names.{name_text}
 use Rattle.phys_groups.specs.declared.rows.Flags.{Flags}
-use Rattle.journal_text.specs.Lines.{field, caps_text, rights_text, flags_text, receiver_text, word_text, cpu_text}
+use Rattle.text_fields.specs.Numbers.{word_text}
+use Rattle.journal_text.specs.Lines.{field, caps_text, rights_text, flags_text, receiver_text, cpu_text}
 use Rattle.text_fields.specs.Reading.{after}
 use Rattle.journal_text.specs.Reading.{number_from, small_at, field_at, caps_at, rights_at, flags_at, receiver_at, word_at, kind_at, ident_at, mapping_at, name_at, cause_at, cpu_at}
 use Rattle.journal_text.specs.Ranges.{IsSmall, AreCapsInRange, IsNameInRange, IsIdentInRange, IsReceiverInRange}

@@ -10,7 +10,8 @@ use Rattle.flat_state.specs.declared.events.Decl.{Decl}
 use Rattle.flat_state.specs.declared.events.Decl.TheVariants as decls
 use Rattle.run_journal.specs.declared.entries.Entry.{Entry}
 use Rattle.run_journal.specs.declared.entries.Entry.TheVariants.{Declared, Sealed, Loaded, WrittenBack, Locked, Unlocked, Ran, Ended, Completed}
-use Rattle.journal_text.specs.Lines.{field, caps_text, rights_text, flags_text, receiver_text, word_text, cpu_text, decl_text, entry_text, line}
+use Rattle.text_fields.specs.Numbers.{word_text}
+use Rattle.journal_text.specs.Lines.{field, caps_text, rights_text, flags_text, receiver_text, cpu_text, decl_text, entry_text, line}
 use Rattle.journal_text.specs.Reading.{receiver_at, machine_at, kernel_at, right_at, space_at, thread_at, map_at, word_decl_at, decl_at, loaded_at, back_at, lock_at, ran_at, thread_line_at, other_at, entry_at}
 use Rattle.journal_text.specs.Ranges.{IsSmall, IsIdentInRange, IsDeclInRange, IsInRange}
 use Rattle.journal_text.proofs.FieldLaws.{after_again, after_other, field_again, field_ends, caps_again, caps_ends, rights_again, flags_again, receiver_tail, receiver_spaced, receiver_again, word_again, ident_again, name_again, cause_again, cpu_again, cpu_ends}

@@ -2,8 +2,7 @@
 use Rattle.std.specs.Prelude.{ℕ, Bool, not, ◌||◌, if◌then◌else◌, List, [], ◌∷◌, ◌++◌, codes, Option, Some, None}
 use Rattle.std.specs.Fmt.{decimal}
 use Rattle.std.specs.List.{flat_map}
-use Rattle.std.specs.Int.{w32, to_be_bytes}
-use Rattle.hex.specs.Hex.{encode_lower}
+use Rattle.text_fields.specs.Numbers.{word_text}
 use Rattle.cache_ident.specs.declared.names.Caps.{Caps}
 use Rattle.cache_ident.specs.declared.names.ThreadNo.{ThreadNo}
 use Rattle.cache_ident.specs.Idents.{ident_text, cause_text}
@@ -39,10 +38,6 @@ flags_text f =
 abbrev pub receiver_text : Option ThreadNo → List ℕ
 receiver_text None = codes " -"
 receiver_text (Some thread) = field thread.0
-
--- eight hexadecimal digits, in lower case
-unfoldable pub word_text : ℕ → List ℕ
-word_text value = encode_lower (to_be_bytes w32 value)
 
 unfoldable pub cpu_text : ℕ → List ℕ
 cpu_text cpu = codes " cpu" ++ field cpu

@@ -1,8 +1,8 @@
 //! The fields of a line, each read at the front of the bytes. A field is taken for what it can only be: whether it
 //! stands there in its one form is left to the comparison with the line of the entry that was read.
 
-ghost use Rattle.std.specs.Prelude.{◌≡◌, ◌<◌, ◌^◌, ◌*◌, ◌+◌};
-ghost use Rattle.text_fields.specs.Reading.{Gives, after};
+ghost use Rattle.std.specs.Prelude.{◌≡◌, ◌<◌, ◌*◌};
+ghost use Rattle.text_fields.specs.Reading.{Gives};
 ghost use Rattle.journal_text.specs.Reading.{number_from, longer, number_at, small_at, field_at, caps_at, mark_at, rights_at, flags_at, receiver_at, word_at, kind_at, ident_at, mapping_at, name_at, cause_at, cpu_at};
 
 use cache_ident::{Caps, Cause, Ident, KernelNo, Kind, Name, SpaceNo, ThreadNo, Vpn};

@@ -8,7 +8,7 @@ mod printing;
 mod reading;
 
 pub use fault::JournalFault;
-pub use printing::{print, put_flags, put_rights, put_word};
+pub use printing::{print, put_flags, put_rights};
 pub use reading::read;
 
 #[cfg(test)]

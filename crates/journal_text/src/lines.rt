@@ -1,6 +1,5 @@
 //! The entry whose line stands at the front of the bytes.
 
-ghost use Rattle.std.specs.Prelude.{◌≡◌};
 ghost use Rattle.text_fields.specs.Reading.{Gives};
 ghost use Rattle.journal_text.specs.Reading.{machine_at, kernel_at, right_at, space_at, thread_at, map_at, word_decl_at, decl_at, loaded_at, back_at, lock_at, ran_at, thread_line_at, other_at, entry_at};
 

@@ -1,11 +1,11 @@
 //! The line of an entry, and the lines of a journal.
 
-ghost use Rattle.std.specs.Prelude.{◌≡◌, ◌++◌, ◌∷◌, [], OnOk, IfOk, codes};
+ghost use Rattle.std.specs.Prelude.{◌≡◌, ◌++◌, OnOk, IfOk};
 ghost use Rattle.std.specs.Fmt.{decimal};
 ghost use Rattle.std.specs.List.{flat_map};
 ghost use Rattle.cache_ident.specs.Idents.{ident_text, cause_text};
 ghost use Rattle.cache_ident.specs.Names.{name_text};
-ghost use Rattle.journal_text.specs.Lines.{field, caps_text, rights_text, flag_text, flags_text, receiver_text, word_text, cpu_text, decl_text, entry_text, line, journal_text};
+ghost use Rattle.journal_text.specs.Lines.{field, caps_text, rights_text, flag_text, flags_text, receiver_text, cpu_text, decl_text, entry_text, line, journal_text};
 
 use cache_ident::{Caps, Cause, Ident, Name, NoMemory, ThreadNo};
 use flat_state::Decl;
@@ -13,6 +13,7 @@ use itoa::Buffer;
 use phys_groups::Flags;
 use run_journal::{Entry, Journal};
 use std::alloc::Global;
+use text_fields::put_word;
 
 fn number(out: &mut Vec<u8>, number: u64) -> Result<(), NoMemory>
     ensures { OnOk result (out.new.items ≡ out.old.items ++ decimal number) }
@@ -77,16 +78,6 @@ fn put_receiver(out: &mut Vec<u8>, receiver: Option<ThreadNo>) -> Result<(), NoM
         Some(thread) => put_field(out, thread.0),
         None => out.extend_from_slice(b" -"),
     }
-}
-
-/// Adds the eight hexadecimal digits of a word.
-#[tactic(auto, unfolding(crate::specs::Lines::word_text))]
-pub fn put_word(out: &mut Vec<u8>, value: u32) -> Result<(), NoMemory>
-    ensures { OnOk result (out.new.items ≡ out.old.items ++ word_text value) }
-{
-    let mut digits = [0; 8];
-    let _ = hex::encode_to_slice(value.to_be_bytes(), &mut digits);
-    out.extend_from_slice(&digits)
 }
 
 fn put_ident(out: &mut Vec<u8>, ident: Ident) -> Result<(), NoMemory>

@@ -85,7 +85,7 @@ low_no_register b bytes low =
     let f : eqb b 102 ≡ false = ne_eqb _ _ (λ e. omega (arith, e)) in
     rw (z, r, s, g, t, f) (bind_none (short_number bytes) (lettered b) (λ n. low_no_letter b n low))
 
-pub le_false : (a b : ℕ) → b < a → leb a b ≡ false
+le_false : (a b : ℕ) → b < a → leb a b ≡ false
 le_false a b h = elim (cases_Bool (leb a b)) [ inl e ↦ absurd (omega (arith, leb-true a b e)) | inr e ↦ e ]
 
 low_no_name : (b : ℕ) (bytes : List ℕ) → b ≤ 57 → is_name (b ∷ bytes) ≡ false

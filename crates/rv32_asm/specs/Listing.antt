@@ -1,10 +1,11 @@
 -- The line that the lister writes for a word.
-use Rattle.std.specs.Prelude.{ℕ, ◌+◌, ◌/◌, ◌%◌, ◌^◌, Bool, true, false, nat_lt, if◌then◌else◌, ℤ, List, [], ◌∷◌, ◌++◌, Option, Some, None, codes}
+use Rattle.std.specs.Prelude.{ℕ, ◌+◌, Bool, true, false, ℤ, List, ◌++◌, Option, Some, None, codes}
 use Rattle.std.specs.Fmt.{decimal, signed_decimal}
 use Rattle.std.specs.List.{flat_map}
 use Rattle.rv32_isa.specs.declared.forms.Instr.{Instr}
 use Rattle.rv32_isa.specs.declared.forms.Instr.TheVariants as forms
 use Rattle.rv32_isa.specs.Table.{instruction_of}
+use Rattle.text_fields.specs.Numbers.{word_text}
 
 -- a register is x and its number
 abbrev pub register_text : ℕ → List ℕ
@@ -102,17 +103,9 @@ instruction_text (forms.Amomax rd rs1 rs2 aq rl) = atomic_text (codes "amomax") 
 instruction_text (forms.Amominu rd rs1 rs2 aq rl) = atomic_text (codes "amominu") rd rs1 rs2 aq rl
 instruction_text (forms.Amomaxu rd rs1 rs2 aq rl) = atomic_text (codes "amomaxu") rd rs1 rs2 aq rl
 
--- a hexadecimal digit in lower case
-abbrev pub glyph : ℕ → ℕ
-glyph d = if nat_lt d 10 then 48 + d else 87 + d
-
--- eight hexadecimal digits, the highest first
-abbrev pub hexadecimal : ℕ → List ℕ
-hexadecimal w = glyph (w / 2 ^ 28 % 16) ∷ glyph (w / 2 ^ 24 % 16) ∷ glyph (w / 2 ^ 20 % 16) ∷ glyph (w / 2 ^ 16 % 16) ∷ glyph (w / 2 ^ 12 % 16) ∷ glyph (w / 2 ^ 8 % 16) ∷ glyph (w / 2 ^ 4 % 16) ∷ glyph (w % 16) ∷ []
-
 abbrev pub text_or_word : Option Instr → ℕ → List ℕ
 text_or_word (Some instr) w = instruction_text instr
-text_or_word None w = codes ".word 0x" ++ hexadecimal w
+text_or_word None w = codes ".word 0x" ++ word_text w
 
 -- a word that is no instruction stands as it is
 unfoldable pub line_text : ℕ → List ℕ

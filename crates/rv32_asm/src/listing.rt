@@ -1,14 +1,15 @@
 //! Words to text: one line for each word.
 
-ghost use Rattle.std.specs.Prelude.{◌≡◌, ◌++◌, ◌∷◌, [], ◌<◌, length, OnOk, IfOk, Ok, codes};
+ghost use Rattle.std.specs.Prelude.{◌≡◌, ◌++◌, ◌<◌, length, OnOk, IfOk, Ok, codes};
 ghost use Rattle.std.specs.Fmt.{decimal, signed_decimal};
 ghost use Rattle.rv32_asm.specs.Block.{block};
-ghost use Rattle.rv32_asm.specs.Listing.{register_text, based_text, upper_text, memory_text, immediate_text, registers_text, ordering_text, atomic_text, instruction_text, glyph, hexadecimal, line_text, ended, listing};
+ghost use Rattle.rv32_asm.specs.Listing.{register_text, based_text, upper_text, memory_text, immediate_text, registers_text, ordering_text, atomic_text, instruction_text, line_text, ended, listing};
 
 use crate::NoMemory;
 use itoa::Buffer;
 use rv32_isa::{Instr, decode};
 use std::alloc::{AllocError, Global};
+use text_fields::put_word;
 
 fn register(out: &mut Vec<u8>, number: u32) -> Result<(), AllocError>
     ensures { OnOk result (out.new.items ≡ out.old.items ++ register_text number) }
@@ -362,33 +363,6 @@ fn instruction(out: &mut Vec<u8>, instr: Instr) -> Result<(), AllocError>
     }
 }
 
-fn glyph(digit: u32) -> u8
-    requires { digit < 16 }
-    ensures { result ≡ glyph digit }
-{
-    if digit < 10 {
-        b'0' + digit as u8
-    } else {
-        b'a' + (digit as u8 - 10)
-    }
-}
-
-// Eight hexadecimal digits.
-fn hexadecimal(word: u32) -> [u8; 8]
-    ensures { result ≡ hexadecimal word }
-{
-    [
-        glyph((word >> 28) % 16),
-        glyph((word >> 24) % 16),
-        glyph((word >> 20) % 16),
-        glyph((word >> 16) % 16),
-        glyph((word >> 12) % 16),
-        glyph((word >> 8) % 16),
-        glyph((word >> 4) % 16),
-        glyph(word % 16),
-    ]
-}
-
 #[tactic(auto, unfolding(crate::specs::Listing::line_text))]
 fn line(out: &mut Vec<u8>, word: u32) -> Result<(), AllocError>
     ensures { OnOk result (out.new.items ≡ out.old.items ++ line_text word) }
@@ -397,8 +371,7 @@ fn line(out: &mut Vec<u8>, word: u32) -> Result<(), AllocError>
         Some(instr) => instruction(out, instr),
         None => {
             out.extend_from_slice(b".word 0x")?;
-            out.extend_from_slice(&hexadecimal(word))?;
-            Ok(())
+            put_word(out, word)
         }
     }
 }

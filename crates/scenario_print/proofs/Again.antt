@@ -17,8 +17,10 @@ use Rattle.flat_state.specs.Events.{AllFit, after_declarations}
 use Rattle.code_blocks.specs.Blocks.{no_lines}
 use Rattle.text_fields.specs.Lines.{lines, pieces}
 use Rattle.text_fields.specs.Lines as text_lines
-use Rattle.journal_text.specs.Lines.{rights_text, flags_text, word_text}
+use Rattle.text_fields.specs.Numbers.{word_text}
+use Rattle.journal_text.specs.Lines.{rights_text, flags_text}
 use Rattle.journal_text.specs.Ranges.{IsSmall, AreCapsInRange, IsReceiverInRange, IsDeclInRange}
+use Rattle.text_fields.proofs.Words.{word_eight}
 use Rattle.scenario_lines.specs.Forms.{Line}
 use Rattle.scenario_lines.specs.Forms as forms
 use Rattle.scenario_lines.specs.Shapes as shapes
@@ -28,7 +30,7 @@ use Rattle.scenario_reader.specs.Readings.{Memory, Body, Reading, start, declare
 use Rattle.scenario_reader.specs.Scenarios.{in_body, behind_memory, at_start, at_end, numbered, step, finish, reads, scenario}
 use Rattle.scenario_print.specs.Texts.{spaced, numbers, amounts, signal_text, decl_text, scenario_text}
 use Rattle.scenario_print.proofs.Lines.{IsInk, AreFields, no_fields, ink_from, line_clean, first_line}
-use Rattle.scenario_print.proofs.Values.{decimal_ink, decimal_some, word_ink, word_eight, rights_ink, rights_some, flags_ink, flags_some}
+use Rattle.scenario_print.proofs.Values.{decimal_ink, decimal_some, word_ink, rights_ink, rights_some, flags_ink, flags_some}
 use Rattle.scenario_print.proofs.Forms.{by_parts, signal_fields, memory_form, capacities_form, kernel_form, right_form, space_form, thread_form, row_form, word_form}
 
 -- ---- the fields of a line
@@ -137,7 +139,7 @@ is_read (decls.Word frame offset value) small flag =
     record {
       ink = ink_from (codes "word") refl;
       some = omega arith;
-      fields = a_number frame.0 _ small.0 (a_number offset _ small.1 (a_word (word_text value) [] (word_ink value small.2) (omega (arith, word_eight value)) no_fields));
+      fields = a_number frame.0 _ small.0 (a_number offset _ small.1 (a_word (word_text value) [] (word_ink value) (omega (arith, word_eight value)) no_fields));
       form = word_form frame offset value small.0 small.1 small.2;
     }
 

@@ -15,7 +15,8 @@ use Rattle.flat_state.specs.declared.events.Decl.TheVariants as decls
 use Rattle.flat_state.specs.Declaration.{has_no_flag}
 use Rattle.text_fields.specs.Lines.{fields}
 use Rattle.text_fields.specs.Lines as lines
-use Rattle.journal_text.specs.Lines.{rights_text, flags_text, word_text}
+use Rattle.text_fields.specs.Numbers.{word_text}
+use Rattle.journal_text.specs.Lines.{rights_text, flags_text}
 use Rattle.journal_text.specs.Ranges.{IsSmall, AreCapsInRange, IsReceiverInRange}
 use Rattle.scenario_lines.specs.Shapes.{next, no_more, single, pair, triple, quadruple, option, locks, thread_fields, row_fields, word_fields}
 use Rattle.scenario_lines.specs.Forms.{Memory, Capacities, Declares, Words, memory_line, amounts, capacities_line, limits, kernel_line, right_line, space_line, thread_line, receiver, row_line, words, word_line}
@@ -23,7 +24,8 @@ use Rattle.scenario_lines.specs.Lines.{by_word, line_of}
 use Rattle.scenario_print.specs.Texts.{spaced}
 use Rattle.scenario_print.specs.Texts as texts
 use Rattle.scenario_print.proofs.Lines.{IsInk, AreFields, line_clean, all_fields, no_comment, plain}
-use Rattle.scenario_print.proofs.Values.{decimal_some, value_again, option_again, word_again, rights_again, flags_again}
+use Rattle.text_fields.proofs.Words.{word_reads}
+use Rattle.scenario_print.proofs.Values.{decimal_some, value_again, option_again, rights_again, flags_again}
 
 -- a line is read by its word and its fields
 pub by_parts : (word : List ℕ) (fs : List (List ℕ)) → IsInk word → 0 < length word → AreFields fs → line_of (word ++ flat_map spaced fs) ≡ by_word word fs
@@ -74,4 +76,4 @@ row_form space vpn frame f (Some thread) hs hv hf ho some =
 
 pub word_form : (frame : Frame) (offset v : ℕ) → IsSmall frame.0 → IsSmall offset → IsSmall v → by_word (codes "word") (decimal frame.0 ∷ decimal offset ∷ word_text v ∷ []) ≡ Ok (Words frame offset (v ∷ []))
 unfolding by_word word_line word_fields next words
-word_form frame offset v hf ho hv = rw (value_again frame.0 hf, value_again offset ho, word_again v hv) refl
+word_form frame offset v hf ho hv = rw (value_again frame.0 hf, value_again offset ho, word_reads v hv) refl

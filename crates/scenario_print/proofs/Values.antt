@@ -1,19 +1,18 @@
 -- What a field writes is read from it.
-use Rattle.std.proofs.Common.{◌≡◌, ℕ, zero, suc, ◌+◌, ◌*◌, ◌/◌, ◌%◌, ◌^◌, ◌<◌, Bool, true, false, eqb, ltb, List, [], ◌∷◌, length, Some, Ok, refl, ap, ◌∙◌, arith}
-use Rattle.std.specs.Prelude.{codes, slice_index, not, ◌||◌}
+use Rattle.std.proofs.Common.{◌≡◌, ℕ, ◌<◌, Bool, true, false, eqb, List, [], ◌∷◌, length, Ok, refl, arith}
+use Rattle.std.specs.Prelude.{codes, not, ◌||◌}
 use Rattle.std.specs.Fmt.{decimal}
-use Rattle.std.specs.Int.{byte_at}
-use Rattle.std.proofs.lemmas.Bool.{lt-ltb, ne_eqb}
+use Rattle.std.proofs.lemmas.Bool.{ne_eqb}
 use Rattle.std.proofs.lemmas.Fmt.{decimal_nonempty}
-use Rattle.hex.specs.Hex.{lower_digits, encode_with}
 use Rattle.phys_groups.specs.declared.rows.Flags.{Flags}
 use Rattle.flat_state.specs.Declaration.{has_no_flag}
-use Rattle.text_fields.specs.Numbers.{digit, digits_from, digits, word}
+use Rattle.text_fields.specs.Numbers.{word_text}
+use Rattle.text_fields.proofs.Words.{AreGlyphs, word_glyphs}
 use Rattle.text_fields.proofs.Decimals.{IsDigits, decimal_digits, number_reads}
-use Rattle.journal_text.specs.Lines.{flag_text, rights_text, flags_text, word_text}
+use Rattle.journal_text.specs.Lines.{flag_text, rights_text, flags_text}
 use Rattle.journal_text.specs.Ranges.{IsSmall}
 use Rattle.scenario_lines.specs.Values.{value, value_or, rights, flags}
-use Rattle.scenario_print.proofs.Lines.{IsInk, no_ink, is_ink, ink_append, ink_byte, ink_from}
+use Rattle.scenario_print.proofs.Lines.{IsInk, no_ink, ink_append, ink_from}
 
 -- ---- numbers
 
@@ -40,78 +39,16 @@ option_again default n small =
 
 -- ---- words
 
-abbrev glyph : ℕ → ℕ
-glyph d = slice_index lower_digits d
+glyphs_ink : (bytes : List ℕ) → AreGlyphs bytes → IsInk bytes
+unfolding AreGlyphs IsInk
+glyphs_ink [] h = tt
+glyphs_ink (b ∷ bytes) h = elim h.0 [
+  | inl number ↦ (let low = number.0 in let high = number.1 in (omega arith, omega arith, (λ e. omega (arith, e, low)), glyphs_ink bytes h.1))
+  | inr letter ↦ (let low = letter.0 in let high = letter.1 in (omega arith, omega arith, (λ e. omega (arith, e, low)), glyphs_ink bytes h.1))
+]
 
--- one of the sixteen digits
-abbrev IsGlyphOf : ℕ → Type 0
-IsGlyphOf d = (digit 16 (glyph d) ≡ Some d) × (is_ink (glyph d) ≡ true)
-
-glyph_is : (d : ℕ) → d < 16 → IsGlyphOf d
-unfolding digit
-glyph_is zero lt = (refl, refl)
-glyph_is (suc zero) lt = (refl, refl)
-glyph_is (suc (suc zero)) lt = (refl, refl)
-glyph_is (suc (suc (suc zero))) lt = (refl, refl)
-glyph_is (suc (suc (suc (suc zero)))) lt = (refl, refl)
-glyph_is (suc (suc (suc (suc (suc zero))))) lt = (refl, refl)
-glyph_is (suc (suc (suc (suc (suc (suc zero)))))) lt = (refl, refl)
-glyph_is (suc (suc (suc (suc (suc (suc (suc zero))))))) lt = (refl, refl)
-glyph_is (suc (suc (suc (suc (suc (suc (suc (suc zero)))))))) lt = (refl, refl)
-glyph_is (suc (suc (suc (suc (suc (suc (suc (suc (suc zero))))))))) lt = (refl, refl)
-glyph_is (suc (suc (suc (suc (suc (suc (suc (suc (suc (suc zero)))))))))) lt = (refl, refl)
-glyph_is (suc (suc (suc (suc (suc (suc (suc (suc (suc (suc (suc zero))))))))))) lt = (refl, refl)
-glyph_is (suc (suc (suc (suc (suc (suc (suc (suc (suc (suc (suc (suc zero)))))))))))) lt = (refl, refl)
-glyph_is (suc (suc (suc (suc (suc (suc (suc (suc (suc (suc (suc (suc (suc zero))))))))))))) lt = (refl, refl)
-glyph_is (suc (suc (suc (suc (suc (suc (suc (suc (suc (suc (suc (suc (suc (suc zero)))))))))))))) lt = (refl, refl)
-glyph_is (suc (suc (suc (suc (suc (suc (suc (suc (suc (suc (suc (suc (suc (suc (suc zero))))))))))))))) lt = (refl, refl)
-glyph_is (suc (suc (suc (suc (suc (suc (suc (suc (suc (suc (suc (suc (suc (suc (suc (suc d)))))))))))))))) lt = absurd (omega arith)
-
-glyph_step : (k d : ℕ) (rest : List ℕ) → d < 16 → 16 * k + d < 2 ^ 32 → digits_from 16 k (glyph d ∷ rest) ≡ digits_from 16 (16 * k + d) rest
-unfolding digits_from
-glyph_step k d rest lt small =
-    let fits : ltb (16 * k + d) (2 ^ 32) ≡ true = lt-ltb _ _ small in
-    let read = (glyph_is d lt).0 in
-    rw (read, fits) refl
-
-byte_step : (k b m : ℕ) (rest : List ℕ) → b < 256 → 256 * k + b ≡ m → m < 2 ^ 32 → digits_from 16 k (glyph (b / 16) ∷ glyph (b % 16) ∷ rest) ≡ digits_from 16 m rest
-byte_step k b m rest lt same small =
-    let whole : 16 * (16 * k + b / 16) + b % 16 ≡ m = omega (arith, same) in
-    glyph_step k (b / 16) (glyph (b % 16) ∷ rest) (omega arith) (omega (arith, same, small))
-    ∙ glyph_step (16 * k + b / 16) (b % 16) rest (omega arith) (omega (arith, whole, small))
-    ∙ ap (λ (n : ℕ). digits_from 16 n rest) whole
-
-digits_end : (n : ℕ) → digits_from 16 n [] ≡ Some n
-unfolding digits_from
-digits_end n = refl
-
-word_digits : (v : ℕ) → IsSmall v → digits_from 16 0 (word_text v) ≡ Some v
-unfolding word_text encode_with
-word_digits v small =
-    byte_step 0 (byte_at 3 v) (v / 2 ^ 24) _ (omega arith) (omega arith) (omega arith)
-    ∙ byte_step (v / 2 ^ 24) (byte_at 2 v) (v / 2 ^ 16) _ (omega arith) (omega arith) (omega arith)
-    ∙ byte_step (v / 2 ^ 16) (byte_at 1 v) (v / 2 ^ 8) _ (omega arith) (omega arith) (omega arith)
-    ∙ byte_step (v / 2 ^ 8) (byte_at 0 v) v [] (omega arith) (omega arith) small
-    ∙ digits_end v
-
-pub word_eight : (v : ℕ) → length (word_text v) ≡ 8
-unfolding word_text encode_with
-word_eight v = refl
-
-pub word_again : (v : ℕ) → IsSmall v → word (word_text v) ≡ Some v
-unfolding word digits
-word_again v small = rw (word_eight v) (word_digits v small)
-
-glyph_ink : (d : ℕ) (rest : List ℕ) → d < 16 → IsInk rest → IsInk (glyph d ∷ rest)
-glyph_ink d rest lt h = ink_byte (glyph d) rest (glyph_is d lt).1 h
-
-byte_ink : (b : ℕ) (rest : List ℕ) → b < 256 → IsInk rest → IsInk (glyph (b / 16) ∷ glyph (b % 16) ∷ rest)
-byte_ink b rest lt h = glyph_ink (b / 16) (glyph (b % 16) ∷ rest) (omega arith) (glyph_ink (b % 16) rest (omega arith) h)
-
-pub word_ink : (v : ℕ) → IsSmall v → IsInk (word_text v)
-unfolding word_text encode_with
-word_ink v small =
-    byte_ink (byte_at 3 v) _ (omega arith) (byte_ink (byte_at 2 v) _ (omega arith) (byte_ink (byte_at 1 v) _ (omega arith) (byte_ink (byte_at 0 v) [] (omega arith) no_ink)))
+pub word_ink : (v : ℕ) → IsInk (word_text v)
+word_ink v = glyphs_ink (word_text v) (word_glyphs v)
 
 -- ---- letters
 

@@ -6,7 +6,8 @@ use Rattle.cache_ident.specs.declared.names.Caps.{Caps}
 use Rattle.cache_ident.specs.declared.names.ThreadNo.{ThreadNo}
 use Rattle.flat_state.specs.declared.events.Decl.{Decl}
 use Rattle.flat_state.specs.declared.events.Decl.TheVariants as decls
-use Rattle.journal_text.specs.Lines.{rights_text, flags_text, word_text}
+use Rattle.text_fields.specs.Numbers.{word_text}
+use Rattle.journal_text.specs.Lines.{rights_text, flags_text}
 
 -- a space and a field
 abbrev pub spaced : List ℕ → List ℕ

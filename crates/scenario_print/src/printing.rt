@@ -2,10 +2,10 @@
 
 ghost use Rattle.std.specs.Prelude.{◌≡◌, ◌++◌, ◌<◌, map, length, IfOk, OnOk, Ok};
 ghost use Rattle.std.specs.Fmt.{decimal};
-ghost use Rattle.std.specs.List.{AllByRecursion, flat_map};
+ghost use Rattle.std.specs.List.{AllByRecursion};
 ghost use Rattle.flat_state.specs.State.{nothing_declared};
 ghost use Rattle.flat_state.specs.Events.{AllFit, after_declarations};
-ghost use Rattle.journal_text.specs.Lines.{word_text};
+ghost use Rattle.text_fields.specs.Numbers.{word_text};
 ghost use Rattle.journal_text.specs.Ranges.{AreCapsInRange, IsDeclInRange, IsReceiverInRange, IsSmall};
 ghost use Rattle.scenario_reader.specs.Scenarios.{scenario as declared_by};
 ghost use Rattle.scenario_print.specs.Texts.{amounts, decl_text, numbers, scenario_text, signal_text, spaced};
@@ -13,9 +13,10 @@ ghost use Rattle.scenario_print.specs.Texts.{amounts, decl_text, numbers, scenar
 use cache_ident::{Caps, NoMemory, ThreadNo};
 use flat_state::Decl;
 use itoa::Buffer;
-use journal_text::{put_flags, put_rights, put_word};
+use journal_text::{put_flags, put_rights};
 use scenario_reader::Scenario;
 use std::alloc::Global;
+use text_fields::put_word;
 
 // A space and a field.
 fn put(out: &mut Vec<u8>, field: &[u8]) -> Result<(), NoMemory>

@@ -75,7 +75,6 @@ unless_ok : (o : Option ℕ) (r n m : Reading) → unless o r n ≡ Ok m → o �
 unless_ok None r n m e = refl
 unless_ok (Some rule) r n m e = absurd cc
 
-
 or_right : (a b : Bool) → (a || b) ≡ false → b ≡ false
 or_right true b e = absurd cc
 or_right false b e = e

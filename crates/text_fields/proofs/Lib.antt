@@ -1,3 +1,4 @@
 pub mod Cutting
 pub mod Decimals
 pub mod Fronts
+pub mod Words

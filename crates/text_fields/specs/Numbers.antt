@@ -1,5 +1,7 @@
 -- What a field writes: a number of 32 bits.
 use Rattle.std.specs.Prelude.{ℕ, ◌+◌, ◌-◌, ◌*◌, ◌^◌, ◌&&◌, nat_lt, nat_le, if◌then◌else◌, List, [], ◌∷◌, length, Option, Some, None, codes}
+use Rattle.std.specs.Int.{w32, to_be_bytes}
+use Rattle.hex.specs.Hex.{encode_lower}
 use Rattle.text_fields.specs.Reading.{◌>>=◌, after}
 
 -- the value of a digit of either case, before it is held against the base
@@ -35,3 +37,7 @@ number bytes = number_from (after (codes "0x") bytes) bytes
 -- exactly eight hexadecimal digits
 unfoldable pub word : List ℕ → Option ℕ
 word bytes = digits 16 8 8 bytes
+
+-- .. as they are written, in lower case
+unfoldable pub word_text : ℕ → List ℕ
+word_text value = encode_lower (to_be_bytes w32 value)

@@ -1,8 +1,10 @@
 //! The numbers that fields write.
 
-ghost use Rattle.std.specs.Prelude.{◌≡◌, ◌<◌, IfSome};
+ghost use Rattle.std.specs.Prelude.{◌≡◌, ◌<◌, ◌++◌, IfSome, OnOk};
 ghost use Rattle.text_fields.specs.Reading.{Gives, after};
-ghost use Rattle.text_fields.specs.Numbers.{digit, digits_from, digits, number, word};
+ghost use Rattle.text_fields.specs.Numbers.{digit, digits_from, digits, number, word, word_text};
+
+use std::alloc::AllocError;
 
 /// What follows the text, where the bytes begin with it.
 #[tactic(auto, unfolding(crate::specs::Reading::after))]
@@ -75,4 +77,14 @@ pub fn word(field: &[u8]) -> Option<u32>
     ensures { result ≡ word field.now }
 {
     digits(16, 8, 8, field)
+}
+
+/// Adds the eight hexadecimal digits of a word, in lower case.
+#[tactic(auto, unfolding(crate::specs::Numbers::word_text))]
+pub fn put_word(out: &mut Vec<u8>, value: u32) -> Result<(), AllocError>
+    ensures { OnOk result (out.new.items ≡ out.old.items ++ word_text value) }
+{
+    let mut digits = [0; 8];
+    let _ = hex::encode_to_slice(value.to_be_bytes(), &mut digits);
+    out.extend_from_slice(&digits)
 }

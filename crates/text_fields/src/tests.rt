@@ -102,6 +102,15 @@ fn words(rt: HostRuntime) {
 }
 
 #[test]
+fn a_word_is_written_as_it_is_read(rt: HostRuntime) -> Result<(), Fail> {
+    let mut text = Vec::new(rt.alloc());
+    put_word(&mut text, 0x00a0_ffee)?;
+    assert_eq!(rt; text.as_slice(), b"00a0ffee".as_slice());
+    assert_eq!(rt; word(&text), Some(0x00a0_ffee));
+    Ok(())
+}
+
+#[test]
 fn digits_and_what_follows_a_text(rt: HostRuntime) {
     assert_eq!(rt; digit(10, b'7'), Some(7));
     assert_eq!(rt; digit(16, b'F'), Some(15));
