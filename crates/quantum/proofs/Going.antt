@@ -8,7 +8,7 @@ use Rattle.rv32_exec.specs.declared.steps.Stepped.{Stepped}
 use Rattle.rv32_exec.specs.declared.steps.Stepped.TheVariants as steps
 use Rattle.quantum.specs.declared.paused.Paused.{Paused}
 use Rattle.quantum.specs.declared.paused.Paused.TheVariants as pauses
-use Rattle.quantum.specs.Ahead.{Ahead, advanced, answer_of, at_limit, further, one_ahead, outcome, pause_after, pause_at, pause_before, pause_if_missed, signals_next, standing, HasGone}
+use Rattle.quantum.specs.Ahead.{Ahead, advanced, answer_of, at_limit, further, one_ahead, outcome, pause_after, pause_at, pause_before, pause_if_missed, signals_next, standing, HasGone, IsRun}
 use Rattle.quantum.specs.LocalRun.{status_by}
 use Rattle.quantum.proofs.Making.{ready_where}
 
@@ -27,9 +27,9 @@ pub record Going (limit : ℕ) (before now : Ahead) : Type 0 where
   pub count : ℕ
   pub is : now ≡ further count before
   pub went_on : (k : ℕ) → k < count → pause_at limit (further k before) ≡ None
-  pub free : standing now.paused ≡ None
+  pub free : now.paused ≡ None
 
-pub going_first : (limit : ℕ) (a : Ahead) → standing a.paused ≡ None → Going limit a a
+pub going_first : (limit : ℕ) (a : Ahead) → a.paused ≡ None → Going limit a a
 going_first limit a free = record { count = 0; is = refl; went_on = λ k below. absurd (omega (arith, below)); free = free }
 
 below_limit : (limit steps : ℕ) → steps < limit → at_limit limit steps ≡ None
@@ -58,7 +58,7 @@ stands_after (steps.Miss va access) = refl
 
 module _ (limit : ℕ) (before a b : Ahead) (going : Going limit before a) (below : a.steps < limit) (became : b ≡ advanced (pause_before a) a) where
   pauses_so : pause_at limit (further going.count before) ≡ pause_before a
-  pauses_so = ap (pause_at limit) (sym going.is) ∙ only_before limit a going.free below
+  pauses_so = ap (pause_at limit) (sym going.is) ∙ only_before limit a (ap standing going.free) below
 
   further_went : pause_before a ≡ None → (k : ℕ) → k < going.count + 1 → pause_at limit (further k before) ≡ None
   further_went none k under = elim (cases_lt k going.count) [
@@ -80,9 +80,7 @@ module _ (limit : ℕ) (before a b : Ahead) (going : Going limit before a) (belo
         count = going.count + 1;
         is = one_on e;
         went_on = further_went e;
-        free =
-            ap (λ (c : Ahead). standing c.paused) (became ∙ ap (λ (o : Option Paused). advanced o a) e)
-            ∙ (stands_after (outcome a).answer ∙ sym answer);
+        free = ap (λ (c : Ahead). c.paused) (became ∙ ap (λ (o : Option Paused). advanced o a) e) ∙ sym answer;
       }
 
   pub one_step : None ≡ answer_of (pause_before a) a → b.steps ≡ a.steps + 1
@@ -118,26 +116,45 @@ gone_limit limit before a going past = record {
   went_on = going.went_on;
   stands =
       ap (pause_at limit) (sym going.is)
-      ∙ ap₂ (λ (x y : Option Paused). option_or x (option_or y (pause_before a))) going.free (at_or_past limit a.steps past);
+      ∙ ap₂ (λ (x y : Option Paused). option_or x (option_or y (pause_before a))) (ap standing going.free) (at_or_past limit a.steps past);
 }
 
-pub gone_standing : (limit : ℕ) (a : Ahead) (p : Paused) → standing a.paused ≡ Some p → HasGone limit a a p
-gone_standing limit a p stands = record {
+-- ---- what the pause before a run has to do with it
+
+stands_itself : (o : Option Paused) (p : Paused) → standing o ≡ Some p → o ≡ Some p
+stands_itself None p e = absurd (cc)
+stands_itself (Some pauses.Call) p e = e
+stands_itself (Some (pauses.Stopped reason)) p e = e
+stands_itself (Some pauses.Limit) p e = absurd (cc)
+stands_itself (Some (pauses.Miss va access)) p e = absurd (cc)
+stands_itself (Some pauses.Signal) p e = absurd (cc)
+
+-- a pause that doesn't stand says nothing of the steps
+forgotten : (k : ℕ) (a : Ahead) (o : Option Paused) → record (further k (record a { paused = None })) { paused = o } ≡ record (further k a) { paused = o }
+forgotten zero a o = refl
+forgotten (suc k) a o = refl
+
+pauses_alike : (limit k : ℕ) (a : Ahead) → standing a.paused ≡ None → pause_at limit (further k (record a { paused = None })) ≡ pause_at limit (further k a)
+pauses_alike limit zero a free = ap (λ (o : Option Paused). option_or o (option_or (at_limit limit a.steps) (pause_before a))) (sym free)
+pauses_alike limit (suc k) a free = refl
+
+pub run_going : (limit : ℕ) (a after : Ahead) (p : Paused) → standing a.paused ≡ None → HasGone limit (record a { paused = None }) after p → IsRun limit a (record after { paused = Some p }) p
+run_going limit a after p free gone = record {
+  count = gone.count;
+  took = ap (λ (b : Ahead). record b { paused = Some p }) gone.took ∙ forgotten gone.count a (Some p);
+  went_on = λ k below. sym (pauses_alike limit k a free) ∙ gone.went_on k below;
+  stands = sym (pauses_alike limit gone.count a free) ∙ gone.stands;
+}
+
+pub run_standing : (limit : ℕ) (a : Ahead) (p : Paused) → standing a.paused ≡ Some p → IsRun limit a a p
+run_standing limit a p stands = record {
   count = 0;
-  took = refl;
+  took = ap (λ (o : Option Paused). record a { paused = o }) (stands_itself a.paused p stands);
   went_on = λ k below. absurd (omega (arith, below));
   stands = ap (λ (o : Option Paused). option_or o (option_or (at_limit limit a.steps) (pause_before a))) stands;
 }
 
 -- ---- the pause names the status
-
-standing_status : (o : Option Paused) (p : Paused) → standing o ≡ Some p → status_by (Some p) ≡ status_by o
-standing_status None p e = absurd (cc)
-standing_status (Some pauses.Call) p e = ap status_by (sym e)
-standing_status (Some (pauses.Stopped reason)) p e = ap status_by (sym e)
-standing_status (Some pauses.Limit) p e = absurd (cc)
-standing_status (Some (pauses.Miss va access)) p e = absurd (cc)
-standing_status (Some pauses.Signal) p e = absurd (cc)
 
 missed_status : (answer : Stepped) (p : Paused) → pause_if_missed answer ≡ Some p → status_by (Some p) ≡ Ready
 missed_status steps.Next p e = absurd (cc)
@@ -164,5 +181,5 @@ pause_status limit a p e = by (standing a.paused) refl e
         by_limit false is e = absurd (cc)
 
     by : (o : Option Paused) → standing a.paused ≡ o → option_or o (option_or (at_limit limit a.steps) (pause_before a)) ≡ Some p → status_by (Some p) ≡ status_by a.paused
-    by (Some q) is e = standing_status a.paused p (is ∙ e)
+    by (Some q) is e = ap status_by (sym (stands_itself a.paused p (is ∙ e)))
     by None is e = at (at_limit limit a.steps) refl e ∙ sym (ready_where a.paused is)

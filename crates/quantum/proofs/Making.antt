@@ -1,6 +1,6 @@
 -- How a run ahead comes to be: begun, with a view more, with a step more.
 use Rattle.std.proofs.Common.{◌≡◌, ◌≢◌, ℕ, zero, suc, ◌+◌, ◌%◌, ◌<◌, Bool, true, false, ◌&&◌, ◌||◌, cond, List, [], ◌∷◌, ◌++◌, map, Option, Some, None, slice_get, Contains, refl, ap, ap₂, sym, ◌∙◌, subst, inl, inr, ◌⊎◌, arith}
-use Rattle.std.specs.Prelude.{◌==◌, if◌then◌else◌, replicate, slice_set, unwrap_or}
+use Rattle.std.specs.Prelude.{◌==◌, if◌then◌else◌, replicate, slice_set, unwrap_or, is_some}
 use Rattle.std.specs.List.{find}
 use Rattle.std.proofs.lemmas.Bool.{cases_lt, eq-eqb, eqb-true, and_parts}
 use Rattle.std.proofs.lemmas.List.{set-set}
@@ -17,6 +17,7 @@ use Rattle.rv32_exec.specs.declared.statuses.Status.TheVariants.{Ready}
 use Rattle.rv32_exec.specs.declared.steps.Stepped.{Stepped}
 use Rattle.rv32_exec.specs.declared.steps.Stepped.TheVariants as steps
 use Rattle.rv32_exec.specs.Changes.{Change}
+use Rattle.rv32_exec.specs.Steps.{after_step}
 use Rattle.rv32_exec.proofs.StepChanges.{is_step}
 use Rattle.flat_state.specs.declared.events.Event.{Event}
 use Rattle.flat_state.specs.declared.events.Event.TheVariants.{Step}
@@ -335,18 +336,31 @@ module _ (a : Ahead) (made : IsMade a) (going : standing a.paused ≡ None) (qui
   pub made_ahead : IsMade (one_ahead a)
   made_ahead = subst IsMade (sym next_is) next_made
 
-pub not_a_miss : (answer : Stepped) → ((va : ℕ) (access : Access) → answer ≡ steps.Miss va access → ⊥) → is_miss answer ≡ false
+not_a_miss : (answer : Stepped) → ((va : ℕ) (access : Access) → answer ≡ steps.Miss va access → ⊥) → is_miss answer ≡ false
 not_a_miss steps.Next other = refl
 not_a_miss steps.Call other = refl
 not_a_miss (steps.Stop reason) other = refl
 not_a_miss (steps.Miss va access) other = absurd (other va access refl)
 
--- the run ahead with a step more, by its parts
-pub made_so : (a : Ahead) (made : IsMade a) → standing a.paused ≡ None → signals_next a ≡ false → is_miss (outcome a).answer ≡ false
-    → (c : Context) (vs : List View) (p : Option Paused) → c ≡ (outcome a).context → vs ≡ views_with a.views (outcome a).pages → p ≡ pause_after (outcome a).answer
+-- the run ahead with a step more, by what a look before it and the step answer
+pub made_so : (a : Ahead) → IsMade a → a.paused ≡ None → (us : List View) → us ≡ a.views → signals_next a ≡ false
+    → (stepped : Stepped) → ((va : ℕ) (access : Access) → stepped ≡ steps.Miss va access → ⊥) → stepped ≡ (after_step a.context (pages_of_views us)).answer
+    → (c : Context) → c ≡ (after_step a.context (pages_of_views us)).context
+    → (vs : List View) → vs ≡ views_with us (after_step a.context (pages_of_views us)).pages
+    → (p : Option Paused) → p ≡ pause_after stepped
     → IsMade (record { first = a.first; context = c; views = vs; steps = a.steps + 1; paused = p })
-made_so a made going quiet went c vs p same-context same-views same-pause =
+made_so a made free us same quiet stepped other answer c same-context vs same-views p same-pause =
+    let after = λ (ws : List View). after_step a.context (pages_of_views ws) in
+    let is : stepped ≡ (outcome a).answer = answer ∙ ap (λ (ws : List View). (after ws).answer) same in
+    let went : is_miss (outcome a).answer ≡ false = subst (λ (s : Stepped). is_miss s ≡ false) is (not_a_miss stepped other) in
+    let context : c ≡ (outcome a).context = same-context ∙ ap (λ (ws : List View). (after ws).context) same in
+    let views : vs ≡ views_with a.views (outcome a).pages = same-views ∙ ap (λ (ws : List View). views_with ws (after ws).pages) same in
     subst IsMade
-    (sym (ap₂ (λ (d : Context) (ws : List View). record { first = a.first; context = d; views = ws; steps = a.steps + 1; paused = p }) same-context same-views
-    ∙ ap (λ (o : Option Paused). record (one_ahead a) { paused = o }) same-pause))
-    (made_ahead a made going quiet went)
+    (sym (ap₂ (λ (d : Context) (ws : List View). record { first = a.first; context = d; views = ws; steps = a.steps + 1; paused = p }) context views
+    ∙ ap (λ (o : Option Paused). record (one_ahead a) { paused = o }) (same-pause ∙ ap pause_after is)))
+    (made_ahead a made (ap standing free) quiet went)
+
+-- where there is no pause
+pub no_pause : (p : Option Paused) → is_some p ≡ false → None ≡ p
+no_pause None none = refl
+no_pause (Some p) none = absurd (cc)

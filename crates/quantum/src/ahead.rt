@@ -130,6 +130,10 @@ impl Quantum {
         ensures run { IsRun limit self.old self.new result }
         ensures local_run { IsLocalRun self.new }
     {
+        if let Some(paused) = standing(self.paused) {
+            return paused;
+        }
+        self.paused = None;
         let paused = self.go(limit);
         self.paused = Some(paused);
         paused
@@ -138,11 +142,9 @@ impl Quantum {
     // Takes steps up to the first pause, and answers it.
     #[inline]
     fn go(&mut self, limit: u32) -> Paused
+        requires { self.old.paused ≡ None }
         ensures { HasGone limit self.old self.new result }
     {
-        if let Some(paused) = standing(self.paused) {
-            return paused;
-        }
         while self.steps < limit {
             if let Some(paused) = self.advance() {
                 return paused;
@@ -151,10 +153,10 @@ impl Quantum {
         Paused::Limit
     }
 
-    // Takes one step more, and answers whether the run pauses before it or after it.
+    // Takes one step more, and answers whether the run pauses before it or after it. A step that goes on writes no pause.
     #[inline]
     fn advance(&mut self) -> Option<Paused>
-        requires going { standing_def self.old.paused ≡ None }
+        requires going { self.old.paused ≡ None }
         requires room { self.old.steps + 1 < 2 ^ 32 }
         ensures after { self.new ≡ advanced (pause_before self.old) self.old }
         ensures answer { result ≡ answer_of (pause_before self.old) self.old }
@@ -167,8 +169,11 @@ impl Quantum {
             return Some(Paused::Miss { va, access });
         }
         self.steps += 1;
-        self.paused = pause_after(stepped);
-        self.paused
+        let paused = pause_after(stepped);
+        if paused.is_some() {
+            self.paused = paused;
+        }
+        paused
     }
 }
 
