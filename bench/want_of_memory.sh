@@ -1,10 +1,18 @@
 #!/usr/bin/env bash
 # Usage: bench/want_of_memory.sh
-# Lets each allocation of the proved program fail in turn: on a small scenario, with its journal, and on a large one that
-# is made from a number. Each run ends with status 6 and writes nothing, or answers as the whole run; any other has a line,
-# and so has how many there were. It wants cc.
+# Lets each allocation of the proved program fail in turn: on a scenario of words, one of code and one of an executable, with
+# the journal, and on a large one that is made from a number. Each run ends with status 6 and writes nothing, or answers as
+# the whole run; any other has a line, and so has how many there were. It wants cc, and the program that ./build leaves.
+# Ends with 1 where some run answered otherwise, or the program isn't built.
 set -u
+unset CDPATH
+script=bench/want_of_memory.sh
 top="$(cd "$(dirname "${BASH_SOURCE[0]}")/.." && pwd)"
+source "$top/scripts/program.sh"
+if ! find_proved v_run; then
+    say 'no proved v_run is built from the sources as they are; ./build makes one'
+    exit 1
+fi
 place="$(mktemp -d)"
 trap 'rm -rf "$place"' EXIT
 
@@ -27,16 +35,16 @@ void *malloc(size_t size) { return refuses() ? NULL : __libc_malloc(size); }
 void *realloc(void *old, size_t size) { return refuses() ? NULL : __libc_realloc(old, size); }
 END
 cc -O2 -shared -fPIC -o "$place/refuse.so" "$place/refuse.c" || exit 1
-(cd "$top/crates/v_run" && rt run) > /dev/null 2>&1 < /dev/null
-program="$top/crates/v_run/out/v_run"
+failed=0
 
-# refuse_memory WORD..: the words of the program.
+# refuse_memory EXAMPLE WORD..: the input, and the words of the program.
 refuse_memory() {
-    local whole status number=0 refused=0 other=0
-    "$program" "$@" < "$top/examples/hello.scenario" > "$place/whole"
+    local input="$top/examples/$1.scenario" whole status number=0 refused=0 other=0
+    shift
+    "$proved" "$@" < "$input" > "$place/whole"
     whole=$?
     while ((number += 1)); do
-        REFUSE=$number LD_PRELOAD="$place/refuse.so" "$program" "$@" < "$top/examples/hello.scenario" \
+        REFUSE=$number LD_PRELOAD="$place/refuse.so" "$proved" "$@" < "$input" \
             > "$place/output" 9> "$place/refused"
         status=$?
         [ -s "$place/refused" ] || break
@@ -47,9 +55,13 @@ refuse_memory() {
             other=$((other + 1))
         fi
     done
-    echo "v_run $*: $((number - 1)) allocations, $refused answered as want of memory, $other otherwise than the whole run"
+    echo "${input##*/} $*: $((number - 1)) allocations, $refused answered as want of memory, $other otherwise than the whole run"
+    ((other == 0)) || failed=1
 }
 
-refuse_memory
-refuse_memory --mode journal
-refuse_memory --mode gen --steps 1
+refuse_memory hello
+refuse_memory code
+refuse_memory squares
+refuse_memory hello --mode journal
+refuse_memory hello --mode gen --steps 1
+exit "$failed"
