@@ -1,5 +1,5 @@
 -- The text of declarations that fit is a scenario with these declarations.
-use Rattle.std.proofs.Common.{◌≡◌, ℕ, ◌+◌, ◌<◌, Bool, true, false, eqb, List, [], ◌∷◌, ◌++◌, map, length, Option, Some, None, Ok, refl, sym, ap, ◌∙◌, append_assoc, arith}
+use Rattle.std.proofs.Common.{◌≡◌, ℕ, ◌+◌, ◌<◌, Bool, true, false, eqb, List, [], ◌∷◌, ◌++◌, map, length, Option, Some, None, Ok, refl, sym, ap, ap₂, ◌∙◌, append_assoc, arith}
 use Rattle.std.specs.Prelude.{codes, not, nat_lt, nat_le, ◌&&◌, if◌then◌else◌}
 use Rattle.std.specs.Fmt.{decimal}
 use Rattle.std.specs.List.{flat_map, AllByRecursion}
@@ -149,10 +149,10 @@ line_is d r = by_parts (word_of d) (fields_of d) r.ink r.some r.fields ∙ r.for
 -- ---- reading it
 
 -- behind the machine, where these were declared
-abbrev at_body : ℕ → FlatState → List Decl → Reading
+abbrev pub at_body : ℕ → FlatState → List Decl → Reading
 at_body number s ds = record { number = number; place = Body; block = no_lines; bytes = []; flat = s; decls = ds }
 
-abbrev IsBehind : Decl → Type 0
+abbrev pub IsBehind : Decl → Type 0
 IsBehind (decls.Machine machine) = ⊥
 IsBehind (decls.Kernel n limits) = Unit {0}
 IsBehind (decls.Right kernel group read write) = Unit {0}
@@ -169,7 +169,7 @@ one_word : (r next : Reading) (d : Decl) → declare r d ≡ Ok next → declare
 unfolding declare_all
 one_word r next d e = rw e refl
 
-takes_form : (number : ℕ) (s : FlatState) (ds : List Decl) (d : Decl) → IsBehind d → broken_rule s d ≡ None → in_body (at_body number s ds) (form_of d) ≡ Ok (at_body number (declared s d) (ds ++ d ∷ []))
+pub takes_form : (number : ℕ) (s : FlatState) (ds : List Decl) (d : Decl) → IsBehind d → broken_rule s d ≡ None → in_body (at_body number s ds) (form_of d) ≡ Ok (at_body number (declared s d) (ds ++ d ∷ []))
 unfolding in_body word_decls
 takes_form number s ds (decls.Machine machine) behind fits = absurd behind
 takes_form number s ds (decls.Kernel n limits) behind fits = declares number s ds (decls.Kernel n limits) fits
@@ -272,29 +272,34 @@ last_line = refl
 end_lines : lines (codes "end\n") ≡ codes "end" ∷ [] ∷ []
 end_lines = first_line (codes "end") [] (line_clean (codes "end") [] (ink_from (codes "end") refl) no_fields) ∙ ap (λ (x : List (List ℕ)). codes "end" ∷ x) last_line
 
-end_reads : (number earlier : ℕ) (s : FlatState) (ds : List Decl) → 0 < length s.kernels → reads number (at_body earlier s ds) (codes "end" ∷ [] ∷ []) ≡ Ok ds
+pub end_reads : (number earlier : ℕ) (s : FlatState) (ds : List Decl) → 0 < length s.kernels → reads number (at_body earlier s ds) (codes "end" ∷ [] ∷ []) ≡ Ok ds
 unfolding reads step in_body at_end finish line_of text_lines.without_comment text_lines.fields pieces by_word forms.bare_line shapes.no_more
 end_reads number earlier s ds kernels =
     let some : eqb (length s.kernels) 0 ≡ false = ne_eqb (length s.kernels) 0 (λ e. omega (arith, e, kernels)) in
     rw some refl
 
-goes : (number : ℕ) (r next : Reading) (line : List ℕ) (more : List (List ℕ)) → step number r line ≡ Ok next → reads number r (line ∷ more) ≡ reads (number + 1) next more
+pub goes : (number : ℕ) (r next : Reading) (line : List ℕ) (more : List (List ℕ)) → step number r line ≡ Ok next → reads number r (line ∷ more) ≡ reads (number + 1) next more
 unfolding reads
 goes number r next line more e = rw e refl
 
-body_reads : (number earlier : ℕ) (s : FlatState) (m : Machine) (ds es : List Decl) → s.machine ≡ Some m → AllFit s es → AllByRecursion IsDeclInRange es → 0 < length (after_declarations s es).kernels
-    → reads number (at_body earlier s ds) (lines (flat_map decl_text es ++ codes "end\n")) ≡ Ok (ds ++ es)
-body_reads number earlier s m ds [] there fit small kernels = ap (reads number (at_body earlier s ds)) end_lines ∙ end_reads number earlier s ds kernels ∙ ap Ok (sym (append-nil ds))
-body_reads number earlier s m ds (d ∷ es) there fit small kernels =
+-- the lines of declarations that fit, in front of more
+pub body_goes : (number earlier : ℕ) (s : FlatState) (m : Machine) (ds es : List Decl) (rest : List ℕ) → s.machine ≡ Some m → AllFit s es → AllByRecursion IsDeclInRange es
+    → (last : ℕ) × (reads number (at_body earlier s ds) (lines (flat_map decl_text es ++ rest)) ≡ reads (number + length es) (at_body last (after_declarations s es) (ds ++ es)) (lines rest))
+body_goes number earlier s m ds [] rest there fit small =
+    (earlier, ap₂ (λ (n : ℕ) (ps : List Decl). reads n (at_body earlier s ps) (lines rest)) (omega arith) (sym (append-nil ds)))
+body_goes number earlier s m ds (d ∷ es) rest there fit small =
     let behind = is_behind s m d there fit.0 in
     let read = is_read d small.0 (has_flag s m d there fit.0) in
-    let rest = flat_map decl_text es ++ codes "end\n" in
+    let more = flat_map decl_text es ++ rest in
     let line = word_of d ++ flat_map spaced (fields_of d) in
-    ap (λ (x : List ℕ). reads number (at_body earlier s ds) (lines x)) (append_assoc (decl_text d) (flat_map decl_text es) (codes "end\n") ∙ behind_line d rest behind)
-    ∙ ap (reads number (at_body earlier s ds)) (first_line line rest (line_clean (word_of d) (fields_of d) read.ink read.fields))
-    ∙ goes number (at_body earlier s ds) (at_body number (declared s d) (ds ++ d ∷ [])) line (lines rest) (one_step number earlier s ds d read behind fit.0)
-    ∙ body_reads (number + 1) number (declared s d) m (ds ++ d ∷ []) es (still_there s m d there behind) fit.1 small.1 kernels
-    ∙ ap Ok (append_assoc ds (d ∷ []) es)
+    let later = body_goes (number + 1) number (declared s d) m (ds ++ d ∷ []) es rest (still_there s m d there behind) fit.1 small.1 in (
+      later.0,
+      ap (λ (x : List ℕ). reads number (at_body earlier s ds) (lines x)) (append_assoc (decl_text d) (flat_map decl_text es) rest ∙ behind_line d more behind)
+          ∙ ap (reads number (at_body earlier s ds)) (first_line line more (line_clean (word_of d) (fields_of d) read.ink read.fields))
+          ∙ goes number (at_body earlier s ds) (at_body number (declared s d) (ds ++ d ∷ [])) line (lines more) (one_step number earlier s ds d read behind fit.0)
+          ∙ later.1
+          ∙ ap₂ (λ (n : ℕ) (ps : List Decl). reads n (at_body later.0 (after_declarations s (d ∷ es)) ps) (lines rest)) (omega arith) (append_assoc ds (d ∷ []) es),
+    )
 
 -- ---- the machine
 
@@ -341,22 +346,32 @@ first_rule : (m : Machine) → broken_rule nothing_declared (decls.Machine m) �
 unfolding broken_rule
 first_rule m fits = fits
 
+-- the lines of a machine, in front of more
+pub machine_goes : (m : Machine) (rest : List ℕ) → broken_rule nothing_declared (decls.Machine m) ≡ None → IsDeclInRange (decls.Machine m)
+    → reads 1 start (lines (decl_text (decls.Machine m) ++ rest)) ≡ reads 3 (at_body 2 (declared nothing_declared (decls.Machine m)) (decls.Machine m ∷ [])) (lines rest)
+machine_goes m rest fit small =
+    let memory = machine_line m.groups in
+    let caps = caps_line m in
+    let memory_clean = line_clean (codes "mem") (decimal m.groups ∷ []) (ink_from (codes "mem") refl) (a_number m.groups [] small.0 no_fields) in
+    let caps_clean = line_clean (codes "caps") (map decimal (amounts m.caps)) (ink_from (codes "caps") refl) (caps_fields m small.1) in
+    let first = in_place (numbered start 1) (Memory m.groups) in
+    let second = at_body 2 (declared nothing_declared (decls.Machine m)) (decls.Machine m ∷ []) in
+    ap (λ (x : List ℕ). reads 1 start (lines x)) (machine_text m rest)
+    ∙ ap (reads 1 start) (first_line memory (caps ++ (10 ∷ rest)) memory_clean)
+    ∙ goes 1 start first memory (lines (caps ++ (10 ∷ rest))) (memory_step m small.0 (first_rule m fit))
+    ∙ ap (reads 2 first) (first_line caps rest caps_clean)
+    ∙ goes 2 first second caps (lines rest) (caps_step m small.1 fit)
+
 behind_machine_reads : (m : Machine) (es : List Decl) → AllFit nothing_declared (decls.Machine m ∷ es) → AllByRecursion IsDeclInRange (decls.Machine m ∷ es) → 0 < length (after_declarations nothing_declared (decls.Machine m ∷ es)).kernels
     → reads 1 start (lines (scenario_text (decls.Machine m ∷ es))) ≡ Ok (decls.Machine m ∷ es)
 behind_machine_reads m es fit small kernels =
-    let rest = flat_map decl_text es ++ codes "end\n" in
-    let memory = machine_line m.groups in
-    let caps = caps_line m in
-    let memory_clean = line_clean (codes "mem") (decimal m.groups ∷ []) (ink_from (codes "mem") refl) (a_number m.groups [] small.0.0 no_fields) in
-    let caps_clean = line_clean (codes "caps") (map decimal (amounts m.caps)) (ink_from (codes "caps") refl) (caps_fields m small.0.1) in
-    let first = in_place (numbered start 1) (Memory m.groups) in
-    let second = at_body 2 (declared nothing_declared (decls.Machine m)) (decls.Machine m ∷ []) in
-    ap (λ (x : List ℕ). reads 1 start (lines x)) (append_assoc (decl_text (decls.Machine m)) (flat_map decl_text es) (codes "end\n") ∙ machine_text m rest)
-    ∙ ap (reads 1 start) (first_line memory (caps ++ (10 ∷ rest)) memory_clean)
-    ∙ goes 1 start first memory (lines (caps ++ (10 ∷ rest))) (memory_step m small.0.0 (first_rule m fit.0))
-    ∙ ap (reads 2 first) (first_line caps rest caps_clean)
-    ∙ goes 2 first second caps (lines rest) (caps_step m small.0.1 fit.0)
-    ∙ body_reads 3 2 (declared nothing_declared (decls.Machine m)) m (decls.Machine m ∷ []) es (machine_there m) fit.1 small.1 kernels
+    let body = body_goes 3 2 (declared nothing_declared (decls.Machine m)) m (decls.Machine m ∷ []) es (codes "end\n") (machine_there m) fit.1 small.1 in
+    let last = at_body body.0 (after_declarations nothing_declared (decls.Machine m ∷ es)) (decls.Machine m ∷ es) in
+    ap (λ (x : List ℕ). reads 1 start (lines x)) (append_assoc (decl_text (decls.Machine m)) (flat_map decl_text es) (codes "end\n"))
+    ∙ machine_goes m (flat_map decl_text es ++ codes "end\n") fit.0 small.0
+    ∙ body.1
+    ∙ ap (reads (3 + length es) last) end_lines
+    ∙ end_reads (3 + length es) body.0 (after_declarations nothing_declared (decls.Machine m ∷ es)) (decls.Machine m ∷ es) kernels
 
 pub scenario_again : (ds : List Decl) → AllFit nothing_declared ds → AllByRecursion IsDeclInRange ds → 0 < length (after_declarations nothing_declared ds).kernels → scenario (scenario_text ds) ≡ Ok ds
 unfolding scenario broken_rule
