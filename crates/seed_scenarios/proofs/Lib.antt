@@ -1,0 +1,4 @@
+pub mod Fitting
+pub mod Texts
+pub mod Blocks
+pub mod Seeded
