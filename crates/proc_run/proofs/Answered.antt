@@ -1,5 +1,5 @@
 -- How a run is answered, and what is due by words and by the bytes of a source.
-use Rattle.std.proofs.Common.{◌≡◌, ℕ, ◌<◌, ◌≤◌, true, List, length, Option, Some, None, Result, Err, refl, sym, ap, ap₂, ◌∙◌, subst, ◌⊎◌, inl, inr, arith}
+use Rattle.std.proofs.Common.{◌≡◌, ◌≢◌, ℕ, ◌<◌, ◌≤◌, true, List, length, Option, Some, None, Result, Err, refl, sym, ap, ap₂, ◌∙◌, subst, ◌⊎◌, inl, inr, arith}
 use Rattle.std.specs.Prelude.{IfSome}
 use Rattle.std.specs.Io.KnownBytes.{IsAtEnd}
 use Rattle.std.proofs.lemmas.Option.{same_Some}
@@ -8,23 +8,27 @@ use Rattle.flat_state.specs.declared.events.Decl.{Decl}
 use Rattle.flat_state.specs.declared.records.Settled.{Settled}
 use Rattle.flat_state.specs.declared.records.Settled.TheVariants as settled
 use Rattle.flat_state.specs.State.{FlatState}
+use Rattle.flat_state.specs.Events.{flat}
 use Rattle.flat_state.specs.Settling.{settled_of}
 use Rattle.scenario_reader.specs.declared.fault.ScenarioFault.{ScenarioFault}
 use Rattle.scenario_reader.specs.declared.fault.ScenarioFault.TheVariants as faults
 use Rattle.scenario_reader.specs.Scenarios.{scenario}
 use Rattle.run_journal.specs.declared.entries.Entry.{Entry}
-use Rattle.run_journal.specs.Entries.{Written}
+use Rattle.run_journal.specs.Entries.{Written, erase, steps_in}
 use Rattle.run_words.specs.declared.options.Mode.{Mode}
-use Rattle.run_words.specs.declared.options.Mode.TheVariants.{Run, Journal, Gen}
+use Rattle.run_words.specs.declared.options.Mode.TheVariants.{Run, Journal, Gen, Check}
 use Rattle.run_words.specs.declared.options.Options.{Options}
 use Rattle.run_words.specs.Options.{options}
 use Rattle.proc_run.specs.declared.outcome.Kept.{Kept}
 use Rattle.proc_run.specs.declared.outcome.Kept.TheVariants as kept
 use Rattle.proc_run.specs.declared.outcome.RunStatus.{RunStatus}
-use Rattle.proc_run.specs.declared.outcome.RunStatus.TheVariants.{Done, Stalled, Spent, ReadFault, WriteFault, BadScenario, NoMemory, Usage, TooLong}
+use Rattle.proc_run.specs.declared.outcome.RunStatus.TheVariants.{Done, Stalled, Spent, ReadFault, WriteFault, BadScenario, NoMemory, Usage, TooLong, Checked, NotLegal, BadJournal}
+use Rattle.check_mode.specs.Answers.{HasLegalJournal}
+use Rattle.check_mode.specs.Parts.{scenario_part}
+use Rattle.check_mode.proofs.Answered.{yes_so, never_no, never_bad, never_faulty}
 use Rattle.proc_run.specs.Running.{IsRun}
 use Rattle.proc_run.specs.Texts.{text_of}
-use Rattle.proc_run.specs.Outcomes.{most_bytes, IsScenario, HasFault, ComesOut, ComesOutOrNoMemory, IsRunOf, IsAnswer, reads_in, ComesFrom, IsDueBy, IsDue, IsToldIn, IsTold, IsFaultlessIn, IsFaultless, reads_source, IsRefusal}
+use Rattle.proc_run.specs.Outcomes.{most_bytes, IsScenario, HasFault, ComesOut, ComesOutOrNoMemory, ComesOutOfCheck, ComesOutIn, IsLegalAt, IsRunOf, IsRunAnswer, IsCheckAnswer, IsAnswerIn, IsAnswer, reads_in, ComesFrom, IsDueBy, IsDue, IsToldIn, IsTold, IsFaultlessIn, IsFaultless, reads_source, IsRefusal}
 use Rattle.proc_run.specs.Dues.{status_of}
 use Rattle.scenario_gen.specs.Generated.{text as generated}
 
@@ -50,27 +54,97 @@ run_of o ds bs j s how steps text ran written is_scenario = record {
   written = written ∙ ap₂ (λ t n. text_of o j t how n) ran.state ran.count;
 }
 
-pub run_is_answer : (o : Options) (ds : List Decl) (bs : List ℕ) (j : Written) (s : FlatState) (how : Settled) (steps : ℕ) (text : List ℕ) → IsRun ds j.entries s how steps o.steps → text ≡ text_of o j.entries s how steps → IsScenario bs ds → IsAnswer o bs (status_of how) (kept.Journal j) text
+pub run_is_answer : (o : Options) (ds : List Decl) (bs : List ℕ) (j : Written) (s : FlatState) (how : Settled) (steps : ℕ) (text : List ℕ) → IsRun ds j.entries s how steps o.steps → text ≡ text_of o j.entries s how steps → IsScenario bs ds → IsRunAnswer o bs (status_of how) (kept.Journal j) text
 run_is_answer o ds bs j s settled.Done steps text ran written is_scenario = run_of o ds bs j.entries s settled.Done steps text ran written is_scenario
 run_is_answer o ds bs j s settled.Stalled steps text ran written is_scenario = run_of o ds bs j.entries s settled.Stalled steps text ran written is_scenario
 run_is_answer o ds bs j s settled.Spent steps text ran written is_scenario = run_of o ds bs j.entries s settled.Spent steps text ran written is_scenario
 run_is_answer o ds bs j s settled.Running steps text ran written is_scenario = absurd (ran.over refl)
 
 -- a scenario runs to its end, and any other text is answered by its first fault
-comes_out : (o : Options) (bs : List ℕ) (status : RunStatus) (k : Kept) (text : List ℕ) → IsAnswer o bs status k text → ComesOut (scenario bs) status
-comes_out o bs Done (kept.Journal j) text answer = rw answer.is_scenario tt
-comes_out o bs Done kept.Nothing text answer = absurd answer
-comes_out o bs Stalled (kept.Journal j) text answer = rw answer.is_scenario tt
-comes_out o bs Stalled kept.Nothing text answer = absurd answer
-comes_out o bs Spent (kept.Journal j) text answer = rw answer.is_scenario tt
-comes_out o bs Spent kept.Nothing text answer = absurd answer
-comes_out o bs ReadFault k text answer = absurd answer
-comes_out o bs WriteFault k text answer = absurd answer
-comes_out o bs (BadScenario line rule) kept.Nothing text answer = rw answer.0 refl
-comes_out o bs (BadScenario line rule) (kept.Journal j) text answer = absurd answer
-comes_out o bs NoMemory k text answer = absurd answer
-comes_out o bs Usage k text answer = absurd answer
-comes_out o bs TooLong k text answer = absurd answer
+comes_out_of_run : (o : Options) (bs : List ℕ) (status : RunStatus) (k : Kept) (text : List ℕ) → IsRunAnswer o bs status k text → ComesOut (scenario bs) status
+comes_out_of_run o bs Done (kept.Journal j) text answer = rw answer.is_scenario tt
+comes_out_of_run o bs Done kept.Nothing text answer = absurd answer
+comes_out_of_run o bs Stalled (kept.Journal j) text answer = rw answer.is_scenario tt
+comes_out_of_run o bs Stalled kept.Nothing text answer = absurd answer
+comes_out_of_run o bs Spent (kept.Journal j) text answer = rw answer.is_scenario tt
+comes_out_of_run o bs Spent kept.Nothing text answer = absurd answer
+comes_out_of_run o bs ReadFault k text answer = absurd answer
+comes_out_of_run o bs WriteFault k text answer = absurd answer
+comes_out_of_run o bs (BadScenario line rule) kept.Nothing text answer = rw answer.0 refl
+comes_out_of_run o bs (BadScenario line rule) (kept.Journal j) text answer = absurd answer
+comes_out_of_run o bs NoMemory k text answer = absurd answer
+comes_out_of_run o bs Usage k text answer = absurd answer
+comes_out_of_run o bs TooLong k text answer = absurd answer
+comes_out_of_run o bs (Checked how) k text answer = absurd answer
+comes_out_of_run o bs (NotLegal at point) k text answer = absurd answer
+comes_out_of_run o bs (BadJournal line) k text answer = absurd answer
+
+-- what stands behind a scenario is checked, and any other first part is answered by its first fault
+comes_out_of_check : (limit : ℕ) (bs : List ℕ) (status : RunStatus) (k : Kept) (text : List ℕ) → IsCheckAnswer limit bs status k text → ComesOutOfCheck (scenario (scenario_part bs)) status
+comes_out_of_check limit bs Done k text answer = absurd answer
+comes_out_of_check limit bs Stalled k text answer = absurd answer
+comes_out_of_check limit bs Spent k text answer = absurd answer
+comes_out_of_check limit bs ReadFault k text answer = absurd answer
+comes_out_of_check limit bs WriteFault k text answer = absurd answer
+comes_out_of_check limit bs (BadScenario line rule) kept.Nothing text answer = rw answer.0 refl
+comes_out_of_check limit bs (BadScenario line rule) (kept.Journal j) text answer = absurd answer
+comes_out_of_check limit bs NoMemory k text answer = absurd answer
+comes_out_of_check limit bs Usage k text answer = absurd answer
+comes_out_of_check limit bs TooLong k text answer = absurd answer
+comes_out_of_check limit bs (Checked how) (kept.Journal j) text answer = rw answer.1 tt
+comes_out_of_check limit bs (Checked how) kept.Nothing text answer = absurd answer
+comes_out_of_check limit bs (NotLegal at point) (kept.Journal j) text answer = rw answer.1 tt
+comes_out_of_check limit bs (NotLegal at point) kept.Nothing text answer = absurd answer
+comes_out_of_check limit bs (BadJournal line) kept.Nothing text answer = rw answer.1 tt
+comes_out_of_check limit bs (BadJournal line) (kept.Journal j) text answer = absurd answer
+
+-- a legal journal is found legal
+legal_answer : (limit : ℕ) (bs : List ℕ) (status : RunStatus) (k : Kept) (text : List ℕ) (ds : List Decl) (j : List Entry) → HasLegalJournal bs ds j → IsCheckAnswer limit bs status k text
+    → IsLegalAt (settled_of (flat (erase j)) (steps_in j) limit) status
+legal_answer limit bs Done k text ds j has answer = absurd answer
+legal_answer limit bs Stalled k text ds j has answer = absurd answer
+legal_answer limit bs Spent k text ds j has answer = absurd answer
+legal_answer limit bs ReadFault k text ds j has answer = absurd answer
+legal_answer limit bs WriteFault k text ds j has answer = absurd answer
+legal_answer limit bs (BadScenario line rule) kept.Nothing text ds j has answer = absurd (never_faulty bs ds j line rule has answer.0)
+legal_answer limit bs (BadScenario line rule) (kept.Journal i) text ds j has answer = absurd answer
+legal_answer limit bs NoMemory k text ds j has answer = tt
+legal_answer limit bs Usage k text ds j has answer = absurd answer
+legal_answer limit bs TooLong k text ds j has answer = absurd answer
+legal_answer limit bs (Checked how) (kept.Journal i) text ds j has answer = yes_so bs ds answer.0 j i.entries limit how text has answer.2
+legal_answer limit bs (Checked how) kept.Nothing text ds j has answer = absurd answer
+legal_answer limit bs (NotLegal at point) (kept.Journal i) text ds j has answer = absurd (never_no bs ds answer.0 j i.entries at point text has answer.1 answer.2)
+legal_answer limit bs (NotLegal at point) kept.Nothing text ds j has answer = absurd answer
+legal_answer limit bs (BadJournal line) kept.Nothing text ds j has answer = absurd (never_bad bs ds j line text has answer.2)
+legal_answer limit bs (BadJournal line) (kept.Journal i) text ds j has answer = absurd answer
+
+comes_out : (mode : Mode) (o : Options) (bs : List ℕ) (status : RunStatus) (k : Kept) (text : List ℕ) → IsAnswerIn mode o bs status k text → ComesOutIn mode bs status
+comes_out Run o bs status k text answer = comes_out_of_run o bs status k text answer
+comes_out Journal o bs status k text answer = comes_out_of_run o bs status k text answer
+comes_out Gen o bs status k text answer = comes_out_of_run o bs status k text answer
+comes_out Check o bs status k text answer = comes_out_of_check o.steps bs status k text answer
+
+never_usage : (mode : Mode) (o : Options) (bs : List ℕ) (k : Kept) (text : List ℕ) → IsAnswerIn mode o bs Usage k text → ⊥
+never_usage Run o bs k text answer = answer
+never_usage Journal o bs k text answer = answer
+never_usage Gen o bs k text answer = answer
+never_usage Check o bs k text answer = answer
+
+never_long : (mode : Mode) (o : Options) (bs : List ℕ) (k : Kept) (text : List ℕ) → IsAnswerIn mode o bs TooLong k text → ⊥
+never_long Run o bs k text answer = answer
+never_long Journal o bs k text answer = answer
+never_long Gen o bs k text answer = answer
+never_long Check o bs k text answer = answer
+
+-- the answer of a run is that of its mode, and so is the answer of a check
+pub run_answer : (mode : Mode) (o : Options) (bs : List ℕ) (status : RunStatus) (k : Kept) (text : List ℕ) → mode ≢ Check → IsRunAnswer o bs status k text → IsAnswerIn mode o bs status k text
+run_answer Run o bs status k text other answer = answer
+run_answer Journal o bs status k text other answer = answer
+run_answer Gen o bs status k text other answer = answer
+run_answer Check o bs status k text other answer = absurd (other refl)
+
+pub check_answer : (mode : Mode) (o : Options) (bs : List ℕ) (status : RunStatus) (k : Kept) (text : List ℕ) → mode ≡ Check → IsCheckAnswer o.steps bs status k text → IsAnswerIn mode o bs status k text
+check_answer mode o bs status k text is answer = subst (λ (m : Mode). IsAnswerIn m o bs status k text) (sym is) answer
 
 -- ---- what is due by options
 
@@ -78,17 +152,21 @@ pub by_text : (o : Options) (bytes left : Option (List ℕ)) (bs : List ℕ) (st
 by_text o bytes left bs Done k text from answer = (bs, from, answer)
 by_text o bytes left bs Stalled k text from answer = (bs, from, answer)
 by_text o bytes left bs Spent k text from answer = (bs, from, answer)
-by_text o bytes left bs ReadFault k text from answer = absurd answer
-by_text o bytes left bs WriteFault k text from answer = absurd answer
+by_text o bytes left bs ReadFault k text from answer = (bs, from, answer)
+by_text o bytes left bs WriteFault k text from answer = (bs, from, answer)
 by_text o bytes left bs (BadScenario line rule) k text from answer = (bs, from, answer)
-by_text o bytes left bs NoMemory k text from answer = absurd answer
-by_text o bytes left bs Usage k text from answer = absurd answer
-by_text o bytes left bs TooLong k text from answer = absurd answer
+by_text o bytes left bs NoMemory k text from answer = (bs, from, answer)
+by_text o bytes left bs Usage k text from answer = (bs, from, answer)
+by_text o bytes left bs TooLong k text from answer = absurd (never_long o.mode o bs k text answer)
+by_text o bytes left bs (Checked how) k text from answer = (bs, from, answer)
+by_text o bytes left bs (NotLegal at point) k text from answer = (bs, from, answer)
+by_text o bytes left bs (BadJournal line) k text from answer = (bs, from, answer)
 
 -- the bytes that were read to the end of the source
 from_source : (mode : Mode) (seed : ℕ) (bytes left : Option (List ℕ)) (bs : List ℕ) → reads_in mode ≡ true → IfSome bytes (λ told. bs ≡ told) → IsAtEnd left → length bs ≤ most_bytes → ComesFrom mode seed bytes left bs
 from_source Run seed bytes left bs reads told at_end few = (told, at_end, few)
 from_source Journal seed bytes left bs reads told at_end few = (told, at_end, few)
+from_source Check seed bytes left bs reads told at_end few = (told, at_end, few)
 from_source Gen seed bytes left bs reads told at_end few = absurd cc
 
 pub from_read : (mode : Mode) (seed : ℕ) (bytes left : Option (List ℕ)) (items bs : List ℕ) → bs ≡ items → reads_in mode ≡ true → IfSome bytes (λ told. items ≡ told) → IsAtEnd left → length items ≤ most_bytes → ComesFrom mode seed bytes left bs
@@ -102,6 +180,7 @@ from_seed mode seed bytes bs is made = subst (λ (m : Mode). ComesFrom m seed by
 same_text : (mode : Mode) (seed : ℕ) (bytes left : Option (List ℕ)) (bs told : List ℕ) → IsToldIn mode seed bytes told → ComesFrom mode seed bytes left bs → bs ≡ told
 same_text Run seed bytes left bs told is from = subst (λ (b : Option (List ℕ)). IfSome b (λ t. bs ≡ t)) is.0 from.0
 same_text Journal seed bytes left bs told is from = subst (λ (b : Option (List ℕ)). IfSome b (λ t. bs ≡ t)) is.0 from.0
+same_text Check seed bytes left bs told is from = subst (λ (b : Option (List ℕ)). IfSome b (λ t. bs ≡ t)) is.0 from.0
 same_text Gen seed bytes left bs told is from = from.1 ∙ sym is
 
 -- a text that is told isn't too long
@@ -112,23 +191,45 @@ not_too_long Run seed bytes told is reads long =
 not_too_long Journal seed bytes told is reads long =
     let more : most_bytes < length told = subst (λ (b : Option (List ℕ)). IfSome b (λ bs. most_bytes < length bs)) is.0 long in
     omega (arith, is.1, more)
+not_too_long Check seed bytes told is reads long =
+    let more : most_bytes < length told = subst (λ (b : Option (List ℕ)). IfSome b (λ bs. most_bytes < length bs)) is.0 long in
+    omega (arith, is.1, more)
 not_too_long Gen seed bytes told is reads long = absurd cc
 
-by_answer : (o : Options) (bytes left : Option (List ℕ)) (status : RunStatus) (k : Kept) (text told : List ℕ) → IsTold o bytes told → (bs : List ℕ) × ComesFrom o.mode o.seed bytes left bs × IsAnswer o bs status k text → ComesOut (scenario told) status
-by_answer o bytes left status k text told is due =
-    subst (λ (bs : List ℕ). ComesOut (scenario bs) status) (same_text o.mode o.seed bytes left due.0 told is due.1) (comes_out o due.0 status k text due.2)
+-- the input was too long, or it is answered
+due_parts : (o : Options) (bytes left : Option (List ℕ)) (status : RunStatus) (k : Kept) (text : List ℕ) → IsDueBy o bytes left status k text
+    → ((reads_in o.mode ≡ true) × IfSome bytes (λ bs. most_bytes < length bs)) ⊎ ((bs : List ℕ) × ComesFrom o.mode o.seed bytes left bs × IsAnswer o bs status k text)
+due_parts o bytes left Done k text due = inr due
+due_parts o bytes left Stalled k text due = inr due
+due_parts o bytes left Spent k text due = inr due
+due_parts o bytes left ReadFault k text due = inr due
+due_parts o bytes left WriteFault k text due = inr due
+due_parts o bytes left (BadScenario line rule) k text due = inr due
+due_parts o bytes left NoMemory k text due = inr due
+due_parts o bytes left Usage k text due = inr due
+due_parts o bytes left TooLong kept.Nothing text due = inl (due.0, due.1)
+due_parts o bytes left TooLong (kept.Journal j) text due = inr due
+due_parts o bytes left (Checked how) k text due = inr due
+due_parts o bytes left (NotLegal at point) k text due = inr due
+due_parts o bytes left (BadJournal line) k text due = inr due
 
-complete_by : (o : Options) (bytes left : Option (List ℕ)) (status : RunStatus) (k : Kept) (text told : List ℕ) → IsTold o bytes told → IsDueBy o bytes left status k text → ComesOut (scenario told) status
-complete_by o bytes left Done k text told is due = by_answer o bytes left Done k text told is due
-complete_by o bytes left Stalled k text told is due = by_answer o bytes left Stalled k text told is due
-complete_by o bytes left Spent k text told is due = by_answer o bytes left Spent k text told is due
-complete_by o bytes left ReadFault k text told is due = absurd due.2
-complete_by o bytes left WriteFault k text told is due = absurd due.2
-complete_by o bytes left (BadScenario line rule) k text told is due = by_answer o bytes left (BadScenario line rule) k text told is due
-complete_by o bytes left NoMemory k text told is due = absurd due.2
-complete_by o bytes left Usage k text told is due = absurd due.2
-complete_by o bytes left TooLong kept.Nothing text told is due = absurd (not_too_long o.mode o.seed bytes told is due.0 due.1)
-complete_by o bytes left TooLong (kept.Journal j) text told is due = absurd due.2
+complete_by : (o : Options) (bytes left : Option (List ℕ)) (status : RunStatus) (k : Kept) (text told : List ℕ) → IsTold o bytes told → IsDueBy o bytes left status k text → ComesOutIn o.mode told status
+complete_by o bytes left status k text told is due =
+    elim (due_parts o bytes left status k text due) [
+      | inl long ↦ absurd (not_too_long o.mode o.seed bytes told is long.0 long.1)
+      | inr h ↦ subst (λ (bs : List ℕ). ComesOutIn o.mode bs status) (same_text o.mode o.seed bytes left h.0 told is h.1) (comes_out o.mode o h.0 status k text h.2)
+    ]
+
+legal_by : (o : Options) (bytes left : Option (List ℕ)) (status : RunStatus) (k : Kept) (text told : List ℕ) (ds : List Decl) (j : List Entry) → o.mode ≡ Check → IsTold o bytes told → HasLegalJournal told ds j → IsDueBy o bytes left status k text
+    → IsLegalAt (settled_of (flat (erase j)) (steps_in j) o.steps) status
+legal_by o bytes left status k text told ds j checks is has due =
+    elim (due_parts o bytes left status k text due) [
+      | inl long ↦ absurd (not_too_long o.mode o.seed bytes told is long.0 long.1)
+      | inr h ↦
+          let answer : IsCheckAnswer o.steps h.0 status k text = subst (λ (m : Mode). IsAnswerIn m o h.0 status k text) checks h.2 in
+          let here : HasLegalJournal h.0 ds j = subst (λ (bs : List ℕ). HasLegalJournal bs ds j) (sym (same_text o.mode o.seed bytes left h.0 told is h.1)) has in
+          legal_answer o.steps h.0 status k text ds j here answer
+    ]
 
 -- ---- what is due by words
 
@@ -140,8 +241,11 @@ by_words words o bytes left ReadFault k text taken due = (o, taken, due)
 by_words words o bytes left WriteFault k text taken due = (o, taken, due)
 by_words words o bytes left (BadScenario line rule) k text taken due = (o, taken, due)
 by_words words o bytes left NoMemory k text taken due = (o, taken, due)
-by_words words o bytes left Usage k text taken due = absurd due.2
+by_words words o bytes left Usage k text taken due = absurd (never_usage o.mode o due.0 k text due.2)
 by_words words o bytes left TooLong k text taken due = (o, taken, due)
+by_words words o bytes left (Checked how) k text taken due = (o, taken, due)
+by_words words o bytes left (NotLegal at point) k text taken due = (o, taken, due)
+by_words words o bytes left (BadJournal line) k text taken due = (o, taken, due)
 
 taken_or_not : (words : List (List ℕ)) (o : Options) (P : Type 0) → options words ≡ None → options words ≡ Some o → P
 taken_or_not words o P none some = none_is_some (sym none ∙ some)
@@ -160,41 +264,62 @@ refused_so words bytes left (BadScenario line rule) k text none due = taken_or_n
 refused_so words bytes left NoMemory k text none due = tt
 refused_so words bytes left Usage k text none due = tt
 refused_so words bytes left TooLong k text none due = taken_or_not words due.0 _ none due.1
+refused_so words bytes left (Checked how) k text none due = taken_or_not words due.0 _ none due.1
+refused_so words bytes left (NotLegal at point) k text none due = taken_or_not words due.0 _ none due.1
+refused_so words bytes left (BadJournal line) k text none due = taken_or_not words due.0 _ none due.1
 
-by_options : (words : List (List ℕ)) (o : Options) (bytes left : Option (List ℕ)) (status : RunStatus) (k : Kept) (text told : List ℕ) → options words ≡ Some o → IsTold o bytes told → (p : Options) × (options words ≡ Some p) × IsDueBy p bytes left status k text → ComesOut (scenario told) status
-by_options words o bytes left status k text told taken is due =
-    complete_by o bytes left status k text told is (subst (λ (p : Options). IsDueBy p bytes left status k text) (same_Some due.0 o (sym due.1 ∙ taken)) due.2)
+-- the words weren't taken, or it is due by what they ask for
+words_parts : (words : List (List ℕ)) (bytes left : Option (List ℕ)) (status : RunStatus) (k : Kept) (text : List ℕ) → IsDue words bytes left status k text
+    → (options words ≡ None) ⊎ ((o : Options) × (options words ≡ Some o) × IsDueBy o bytes left status k text)
+words_parts words bytes left Done k text due = inr due
+words_parts words bytes left Stalled k text due = inr due
+words_parts words bytes left Spent k text due = inr due
+words_parts words bytes left ReadFault k text due = inr due
+words_parts words bytes left WriteFault k text due = inr due
+words_parts words bytes left (BadScenario line rule) k text due = inr due
+words_parts words bytes left NoMemory k text due = inr due
+words_parts words bytes left Usage kept.Nothing text due = inl due.0
+words_parts words bytes left Usage (kept.Journal j) text due = inr due
+words_parts words bytes left TooLong k text due = inr due
+words_parts words bytes left (Checked how) k text due = inr due
+words_parts words bytes left (NotLegal at point) k text due = inr due
+words_parts words bytes left (BadJournal line) k text due = inr due
 
-complete_so : (words : List (List ℕ)) (o : Options) (bytes left : Option (List ℕ)) (status : RunStatus) (k : Kept) (text told : List ℕ) → options words ≡ Some o → IsTold o bytes told → IsDue words bytes left status k text → ComesOut (scenario told) status
-complete_so words o bytes left Done k text told taken is due = by_options words o bytes left Done k text told taken is due
-complete_so words o bytes left Stalled k text told taken is due = by_options words o bytes left Stalled k text told taken is due
-complete_so words o bytes left Spent k text told taken is due = by_options words o bytes left Spent k text told taken is due
-complete_so words o bytes left ReadFault k text told taken is due = by_options words o bytes left ReadFault k text told taken is due
-complete_so words o bytes left WriteFault k text told taken is due = by_options words o bytes left WriteFault k text told taken is due
-complete_so words o bytes left (BadScenario line rule) k text told taken is due = by_options words o bytes left (BadScenario line rule) k text told taken is due
-complete_so words o bytes left NoMemory k text told taken is due = by_options words o bytes left NoMemory k text told taken is due
-complete_so words o bytes left Usage kept.Nothing text told taken is due = taken_or_not words o _ due.0 taken
-complete_so words o bytes left Usage (kept.Journal j) text told taken is due = by_options words o bytes left Usage (kept.Journal j) text told taken is due
-complete_so words o bytes left TooLong k text told taken is due = by_options words o bytes left TooLong k text told taken is due
+-- by the options that the words are known to ask for
+due_by_these : (words : List (List ℕ)) (o : Options) (bytes left : Option (List ℕ)) (status : RunStatus) (k : Kept) (text : List ℕ) → options words ≡ Some o → IsDue words bytes left status k text → IsDueBy o bytes left status k text
+due_by_these words o bytes left status k text taken due =
+    elim (words_parts words bytes left status k text due) [
+      | inl none ↦ taken_or_not words o _ none taken
+      | inr h ↦ subst (λ (p : Options). IsDueBy p bytes left status k text) (same_Some h.0 o (sym h.1 ∙ taken)) h.2
+    ]
 
-or_no_memory : (read : Result (List Decl) ScenarioFault) (status : RunStatus) → ComesOut read status → ComesOutOrNoMemory read status
-or_no_memory read Done out = out
-or_no_memory read Stalled out = out
-or_no_memory read Spent out = out
-or_no_memory read ReadFault out = out
-or_no_memory read WriteFault out = out
-or_no_memory read (BadScenario line rule) out = out
-or_no_memory read NoMemory out = tt
-or_no_memory read Usage out = out
-or_no_memory read TooLong out = out
+or_no_memory : (mode : Mode) (bs : List ℕ) (status : RunStatus) → ComesOutIn mode bs status → ComesOutOrNoMemory mode bs status
+or_no_memory mode bs Done out = out
+or_no_memory mode bs Stalled out = out
+or_no_memory mode bs Spent out = out
+or_no_memory mode bs ReadFault out = out
+or_no_memory mode bs WriteFault out = out
+or_no_memory mode bs (BadScenario line rule) out = out
+or_no_memory mode bs NoMemory out = tt
+or_no_memory mode bs Usage out = out
+or_no_memory mode bs TooLong out = out
+or_no_memory mode bs (Checked how) out = out
+or_no_memory mode bs (NotLegal at point) out = out
+or_no_memory mode bs (BadJournal line) out = out
 
 -- what is due where no end fails
-pub completes : (words : List (List ℕ)) (o : Options) (bytes left : Option (List ℕ)) (status : RunStatus) (k : Kept) (text told : List ℕ) → options words ≡ Some o → IsTold o bytes told → IsDue words bytes left status k text → ComesOutOrNoMemory (scenario told) status
-completes words o bytes left status k text told taken is due = or_no_memory (scenario told) status (complete_so words o bytes left status k text told taken is due)
+pub completes : (words : List (List ℕ)) (o : Options) (bytes left : Option (List ℕ)) (status : RunStatus) (k : Kept) (text told : List ℕ) → options words ≡ Some o → IsTold o bytes told → IsDue words bytes left status k text → ComesOutOrNoMemory o.mode told status
+completes words o bytes left status k text told taken is due = or_no_memory o.mode told status (complete_by o bytes left status k text told is (due_by_these words o bytes left status k text taken due))
+
+pub legal_so : (words : List (List ℕ)) (o : Options) (bytes left : Option (List ℕ)) (status : RunStatus) (k : Kept) (text told : List ℕ) (ds : List Decl) (j : List Entry) → options words ≡ Some o → o.mode ≡ Check → IsTold o bytes told → HasLegalJournal told ds j
+    → IsDue words bytes left status k text → IsLegalAt (settled_of (flat (erase j)) (steps_in j) o.steps) status
+legal_so words o bytes left status k text told ds j taken checks is has due =
+    legal_by o bytes left status k text told ds j checks is has (due_by_these words o bytes left status k text taken due)
 
 faulty_in : (mode : Mode) (P : Type 0) → reads_in mode ≡ true → IsFaultlessIn mode P → P → ⊥
 faulty_in Run P reads faultless risen = faultless risen
 faulty_in Journal P reads faultless risen = faultless risen
+faulty_in Check P reads faultless risen = faultless risen
 faulty_in Gen P reads faultless risen = absurd cc
 
 -- a source that is read and fails is in the way

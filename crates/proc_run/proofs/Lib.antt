@@ -2,6 +2,5 @@ pub mod Texts
 pub mod Steps
 pub mod Trapped
 pub mod Choices
-pub mod Counting
 pub mod Journeys
 pub mod Answered

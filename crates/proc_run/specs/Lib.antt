@@ -1,5 +1,4 @@
 pub mod Fitting
-pub mod Counts
 pub mod Running
 pub mod Texts
 pub mod Outcomes

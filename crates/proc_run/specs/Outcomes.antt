@@ -13,20 +13,22 @@ use Rattle.scenario_reader.specs.declared.fault.ScenarioFault.TheVariants as fau
 use Rattle.scenario_reader.specs.Scenarios.{scenario}
 use Rattle.run_journal.specs.declared.entries.Entry.{Entry}
 use Rattle.proc_run.specs.declared.outcome.RunStatus.{RunStatus}
-use Rattle.proc_run.specs.declared.outcome.RunStatus.TheVariants.{Done, Stalled, Spent, ReadFault, WriteFault, BadScenario, NoMemory, Usage, TooLong}
+use Rattle.proc_run.specs.declared.outcome.RunStatus.TheVariants.{Done, Stalled, Spent, ReadFault, WriteFault, BadScenario, NoMemory, Usage, TooLong, Checked, NotLegal, BadJournal}
 use Rattle.proc_run.specs.declared.outcome.Kept.{Kept}
 use Rattle.proc_run.specs.declared.outcome.Kept.TheVariants as kept
 use Rattle.run_journal.specs.Entries.{erase, steps_in}
 use Rattle.run_journal.specs.Points.{opening}
+use Rattle.check_mode.specs.Parts.{scenario_part, journal_part}
+use Rattle.check_mode.specs.Answers.{IsYesOn, IsNoOn, IsNoJournal}
 use Rattle.proc_run.specs.Fitting.{FitsInOrder}
 use Rattle.scenario_gen.specs.Generated.{text as generated}
 use Rattle.run_words.specs.declared.options.Mode.{Mode}
-use Rattle.run_words.specs.declared.options.Mode.TheVariants.{Run, Journal, Gen}
+use Rattle.run_words.specs.declared.options.Mode.TheVariants.{Run, Journal, Gen, Check}
 use Rattle.run_words.specs.declared.options.Options.{Options}
 use Rattle.run_words.specs.Options.{options}
 use Rattle.proc_run.specs.Texts.{text_of}
 
--- how many bytes a scenario may have
+-- how many bytes an input may have
 abbrev pub most_bytes : ℕ
 most_bytes = 4194304
 
@@ -49,6 +51,9 @@ exit_status (BadScenario line rule) = 5
 exit_status NoMemory = 6
 exit_status Usage = 7
 exit_status TooLong = 8
+exit_status (Checked settled) = 10
+exit_status (NotLegal at point) = 11
+exit_status (BadJournal line) = 12
 
 -- the bytes are a scenario with these declarations
 abbrev pub IsScenario : List ℕ → List Decl → Type 0
@@ -72,30 +77,53 @@ pub record IsRunOf (o : Options) (scenario_text : List ℕ) (how : Settled) (j :
   pub settled_so : how ≡ settled_of (flat (erase j)) (steps_in j) o.steps
   pub written : text ≡ text_of o j (flat (erase j)) how (steps_in j)
 
--- this status, what is kept and what is written are the answer to the text of a scenario
-abbrev pub IsAnswer : Options → List ℕ → RunStatus → Kept → List ℕ → Type 0
-IsAnswer o bs Done (kept.Journal j) text = IsRunOf o bs settled.Done j.entries text
-IsAnswer o bs Stalled (kept.Journal j) text = IsRunOf o bs settled.Stalled j.entries text
-IsAnswer o bs Spent (kept.Journal j) text = IsRunOf o bs settled.Spent j.entries text
-IsAnswer o bs (BadScenario line rule) kept.Nothing text = HasFault bs line rule × (text ≡ fault_line line rule)
-IsAnswer o bs status k text = ⊥
+-- this status, what is kept and what is written are the answer to the text of a scenario that is run
+abbrev pub IsRunAnswer : Options → List ℕ → RunStatus → Kept → List ℕ → Type 0
+IsRunAnswer o bs Done (kept.Journal j) text = IsRunOf o bs settled.Done j.entries text
+IsRunAnswer o bs Stalled (kept.Journal j) text = IsRunOf o bs settled.Stalled j.entries text
+IsRunAnswer o bs Spent (kept.Journal j) text = IsRunOf o bs settled.Spent j.entries text
+IsRunAnswer o bs (BadScenario line rule) kept.Nothing text = HasFault bs line rule × (text ≡ fault_line line rule)
+IsRunAnswer o bs status k text = ⊥
 
--- is the scenario read from the source?
+-- the part of the input up to its line end is a scenario, and of its declarations and what stands behind it that is so
+abbrev pub IsFoundIn : List ℕ → (List Decl → List ℕ → Type 0) → Type 0
+IsFoundIn bs P = (ds : List Decl) × IsScenario (scenario_part bs) ds × P ds (journal_part bs)
+
+-- they are the answer to a scenario with a journal behind it, which is checked, at a limit of steps
+abbrev pub IsCheckAnswer : ℕ → List ℕ → RunStatus → Kept → List ℕ → Type 0
+IsCheckAnswer limit bs (Checked how) (kept.Journal j) text = IsFoundIn bs (λ ds behind. IsYesOn ds behind limit how j.entries text)
+IsCheckAnswer limit bs (NotLegal at point) (kept.Journal j) text = IsFoundIn bs (λ ds behind. IsNoOn ds behind at point j.entries text)
+IsCheckAnswer limit bs (BadJournal line) kept.Nothing text = IsFoundIn bs (λ ds behind. IsNoJournal behind line text)
+IsCheckAnswer limit bs (BadScenario line rule) kept.Nothing text = HasFault (scenario_part bs) line rule × (text ≡ fault_line line rule)
+IsCheckAnswer limit bs status k text = ⊥
+
+-- they are the answer to an input, by the mode
+abbrev pub IsAnswerIn : Mode → Options → List ℕ → RunStatus → Kept → List ℕ → Type 0
+IsAnswerIn Run o bs status k text = IsRunAnswer o bs status k text
+IsAnswerIn Journal o bs status k text = IsRunAnswer o bs status k text
+IsAnswerIn Gen o bs status k text = IsRunAnswer o bs status k text
+IsAnswerIn Check o bs status k text = IsCheckAnswer o.steps bs status k text
+
+abbrev pub IsAnswer : Options → List ℕ → RunStatus → Kept → List ℕ → Type 0
+IsAnswer o bs status k text = IsAnswerIn o.mode o bs status k text
+
+-- is the input read from the source?
 abbrev pub reads_in : Mode → Bool
 reads_in Run = true
 reads_in Journal = true
 reads_in Gen = false
+reads_in Check = true
 
 -- do the words ask to read the source?
 abbrev pub reads_source : Option Options → Bool
 reads_source None = false
 reads_source (Some o) = reads_in o.mode
 
--- where the scenario's text comes from: the source, which it empties and had no more bytes than a scenario may have; or
--- the seed
+-- where the input comes from: the source, which it empties and had no more bytes than an input may have; or the seed
 abbrev pub ComesFrom : Mode → ℕ → Option (List ℕ) → Option (List ℕ) → List ℕ → Type 0
 ComesFrom Run seed bytes left bs = IfSome bytes (λ told. bs ≡ told) × IsAtEnd left × (length bs ≤ most_bytes)
 ComesFrom Journal seed bytes left bs = IfSome bytes (λ told. bs ≡ told) × IsAtEnd left × (length bs ≤ most_bytes)
+ComesFrom Check seed bytes left bs = IfSome bytes (λ told. bs ≡ told) × IsAtEnd left × (length bs ≤ most_bytes)
 ComesFrom Gen seed bytes left bs = Keeps bytes left × (bs ≡ generated seed)
 
 -- This text is due by these options with this status, and this is kept, where the source had these bytes and has those
@@ -110,10 +138,11 @@ abbrev pub IsDue : List (List ℕ) → Option (List ℕ) → Option (List ℕ) �
 IsDue words bytes left Usage kept.Nothing text = (options words ≡ None) × Keeps bytes left × (text ≡ usage_line)
 IsDue words bytes left status k text = (o : Options) × (options words ≡ Some o) × IsDueBy o bytes left status k text
 
--- the text of the scenario is told
+-- the input is told
 abbrev pub IsToldIn : Mode → ℕ → Option (List ℕ) → List ℕ → Type 0
 IsToldIn Run seed bytes text = (bytes ≡ Some text) × (length text ≤ most_bytes)
 IsToldIn Journal seed bytes text = (bytes ≡ Some text) × (length text ≤ most_bytes)
+IsToldIn Check seed bytes text = (bytes ≡ Some text) × (length text ≤ most_bytes)
 IsToldIn Gen seed bytes text = text ≡ generated seed
 
 abbrev pub IsTold : Options → Option (List ℕ) → List ℕ → Type 0
@@ -124,6 +153,7 @@ abbrev pub IsFaultlessIn : Mode → Type 0 → Type 0
 IsFaultlessIn Run risen = risen → ⊥
 IsFaultlessIn Journal risen = risen → ⊥
 IsFaultlessIn Gen risen = Unit {0}
+IsFaultlessIn Check risen = risen → ⊥
 
 abbrev pub IsFaultless : Options → Type 0 → Type 0
 IsFaultless o risen = IsFaultlessIn o.mode risen
@@ -172,10 +202,36 @@ ComesOut (Ok ds) status = IsRan status
 ComesOut (Err (faults.Bad line rule)) status = status ≡ BadScenario line rule
 ComesOut (Err faults.NoMemory) status = ⊥
 
+-- what stands behind the scenario was checked, or isn't a journal
+abbrev pub IsFound : RunStatus → Type 0
+IsFound (Checked how) = Unit {0}
+IsFound (NotLegal at point) = Unit {0}
+IsFound (BadJournal line) = Unit {0}
+IsFound _ = ⊥
+
+-- the same of a scenario with something behind it, which was checked
+abbrev pub ComesOutOfCheck : Result (List Decl) ScenarioFault → RunStatus → Type 0
+ComesOutOfCheck (Ok ds) status = IsFound status
+ComesOutOfCheck (Err (faults.Bad line rule)) status = status ≡ BadScenario line rule
+ComesOutOfCheck (Err faults.NoMemory) status = ⊥
+
+-- an input comes out by the mode
+abbrev pub ComesOutIn : Mode → List ℕ → RunStatus → Type 0
+ComesOutIn Run bs status = ComesOut (scenario bs) status
+ComesOutIn Journal bs status = ComesOut (scenario bs) status
+ComesOutIn Gen bs status = ComesOut (scenario bs) status
+ComesOutIn Check bs status = ComesOutOfCheck (scenario (scenario_part bs)) status
+
 -- the same, or memory ran out
-abbrev pub ComesOutOrNoMemory : Result (List Decl) ScenarioFault → RunStatus → Type 0
-ComesOutOrNoMemory read NoMemory = Unit {0}
-ComesOutOrNoMemory read status = ComesOut read status
+abbrev pub ComesOutOrNoMemory : Mode → List ℕ → RunStatus → Type 0
+ComesOutOrNoMemory mode bs NoMemory = Unit {0}
+ComesOutOrNoMemory mode bs status = ComesOutIn mode bs status
+
+-- a journal was found legal, and its run stands so; or memory ran out
+abbrev pub IsLegalAt : Settled → RunStatus → Type 0
+IsLegalAt how (Checked found) = found ≡ how
+IsLegalAt how NoMemory = Unit {0}
+IsLegalAt how _ = ⊥
 
 -- the words were refused, but where the line that says so couldn't be written or made
 abbrev pub IsRefusal : RunStatus → Type 0

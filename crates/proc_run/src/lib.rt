@@ -3,7 +3,6 @@
 
 mod machine;
 mod outcome;
-mod report;
 mod run;
 mod text;
 

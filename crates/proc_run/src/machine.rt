@@ -6,20 +6,25 @@ ghost use Rattle.std.specs.Io.KnownBytes.{Appends, Keeps};
 ghost use Rattle.byte_ports.specs.Faults.{HasRisen};
 ghost use Rattle.byte_ports.specs.Whole.{AppendsFront};
 ghost use Rattle.flat_state.specs.State.{nothing_declared};
-ghost use Rattle.flat_state.specs.Events.{AllFit};
-ghost use Rattle.scenario_reader.specs.Scenarios.{scenario};
+ghost use Rattle.flat_state.specs.declared.events.Decl.{Decl};
+ghost use Rattle.flat_state.specs.Events.{AllFit, flat};
+ghost use Rattle.flat_state.specs.Settling.{settled_of};
+ghost use Rattle.run_journal.specs.declared.entries.Entry.{Entry};
+ghost use Rattle.run_journal.specs.Entries.{erase, steps_in};
+ghost use Rattle.check_mode.specs.Answers.{IsChecked, HasLegalJournal};
 ghost use Rattle.run_words.specs.declared.options.Options.{Options};
 ghost use Rattle.run_words.specs.Options.{options};
 ghost use Rattle.proc_run.specs.declared.outcome.RunStatus.{RunStatus};
 ghost use Rattle.proc_run.specs.declared.outcome.Kept.TheVariants.{Nothing};
 ghost use Rattle.proc_run.specs.declared.machine.NoText.TheVariants as no_text;
-ghost use Rattle.proc_run.specs.Outcomes.{IsDue, IsDueBy, IsAnswer, IsScenario, IsTold, IsFaultless, reads_source, OnWritten, OnWriteFault, OnReadFault, OnNothingDue, UnlessReadFault, UnlessWriteFault, ComesOutOrNoMemory, IsRefusal, usage_line, too_long_line, fault_line};
+ghost use Rattle.proc_run.specs.Outcomes.{IsDue, IsDueBy, IsAnswer, IsRunAnswer, IsCheckAnswer, IsScenario, IsTold, IsFaultless, reads_source, OnWritten, OnWriteFault, OnReadFault, OnNothingDue, UnlessReadFault, UnlessWriteFault, ComesOutOrNoMemory, IsLegalAt, IsRefusal, usage_line, too_long_line, fault_line};
 ghost use Rattle.proc_run.specs.Dues.{OnFailed, UnlessFailed, status_of};
 
 use crate::outcome::{Kept, Outcome, RunStatus};
 use crate::run::{Finished, run};
 use crate::text::text;
 use byte_ports::{ReadError, Sink, Source, read_to_end, write_all};
+use check_mode::{Checked, answer};
 use flat_machine::{Decl, NoMemory, Settled};
 use run_words::{Mode, Options, Words, WordsFault};
 use scenario_gen::generate;
@@ -105,7 +110,8 @@ fn faulty(alloc: Global, number: u64, rule: u32) -> Result<DueText, AllocError>
 fn answered(alloc: Global, options: &Options, decls: &[Decl]) -> Result<DueText, NoMemory>
     requires some { 0 < length decls.now }
     requires fit { AllFit nothing_declared decls.now }
-    ensures { IfOk result (λ d. (bs : List ℕ) → IsScenario bs decls.now → IsAnswer options.now bs d.status d.kept d.text.items) }
+    requires runs { options.now.mode ≢ Mode.Check }
+    ensures { IfOk result (λ d. (bs : List ℕ) → IsScenario bs decls.now → IsRunAnswer options.now bs d.status d.kept d.text.items) }
 {
     let run = run(alloc, decls, u64::from(options.steps))?;
     let text = text(alloc, options, &run)?;
@@ -121,15 +127,71 @@ fn answered(alloc: Global, options: &Options, decls: &[Decl]) -> Result<DueText,
     })
 }
 
-// What is due for the bytes of a scenario, read to their end.
-fn due_for(alloc: Global, options: &Options, bytes: &[u8]) -> Result<DueText, NoText>
-    ensures due { IfOk result (λ d. IsAnswer options.now bytes.now d.status d.kept d.text.items) }
+// What is due for the run of a scenario whose bytes were read to their end.
+fn due_for_run(alloc: Global, options: &Options, bytes: &[u8]) -> Result<DueText, NoText>
+    requires { options.now.mode ≢ Mode.Check }
+    ensures due { IfOk result (λ d. IsRunAnswer options.now bytes.now d.status d.kept d.text.items) }
     ensures unfailed { OnFailed result ⊥ }
 {
     match read(alloc, bytes) {
         Ok(scenario) => Ok(answered(alloc, options, scenario.decls())?),
         Err(ScenarioFault::Bad { line, rule }) => Ok(faulty(alloc, line, rule)?),
         Err(ScenarioFault::NoMemory) => Err(NoText::NoMemory),
+    }
+}
+
+// What is due for what a check found.
+fn due_by_check(checked: Checked) -> DueText
+    ensures { (limit : ℕ) (bs : List ℕ) → IsChecked bs limit checked → IsCheckAnswer limit bs result.status result.kept result.text.items }
+{
+    match checked {
+        Checked::Yes {
+            settled,
+            journal,
+            text,
+        } => DueText {
+            status: RunStatus::Checked { settled },
+            kept: Kept::Journal(journal),
+            text,
+        },
+        Checked::No {
+            at,
+            point,
+            journal,
+            text,
+        } => DueText {
+            status: RunStatus::NotLegal { at, point },
+            kept: Kept::Journal(journal),
+            text,
+        },
+        Checked::BadJournal { line, text } => DueText {
+            status: RunStatus::BadJournal { line },
+            kept: Kept::Nothing,
+            text,
+        },
+    }
+}
+
+// What is due for the check of a scenario and a journal, whose bytes were read to their end.
+fn due_for_check(alloc: Global, options: &Options, bytes: &[u8]) -> Result<DueText, NoText>
+    ensures due { IfOk result (λ d. IsCheckAnswer options.now.steps bytes.now d.status d.kept d.text.items) }
+    ensures unfailed { OnFailed result ⊥ }
+{
+    match answer(alloc, bytes, u64::from(options.steps)) {
+        Ok(checked) => Ok(due_by_check(checked)),
+        Err(ScenarioFault::Bad { line, rule }) => Ok(faulty(alloc, line, rule)?),
+        Err(ScenarioFault::NoMemory) => Err(NoText::NoMemory),
+    }
+}
+
+// What is due for the bytes of an input, read to their end.
+fn due_for(alloc: Global, options: &Options, bytes: &[u8]) -> Result<DueText, NoText>
+    ensures due { IfOk result (λ d. IsAnswer options.now bytes.now d.status d.kept d.text.items) }
+    ensures unfailed { OnFailed result ⊥ }
+{
+    match options.mode {
+        Mode::Run | Mode::Journal | Mode::Gen => due_for_run(alloc, options, bytes),
+        Mode::Check => due_for_check(alloc, options, bytes),
     }
 }
 
@@ -156,7 +218,7 @@ fn due_by<S: Source>(alloc: Global, options: &Options, source: &mut S) -> Result
     ensures faultless { UnlessFailed result (S.faults source.new ≡ S.faults source.old) }
 {
     match options.mode {
-        Mode::Run | Mode::Journal => due_of(alloc, options, source),
+        Mode::Run | Mode::Journal | Mode::Check => due_of(alloc, options, source),
         Mode::Gen => due_for(alloc, options, &generate(alloc, options.seed)?),
     }
 }
@@ -177,8 +239,9 @@ fn due<S: Source>(alloc: Global, words: &Words, source: &mut S) -> Result<DueTex
 
 /// Reads a scenario from the source to its end, or makes it from the seed in mode gen, runs it on the machine with
 /// unlimited tables until all its threads have ended, none can go on, or it has taken the steps that the words allow,
-/// and writes the text of the mode to the sink. For a text that is no scenario it writes its first fault, and for words
-/// that aren't taken the usage line. All text is made before the first write.
+/// and writes the text of the mode to the sink. In mode check it reads a journal behind the scenario, and writes whether
+/// it is legal, with the report of what it leaves, or where it isn't. For a text that is no scenario it writes its first
+/// fault, and for words that aren't taken the usage line. All text is made before the first write.
 ///
 /// It costs the steps, each of them the logarithm of the rows, a pass over the threads for each entry of the journal,
 /// and memory for the scenario, the machine, one entry for every 256 steps and each thread call, and the text.
@@ -211,11 +274,18 @@ pub fn run_machine<S: Source, W: Sink>(
     // Words that aren't taken are refused.
     ensures refused { options words.now ≡ None → IsRefusal result.status }
 
-    // With words that are taken, a scenario runs to its end, and any other text that isn't too long is answered by its
-    // first fault, unless an end fails or memory runs out.
+    // With words that are taken, a scenario runs to its end, or what stands behind it is checked, and any other text that isn't
+    // too long is answered by its first fault, unless an end fails or memory runs out.
     ensures complete { (o : Options) → options words.now ≡ Some o → (text : List ℕ) → IsTold o (S.bytes_left source.old) text
         → IsFaultless o (HasRisen (S.faults source.old) (S.faults source.new))
-        → (HasRisen (W.faults sink.old) (W.faults sink.new) → ⊥) → ComesOutOrNoMemory (scenario text) result.status }
+        → (HasRisen (W.faults sink.old) (W.faults sink.new) → ⊥) → ComesOutOrNoMemory o.mode text result.status }
+
+    // In mode check a legal journal behind its scenario is found legal, and how its run stands, unless an end fails or memory
+    // runs out.
+    ensures legal { (o : Options) → options words.now ≡ Some o → o.mode ≡ Mode.Check → (text : List ℕ) → IsTold o (S.bytes_left source.old) text
+        → IsFaultless o (HasRisen (S.faults source.old) (S.faults source.new))
+        → (HasRisen (W.faults sink.old) (W.faults sink.new) → ⊥) → (ds : List Decl) (j : List Entry) → HasLegalJournal text ds j
+        → IsLegalAt (settled_of (flat (erase j)) (steps_in j) o.steps) result.status }
 {
     match due(alloc, words, source) {
         Err(NoText::ReadFault) => Outcome {

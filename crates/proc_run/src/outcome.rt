@@ -3,6 +3,7 @@
 ghost use Rattle.std.specs.Prelude.{◌≡◌};
 ghost use Rattle.proc_run.specs.Outcomes.{exit_status};
 
+use flat_machine::Settled;
 use run_journal::Journal;
 
 /// How the whole run came out.
@@ -27,6 +28,14 @@ pub enum RunStatus {
     Usage,
     /// More than 4,194,304 bytes came.
     TooLong,
+    /// In mode check: the journal is legal and begins as its scenario says. At the limit of steps its run stands so.
+    Checked { settled: Settled },
+    /// In mode check: that is the first place of the journal that breaks a rule, counted from 0, and the number of the first rule
+    /// that it breaks.
+    NotLegal { at: u64, point: u32 },
+    /// In mode check: what stands behind the scenario is no journal. This line of it, counted from 1, is the first that isn't an
+    /// entry's.
+    BadJournal { line: u64 },
 }
 
 impl RunStatus {
@@ -44,6 +53,9 @@ impl RunStatus {
             RunStatus::NoMemory => 6,
             RunStatus::Usage => 7,
             RunStatus::TooLong => 8,
+            RunStatus::Checked { .. } => 10,
+            RunStatus::NotLegal { .. } => 11,
+            RunStatus::BadJournal { .. } => 12,
         }
     }
 }
@@ -55,8 +67,8 @@ pub enum Kept {
     Journal(Journal),
 }
 
-/// How a run came out, and what is kept of it: for `Done`, `Stalled` and `Spent`, and for a `WriteFault` in place of
-/// them, the journal.
+/// How a run came out, and what is kept of it: the journal that was made, for `Done`, `Stalled` and `Spent`, or that was read, for
+/// `Checked` and `NotLegal`; and for a `WriteFault` in place of one of them.
 #[derive(Drop)]
 pub struct Outcome {
     pub status: RunStatus,

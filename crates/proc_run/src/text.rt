@@ -4,10 +4,10 @@ ghost use Rattle.std.specs.Prelude.{◌≡◌, ◌≢◌, ◌+◌, ◌++◌, IfO
 ghost use Rattle.flat_state.specs.declared.records.Settled.TheVariants.{Running};
 ghost use Rattle.proc_run.specs.Texts.{output_bytes, summary_of, text_of};
 
-use crate::report::report;
 use crate::run::Finished;
 use cache_ident::ThreadNo;
 use flat_machine::{Flat, FlatThread, NoMemory};
+use flat_report::report;
 use journal_text::print;
 use report_text::summary;
 use run_words::{Mode, Options};
@@ -47,7 +47,8 @@ fn summary_of(alloc: Global, seed: u32, run: &Finished) -> Result<Vec<u8>, NoMem
 
 /// The text that a run is answered with: its report, behind its journal in that mode; or its summary.
 pub fn text(alloc: Global, options: &Options, run: &Finished) -> Result<Vec<u8>, NoMemory>
-    requires { run.now.settled ≢ Running }
+    requires over { run.now.settled ≢ Running }
+    requires runs { options.now.mode ≢ Mode.Check }
     ensures { IfOk result (λ text. text.items ≡ text_of options.now run.now.journal.entries run.now.flat run.now.settled run.now.steps) }
 {
     match options.mode {
@@ -59,5 +60,6 @@ pub fn text(alloc: Global, options: &Options, run: &Finished) -> Result<Vec<u8>,
             Ok(text)
         }
         Mode::Gen => summary_of(alloc, options.seed, run),
+        Mode::Check => unreachable!(),
     }
 }

@@ -8,7 +8,7 @@ use Rattle.clap.specs.ValueTests.{is_unsigned_in}
 use Rattle.clap.specs.declared.error.kind.ErrorKind.{ErrorKind}
 use Rattle.clap.specs.declared.error.kind.ErrorKind.TheVariants.{OutOfMemory}
 use Rattle.run_words.specs.declared.options.Mode.{Mode}
-use Rattle.run_words.specs.declared.options.Mode.TheVariants.{Run, Journal, Gen}
+use Rattle.run_words.specs.declared.options.Mode.TheVariants.{Run, Journal, Gen, Check}
 use Rattle.run_words.specs.declared.options.Options.{Options}
 use Rattle.run_words.specs.declared.options.WordsFault.{WordsFault}
 use Rattle.run_words.specs.declared.options.WordsFault.TheVariants.{NoMemory, Refused}
@@ -16,7 +16,7 @@ use Rattle.run_words.specs.Command.{command}
 
 -- the mode of that name
 abbrev pub mode_named : Text → Option Mode
-mode_named name = if bytes_eq name (codes "run") then Some Run else (if bytes_eq name (codes "journal") then Some Journal else (if bytes_eq name (codes "gen") then Some Gen else None))
+mode_named name = if bytes_eq name (codes "run") then Some Run else (if bytes_eq name (codes "journal") then Some Journal else (if bytes_eq name (codes "gen") then Some Gen else (if bytes_eq name (codes "check") then Some Check else None)))
 
 abbrev pub mode_in : List Row → Option Mode
 mode_in rows = option_and_then mode_named (first_of (codes "mode") rows)

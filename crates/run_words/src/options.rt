@@ -15,6 +15,8 @@ pub enum Mode {
     Journal,
     /// The summary of the run of the scenario that is made from the seed.
     Gen,
+    /// What the check of a journal finds, which stands behind its scenario.
+    Check,
 }
 
 impl Mode {
@@ -25,6 +27,7 @@ impl Mode {
             "run" => Some(Mode::Run),
             "journal" => Some(Mode::Journal),
             "gen" => Some(Mode::Gen),
+            "check" => Some(Mode::Check),
             _ => None,
         }
     }
@@ -36,7 +39,7 @@ pub struct Options {
     pub mode: Mode,
     /// How many processors, 1 to 8.
     pub cpus: u32,
-    /// How many steps the run may take, 1 to 1,000,000.
+    /// How many steps the run may take, 1 to 1,000,000; in mode check, at how many steps it is over.
     pub steps: u32,
     /// What the scenario of mode gen is made from.
     pub seed: u32,

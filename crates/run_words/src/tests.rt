@@ -15,6 +15,12 @@ fn words_that_are_read(rt: HostRuntime) -> Result<(), Fail> {
         (options.cpus, options.steps, options.seed, options.frames),
         (1, 10, 7, 64)
     );
+    let mut words = Words::new(rt.alloc());
+    words.push("--mode=check")?;
+    let Ok(options) = read(rt.alloc(), &words) else {
+        return Err(Fail::from("the words are taken"));
+    };
+    assert!(rt; matches!(options.mode, Mode::Check));
     Ok(())
 }
 

@@ -2,7 +2,7 @@ use Rattle.std.proofs.Common.{ℕ, sym, subst}
 use Rattle.proc_run.specs.declared.outcome.RunStatus.{RunStatus}
 use Rattle.proc_run.specs.declared.outcome.Kept.TheVariants as kept
 use Rattle.proc_run.specs.Running.{IsRun}
-use Rattle.proc_run.specs.Outcomes.{IsAnswer}
+use Rattle.proc_run.specs.Outcomes.{IsRunAnswer}
 use Rattle.proc_run.proofs.Answered.{run_is_answer}
 use Rattle.proc_run.proofs.machine.answered.Goals as goal
 
@@ -10,5 +10,5 @@ pub returns : goal.returns
 returns c bs is_scenario =
     let f = c.in_ok-run.run' in
     let ran = subst (λ (limit : ℕ). IsRun c.args.decls.now f.journal.entries f.flat f.settled f.steps limit) c.from.ensures c.in_ok-run.ensures in
-    subst (λ (status : RunStatus). IsAnswer c.args.options.now bs status (kept.Journal f.journal) c.in_ok-text.text.items) (sym c.status_of.ensures)
+    subst (λ (status : RunStatus). IsRunAnswer c.args.options.now bs status (kept.Journal f.journal) c.in_ok-text.text.items) (sym c.status_of.ensures)
     (run_is_answer c.args.options.now c.args.decls.now bs f.journal f.flat f.settled f.steps c.in_ok-text.text.items ran c.in_ok-text.ensures is_scenario)

@@ -1,7 +1,8 @@
 use Rattle.std.proofs.Common.{◌≡◌, ◌∙◌, ◌≤◌, Some, length, arith, sym}
 use Rattle.std.specs.List.{slice_get}
 use Rattle.std.proofs.lemmas.Option.{slice_get_within, get_or_from_slice_get}
-use Rattle.proc_run.proofs.Texts.{outputs_more, none_is_past}
+use Rattle.flat_report.proofs.Texts.{none_is_past}
+use Rattle.proc_run.proofs.Texts.{outputs_more}
 use Rattle.proc_run.proofs.text.output_bytes.Goals as goal
 use Rattle.proc_run.proofs.text.output_bytes.Goals.{in-Some+in_ok-bytes, in_default}
 

@@ -1,11 +1,11 @@
 use Rattle.std.proofs.Common.{[], ◌∷◌, ◌++◌, Contains, refl, sym, subst}
+use Rattle.run_journal.specs.Legal.{AreGood}
 use Rattle.cache_ident.specs.declared.idents.Cause.TheVariants.{Dependent}
 use Rattle.cache_ident.specs.Residents.{without}
 use Rattle.flat_state.specs.State.{FlatState}
 use Rattle.residents.specs.Tables.{resident_of}
 use Rattle.run_journal.specs.declared.entries.Entry.TheVariants.{WrittenBack}
 use Rattle.run_journal.specs.Told.{told_after}
-use Rattle.journal_laws.specs.Staying.{AreGood}
 use Rattle.journal_groups.specs.Leaving.{IsLeaving}
 use Rattle.journal_facts.proofs.Standing.{stand_on}
 use Rattle.journal_facts.proofs.Departing.{held_there}

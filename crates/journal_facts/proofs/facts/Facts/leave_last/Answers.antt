@@ -1,4 +1,5 @@
 use Rattle.std.proofs.Common.{ℕ, [], ◌∷◌, ◌++◌, ◌↔◌, Contains, IsTrue, refl, sym, subst}
+use Rattle.run_journal.specs.Legal.{AreGood}
 use Rattle.cache_ident.specs.declared.idents.Cause.TheVariants.{Displaced, Unloaded}
 use Rattle.cache_ident.specs.Residents.{without}
 use Rattle.flat_state.specs.State.{FlatState}
@@ -8,7 +9,6 @@ use Rattle.residents.specs.Tables.{AreThose, resident_of}
 use Rattle.run_journal.specs.declared.entries.Entry.TheVariants.{WrittenBack}
 use Rattle.run_journal.specs.Groups.{IsGroup}
 use Rattle.run_journal.specs.Told.{told_after}
-use Rattle.journal_laws.specs.Staying.{AreGood}
 use Rattle.journal_groups.specs.Leaving.{IsLeaving}
 use Rattle.journal_facts.specs.Facts.{AreFactsBehind}
 use Rattle.journal_facts.proofs.Standing.{decided, stand_on}

@@ -4,8 +4,7 @@ use Rattle.flat_state.specs.declared.events.Event.TheVariants.{Complete}
 use Rattle.flat_state.specs.State.{FlatState}
 use Rattle.run_journal.specs.declared.entries.Entry.TheVariants.{Completed}
 use Rattle.run_journal.specs.Told.{told_after}
-use Rattle.run_journal.specs.Legal.{MayComplete}
-use Rattle.journal_laws.specs.Staying.{AreGood}
+use Rattle.run_journal.specs.Legal.{MayComplete, AreGood}
 use Rattle.journal_rules.specs.Running.{LeavesGood}
 use Rattle.journal_tables.proofs.Staying.{of_completed}
 use Rattle.journal_facts.specs.Facts.{AreFactsOf}

@@ -1,0 +1,11 @@
+//! What mode check answers: a scenario and a printed journal are read, the journal is checked, and the text that is due is made.
+#![tactic(auto)]
+
+mod answers;
+mod parts;
+mod texts;
+
+pub use answers::{Checked, answer};
+
+#[cfg(test)]
+mod tests;

@@ -1,0 +1,3 @@
+pub mod AtPlaces
+pub mod SameDeclarations
+pub mod Prefixes
