@@ -1,6 +1,5 @@
 -- What an answer says of its input.
-use Rattle.std.proofs.Common.{◌≡◌, ℕ, List, ◌++◌, Ok, Err, Result, refl, sym, ap, ◌∙◌, subst, ◌⊎◌, inl, inr}
-use Rattle.std.specs.Prelude.{MatchResult}
+use Rattle.std.proofs.Common.{◌≡◌, ℕ, List, ◌++◌, Ok, Err, Result, sym, ap, ◌∙◌, subst, ◌⊎◌, inl, inr}
 use Rattle.flat_state.specs.declared.events.Decl.{Decl}
 use Rattle.flat_state.specs.declared.records.Settled.{Settled}
 use Rattle.flat_state.specs.Events.{flat}
@@ -13,12 +12,9 @@ use Rattle.run_journal.specs.Entries.{erase, steps_in}
 use Rattle.run_journal.specs.Legal.{IsLegal}
 use Rattle.run_journal.specs.Points.{opening}
 use Rattle.run_journal.proofs.PointLaws.{legal_keeps}
-use Rattle.journal_text.specs.declared.fault.JournalFault.{JournalFault}
 use Rattle.journal_text.specs.declared.fault.JournalFault.TheVariants as journal_faults
-use Rattle.journal_text.specs.Lines.{journal_text}
-use Rattle.journal_text.specs.Ranges.{AreInRange}
 use Rattle.check_mode.specs.Parts.{scenario_part, journal_part}
-use Rattle.check_mode.specs.Answers.{IsJournal, IsYesOn, IsNoOn, IsNoJournal, IsFaultOf, HasLegalJournal}
+use Rattle.check_mode.specs.Answers.{IsYesOn, IsNoOn, IsNoJournal, IsFaultOf, HasLegalJournal}
 
 -- a reading that failed at a line is no journal's
 pub line_is_no_memory : {P : Type 0} (line : ℕ) → journal_faults.Line line ≡ journal_faults.NoMemory → P

@@ -1,6 +1,6 @@
 //! The answer to an input.
 
-ghost use Rattle.std.specs.Prelude.{◌≡◌, List, ℕ, IfOk, IfErr};
+ghost use Rattle.std.specs.Prelude.{List, ℕ, IfOk, IfErr};
 ghost use Rattle.check_mode.specs.Answers.{IsCheckedOn, IsChecked, IsFaultOf, IsJournal};
 
 use crate::parts::parts;
@@ -29,7 +29,10 @@ pub enum Checked {
         text: Vec<u8>,
     },
     /// What stands behind the scenario is no journal. This line of it, counted from 1, is the first that isn't an entry's.
-    BadJournal { line: u64, text: Vec<u8> },
+    BadJournal {
+        line: u64,
+        text: Vec<u8>,
+    },
 }
 
 // What is answered to a journal that was read.

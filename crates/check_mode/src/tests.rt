@@ -28,7 +28,8 @@ fn answered(alloc: Global, more: &str) -> Result<(&'static str, Vec<u8>), Fail> 
 
 #[test]
 fn journals_and_their_answers(rt: HostRuntime) -> Result<(), Fail> {
-    let report: &[u8] = b"journal yes\nstatus done\nsteps 1\nspace 0 rows 0 referenced 0 modified 0\n\
+    let report: &[u8] =
+        b"journal yes\nstatus done\nsteps 1\nspace 0 rows 0 referenced 0 modified 0\n\
 thread 0 fault page fetch 0x00004000 out 0\n";
     let cases: [(&str, &str, &[u8]); 4] = [
         (

@@ -1,7 +1,6 @@
 //! The texts that are due.
 
-ghost use Rattle.std.specs.Prelude.{◌≡◌, ◌+◌, IfOk, count_by};
-ghost use Rattle.std.specs.String.{string_bytes};
+ghost use Rattle.std.specs.Prelude.{◌≡◌, IfOk, count_by};
 ghost use Rattle.run_journal.specs.Entries.{events_of, is_step, steps_in};
 ghost use Rattle.check_mode.specs.Texts.{yes_text, no_line, fault_line};
 

@@ -1,5 +1,5 @@
 -- A journal place by place: what is told before each, and what is found of the places so far.
-use Rattle.std.proofs.Common.{◌≡◌, ℕ, zero, suc, ◌+◌, ◌<◌, ◌≤◌, List, [], ◌∷◌, ◌++◌, length, take, Option, Some, None, slice_get, refl, ap, sym, ◌∙◌, subst, inl, inr, ◌⊎◌, arith}
+use Rattle.std.proofs.Common.{◌≡◌, ℕ, zero, suc, ◌+◌, ◌<◌, ◌≤◌, List, [], ◌∷◌, ◌++◌, length, take, Some, None, slice_get, refl, ap, sym, ◌∙◌, subst, inl, inr, arith}
 use Rattle.std.proofs.lemmas.Bool.{cases_lt}
 use Rattle.std.proofs.lemmas.List.{take_all}
 use Rattle.std.proofs.lemmas.Option.{same_Some, slice_get_past, slice_get_cases}
@@ -9,7 +9,7 @@ use Rattle.flat_state.specs.Events.{flat}
 use Rattle.run_journal.specs.declared.entries.Entry.{Entry}
 use Rattle.run_journal.specs.Entries.{erase}
 use Rattle.run_journal.specs.Legal.{IsLegal}
-use Rattle.run_journal.specs.Told.{Told, nothing_told, told, told_after}
+use Rattle.run_journal.specs.Told.{nothing_told, told, told_after}
 use Rattle.run_journal.specs.Points.{Rule, Keeps, KeepsAll, IsFirstBroken, opening, place_in}
 use Rattle.run_journal.proofs.Growth.{told_from-append}
 use Rattle.run_journal.proofs.LegalGrowth.{state_told}

@@ -1,7 +1,6 @@
 -- Declarations that compare as equal are one.
 use Rattle.std.proofs.Common.{◌≡◌, Bool, true, false, Option, Some, None, refl, sym, ap, ◌∙◌, arith}
 use Rattle.std.specs.Prelude.{IsTrue, ◌↔◌, ◌&&◌, nat_eq}
-use Rattle.std.proofs.lemmas.Bool.{and_parts}
 use Rattle.std.proofs.lemmas.Bool.Decides.{nat_tests}
 use Rattle.cache_ident.specs.declared.names.Frame.{Frame}
 use Rattle.cache_ident.specs.declared.names.SpaceNo.{SpaceNo}
@@ -87,6 +86,6 @@ declared_is a b e = cc
 -- an entry is that declaration exactly where its own compares as equal to it
 pub declared_test : (a b : Decl) (here : Option Entry) (r : Bool) → here ≡ Some (Declared a) → r ≡ decl_eq a b → IsTrue r ↔ (here ≡ Some (Declared b))
 declared_test a b here r is test = (
-    (λ yes. is ∙ ap (λ (d : Decl). Some (Declared d)) (same_decl a b (sym test ∙ yes))),
-    (λ same. test ∙ ap (λ (d : Decl). decl_eq a d) (sym (declared_is a b (sym is ∙ same))) ∙ itself a),
-  )
+  (λ yes. is ∙ ap (λ (d : Decl). Some (Declared d)) (same_decl a b (sym test ∙ yes))),
+  (λ same. test ∙ ap (λ (d : Decl). decl_eq a d) (sym (declared_is a b (sym is ∙ same))) ∙ itself a),
+)

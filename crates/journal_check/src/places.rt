@@ -15,7 +15,9 @@ use run_journal::Entry;
 
 // The numbers of the rules that are asked of each entry. Between them stand those of one kind of entries.
 const BEGINNING: u32 = 0;
+
 const ORDER: u32 = 1;
+
 const PROCESSORS: u32 = 8;
 
 /// How many processors there are.

@@ -68,7 +68,14 @@ fn broken(alloc: Global, entries: &[Entry]) -> Result<Option<(u64, u32)>, Fail> 
 #[test]
 fn a_legal_journal_and_its_beginnings(rt: HostRuntime) -> Result<(), Fail> {
     let alloc = rt.alloc();
-    let all = [Entry::Sealed, kernel(), lock(), space(1, 0), thread(), ended()];
+    let all = [
+        Entry::Sealed,
+        kernel(),
+        lock(),
+        space(1, 0),
+        thread(),
+        ended(),
+    ];
     assert_eq!(rt; broken(alloc, &all)?, None);
     assert_eq!(rt; broken(alloc, &all[..3])?, None);
     // What is missing is charged to the place behind the last entry.
@@ -108,7 +115,11 @@ fn each_rule_is_broken(rt: HostRuntime) -> Result<(), Fail> {
         (&[seal, first, locked, space(1, 0), unlocked], 9, 4),
         (&[seal, first, locked, space(1, 0), thread(), ran], 10, 5),
         (&[seal, first, locked, space(1, 0), ended()], 9, 6),
-        (&[seal, first, locked, space(1, 0), thread(), completed], 10, 7),
+        (
+            &[seal, first, locked, space(1, 0), thread(), completed],
+            10,
+            7,
+        ),
         (&[seal, first, locked, space(1, 8)], 8, 8),
     ];
     for (entries, at, point) in cases {

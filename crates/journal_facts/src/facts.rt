@@ -1,6 +1,6 @@
 //! What the checker of a journal knows.
 
-ghost use Rattle.std.specs.Prelude.{◌≡◌, ◌↔◌, ℕ, ◌∷◌, ◌++◌, [], IfOk, IfSome, IsTrue, None, true, false};
+ghost use Rattle.std.specs.Prelude.{◌≡◌, ◌↔◌, ℕ, [], IfOk, IfSome, IsTrue, None, true, false};
 ghost use Rattle.std.specs.Bool.{MatchBool};
 ghost use Rattle.cache_ident.specs.declared.idents.Cause.TheVariants as causes;
 ghost use Rattle.cache_ident.specs.declared.names.Name.TheVariants as names;

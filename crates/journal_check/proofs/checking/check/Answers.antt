@@ -1,6 +1,4 @@
-use Rattle.std.proofs.Common.{List, subst}
 use Rattle.std.proofs.lemmas.Result.{IfOk-weaker}
-use Rattle.flat_state.specs.declared.events.Decl.{Decl}
 use Rattle.journal_check.proofs.Prefixes.{verdict_legal, legal_yes}
 use Rattle.journal_check.proofs.checking.check.Goals as goal
 

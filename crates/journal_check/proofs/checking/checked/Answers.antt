@@ -1,8 +1,6 @@
-use Rattle.std.proofs.Common.{◌≡◌, ℕ, ◌+◌, ◌<◌, ◌≤◌, List, Option, Some, None, length, take, slice_get, subst, sym, ap, ◌∙◌, arith}
-use Rattle.run_journal.specs.declared.entries.Entry.{Entry}
+use Rattle.std.proofs.Common.{◌≡◌, ℕ, length, take, subst, arith}
 use Rattle.run_journal.specs.Told.{told}
 use Rattle.journal_facts.specs.Facts.{AreFactsOf}
-use Rattle.journal_check.specs.Places.{place, AreFactsAfter, KeepsEach, BreaksFirst}
 use Rattle.journal_check.proofs.Prefixes.{KeepBefore, facts_next, facts_end, state_end, keep_more, first_broken, first_broken_at_end, keeps_all}
 use Rattle.journal_check.proofs.checking.checked.Goals as goal
 

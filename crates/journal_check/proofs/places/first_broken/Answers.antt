@@ -1,4 +1,3 @@
-use Rattle.std.proofs.Common.{sym, ◌∙◌}
 use Rattle.journal_check.proofs.AtPlaces.{refuted, breaks_beginning, breaks_order}
 use Rattle.journal_check.proofs.places.first_broken.Goals as goal
 

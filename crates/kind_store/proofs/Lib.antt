@@ -1,0 +1,10 @@
+pub mod CellLemmas
+pub mod ProperLemmas
+pub mod ContentLemmas
+pub mod SoundLemmas
+pub mod OnceLemmas
+pub mod OrderLemmas
+pub mod EnrolLemmas
+pub mod SeenLemmas
+pub mod EditLemmas
+pub mod MoveLemmas
