@@ -136,16 +136,6 @@ never_long Journal o bs k text answer = answer
 never_long Gen o bs k text answer = answer
 never_long Check o bs k text answer = answer
 
--- the answer of a run is that of its mode, and so is the answer of a check
-pub run_answer : (mode : Mode) (o : Options) (bs : List ℕ) (status : RunStatus) (k : Kept) (text : List ℕ) → mode ≢ Check → IsRunAnswer o bs status k text → IsAnswerIn mode o bs status k text
-run_answer Run o bs status k text other answer = answer
-run_answer Journal o bs status k text other answer = answer
-run_answer Gen o bs status k text other answer = answer
-run_answer Check o bs status k text other answer = absurd (other refl)
-
-pub check_answer : (mode : Mode) (o : Options) (bs : List ℕ) (status : RunStatus) (k : Kept) (text : List ℕ) → mode ≡ Check → IsCheckAnswer o.steps bs status k text → IsAnswerIn mode o bs status k text
-check_answer mode o bs status k text is answer = subst (λ (m : Mode). IsAnswerIn m o bs status k text) (sym is) answer
-
 -- ---- what is due by options
 
 pub by_text : (o : Options) (bytes left : Option (List ℕ)) (bs : List ℕ) (status : RunStatus) (k : Kept) (text : List ℕ) → ComesFrom o.mode o.seed bytes left bs → IsAnswer o bs status k text → IsDueBy o bytes left status k text
