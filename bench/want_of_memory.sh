@@ -1,7 +1,7 @@
 #!/usr/bin/env bash
 # Usage: bench/want_of_memory.sh
 # Lets each allocation of the proved program fail in turn: on a scenario of words, one of code and one of an executable, with
-# the journal, and on a large one that is made from a number. Each run ends with status 6 and writes nothing, or answers as
+# the journal, on a large one that is made from a number, and on one with a journal that is checked. Each run ends with status 6 and writes nothing, or answers as
 # the whole run; any other has a line, and so has how many there were. It wants cc, and the program that ./build leaves.
 # Ends with 1 where some run answered otherwise, or the program isn't built.
 set -u
@@ -64,4 +64,5 @@ refuse_memory code
 refuse_memory squares
 refuse_memory hello --mode journal
 refuse_memory hello --mode gen --steps 1
+refuse_memory checked --mode check
 exit "$failed"
