@@ -1,5 +1,5 @@
 -- How a run is answered, and what is due by words and by the bytes of a source.
-use Rattle.std.proofs.Common.{◌≡◌, ◌≢◌, ℕ, ◌<◌, ◌≤◌, true, List, length, Option, Some, None, Result, Err, refl, sym, ap, ap₂, ◌∙◌, subst, ◌⊎◌, inl, inr, arith}
+use Rattle.std.proofs.Common.{◌≡◌, ℕ, ◌<◌, ◌≤◌, true, List, length, Option, Some, None, Ok, Err, refl, sym, ap, ap₂, ◌∙◌, subst, ◌⊎◌, inl, inr, arith}
 use Rattle.std.specs.Prelude.{IfSome}
 use Rattle.std.specs.Io.KnownBytes.{IsAtEnd}
 use Rattle.std.proofs.lemmas.Option.{same_Some}
@@ -26,9 +26,10 @@ use Rattle.proc_run.specs.declared.outcome.RunStatus.TheVariants.{Done, Stalled,
 use Rattle.check_mode.specs.Answers.{HasLegalJournal}
 use Rattle.check_mode.specs.Parts.{scenario_part}
 use Rattle.check_mode.proofs.Answered.{yes_so, never_no, never_bad, never_faulty}
+use Rattle.seed_scenarios.proofs.Seeded.{is_scenario}
 use Rattle.proc_run.specs.Running.{IsRun}
 use Rattle.proc_run.specs.Texts.{text_of}
-use Rattle.proc_run.specs.Outcomes.{most_bytes, IsScenario, HasFault, ComesOut, ComesOutOrNoMemory, ComesOutOfCheck, ComesOutIn, IsLegalAt, IsRunOf, IsRunAnswer, IsCheckAnswer, IsAnswerIn, IsAnswer, reads_in, ComesFrom, IsDueBy, IsDue, IsToldIn, IsTold, IsFaultlessIn, IsFaultless, reads_source, IsRefusal}
+use Rattle.proc_run.specs.Outcomes.{most_bytes, IsScenario, HasFault, ComesOut, ComesOutOrNoMemory, ComesOutOfCheck, ComesOutIn, IsLegalAt, IsNoFault, IsRunOf, IsRunAnswer, IsCheckAnswer, IsAnswerIn, IsAnswer, reads_in, ComesFrom, IsDueBy, IsDue, IsToldIn, IsTold, IsFaultlessIn, IsFaultless, reads_source, IsRefusal}
 use Rattle.proc_run.specs.Dues.{status_of}
 use Rattle.scenario_gen.specs.Generated.{text as generated}
 
@@ -315,3 +316,43 @@ faulty_in Gen P reads faultless risen = absurd cc
 -- a source that is read and fails is in the way
 pub faulty : (words : List (List ℕ)) (o : Options) (P : Type 0) → options words ≡ Some o → reads_source (options words) ≡ true → IsFaultless o P → P → ⊥
 faulty words o P taken reads faultless risen = faulty_in o.mode P (sym (ap reads_source taken) ∙ reads) faultless risen
+
+-- ---- the text of a seed
+
+no_fault_in : (mode : Mode) (o : Options) (seed : ℕ) (bytes left : Option (List ℕ)) (bs : List ℕ) (line rule : ℕ) (text : List ℕ) → mode ≡ Gen → ComesFrom mode seed bytes left bs
+    → IsAnswerIn mode o bs (BadScenario line rule) kept.Nothing text → ⊥
+no_fault_in Run o seed bytes left bs line rule text gen comes answer = absurd cc
+no_fault_in Journal o seed bytes left bs line rule text gen comes answer = absurd cc
+no_fault_in Check o seed bytes left bs line rule text gen comes answer = absurd cc
+no_fault_in Gen o seed bytes left bs line rule text gen comes answer =
+    let made = is_scenario seed in
+    let both : Ok made.0 ≡ Err (faults.Bad line rule) = sym made.2 ∙ (ap scenario (sym comes.1) ∙ answer.0) in
+    cc
+
+pub no_fault : (words : List (List ℕ)) (o : Options) (bytes left : Option (List ℕ)) (status : RunStatus) (k : Kept) (text : List ℕ) → options words ≡ Some o → o.mode ≡ Gen
+    → IsDue words bytes left status k text → IsNoFault status
+no_fault words o bytes left Done k text taken gen due = tt
+no_fault words o bytes left Stalled k text taken gen due = tt
+no_fault words o bytes left Spent k text taken gen due = tt
+no_fault words o bytes left ReadFault k text taken gen due = tt
+no_fault words o bytes left WriteFault k text taken gen due = tt
+no_fault words o bytes left NoMemory k text taken gen due = tt
+no_fault words o bytes left Usage k text taken gen due = tt
+no_fault words o bytes left TooLong k text taken gen due = tt
+no_fault words o bytes left (Checked how) k text taken gen due = tt
+no_fault words o bytes left (NotLegal at point) k text taken gen due = tt
+no_fault words o bytes left (BadJournal line) k text taken gen due = tt
+no_fault words o bytes left (BadScenario line rule) k text taken gen (p, is, (bs, comes, answer)) = absurd (by k answer)
+  where
+    mode : p.mode ≡ Gen
+    mode = ap (λ (q : Options). q.mode) (same_Some p o (sym is ∙ taken)) ∙ gen
+
+    by : (k : Kept) → IsAnswerIn p.mode p bs (BadScenario line rule) k text → ⊥
+    by kept.Nothing answer = no_fault_in p.mode p p.seed bytes left bs line rule text mode comes answer
+    by (kept.Journal j) answer = none p.mode answer
+      where
+        none : (mode : Mode) → IsAnswerIn mode p bs (BadScenario line rule) (kept.Journal j) text → ⊥
+        none Run answer = answer
+        none Journal answer = answer
+        none Gen answer = answer
+        none Check answer = answer

@@ -227,6 +227,11 @@ abbrev pub ComesOutOrNoMemory : Mode → List ℕ → RunStatus → Type 0
 ComesOutOrNoMemory mode bs NoMemory = Unit {0}
 ComesOutOrNoMemory mode bs status = ComesOutIn mode bs status
 
+-- this is no first fault
+abbrev pub IsNoFault : RunStatus → Type 0
+IsNoFault (BadScenario line rule) = ⊥
+IsNoFault _ = Unit {0}
+
 -- a journal was found legal, and its run stands so; or memory ran out
 abbrev pub IsLegalAt : Settled → RunStatus → Type 0
 IsLegalAt how (Checked found) = found ≡ how

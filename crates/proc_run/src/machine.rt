@@ -17,7 +17,7 @@ ghost use Rattle.run_words.specs.Options.{options};
 ghost use Rattle.proc_run.specs.declared.outcome.RunStatus.{RunStatus};
 ghost use Rattle.proc_run.specs.declared.outcome.Kept.TheVariants.{Nothing};
 ghost use Rattle.proc_run.specs.declared.machine.NoText.TheVariants as no_text;
-ghost use Rattle.proc_run.specs.Outcomes.{IsDue, IsDueBy, IsAnswer, IsRunAnswer, IsCheckAnswer, IsScenario, IsTold, IsFaultless, reads_source, OnWritten, OnWriteFault, OnReadFault, OnNothingDue, UnlessReadFault, UnlessWriteFault, ComesOutOrNoMemory, IsLegalAt, IsRefusal, usage_line, too_long_line, fault_line};
+ghost use Rattle.proc_run.specs.Outcomes.{IsDue, IsDueBy, IsAnswer, IsRunAnswer, IsCheckAnswer, IsScenario, IsTold, IsFaultless, reads_source, OnWritten, OnWriteFault, OnReadFault, OnNothingDue, UnlessReadFault, UnlessWriteFault, ComesOutOrNoMemory, IsLegalAt, IsNoFault, IsRefusal, usage_line, too_long_line, fault_line};
 ghost use Rattle.proc_run.specs.Dues.{OnFailed, UnlessFailed, status_of};
 
 use crate::outcome::{Kept, Outcome, RunStatus};
@@ -279,6 +279,9 @@ pub fn run_machine<S: Source, W: Sink>(
     ensures complete { (o : Options) → options words.now ≡ Some o → (text : List ℕ) → IsTold o (S.bytes_left source.old) text
         → IsFaultless o (HasRisen (S.faults source.old) (S.faults source.new))
         → (HasRisen (W.faults sink.old) (W.faults sink.new) → ⊥) → ComesOutOrNoMemory o.mode text result.status }
+
+    // In mode gen no first fault is answered, since the text of every seed is a scenario.
+    ensures generated { (o : Options) → options words.now ≡ Some o → o.mode ≡ Mode.Gen → IsNoFault result.status }
 
     // In mode check a legal journal behind its scenario is found legal, and how its run stands, unless an end fails or memory
     // runs out.

@@ -2,7 +2,7 @@ use Rattle.std.proofs.Common.{◌≡◌, true}
 use Rattle.byte_ports.specs.Faults.{HasRisen}
 use Rattle.run_words.specs.Options.{options}
 use Rattle.proc_run.specs.Outcomes.{reads_source}
-use Rattle.proc_run.proofs.Answered.{completes, faulty, legal_so, refused_so}
+use Rattle.proc_run.proofs.Answered.{completes, faulty, legal_so, no_fault, refused_so}
 use Rattle.proc_run.proofs.machine.run_machine.Goals as goal
 
 pub returns-in-Ok-write_all-clause-refused : goal.returns-in-Ok-write_all-clause-refused
@@ -25,3 +25,7 @@ pub returns-in-Err-ReadFault-clause-legal : goal.returns-in-Err-ReadFault-clause
 returns-in-Err-ReadFault-clause-legal g c o taken checks text told no_read no_write ds j has =
     let failed : HasRisen (g.S.Source.faults c.args.source.now) (g.S.Source.faults c.due.new.source) × (reads_source (options c.args.words.now) ≡ true) = rw c.in-Err-ReadFault.field-0-is at c.in-Err-ReadFault.ensures.fault in
     absurd (faulty c.args.words.now o _ taken failed.1 no_read failed.0)
+
+pub returns-in-Ok-write_all-clause-generated : goal.returns-in-Ok-write_all-clause-generated
+returns-in-Ok-write_all-clause-generated g c o taken gen =
+    no_fault c.args.words.now o _ _ c.in-Ok.due.status c.in-Ok.due.kept c.in-Ok.due.text.items taken gen c.in-Ok.ensures.due
