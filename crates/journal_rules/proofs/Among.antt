@@ -3,11 +3,10 @@ use Rattle.std.proofs.Common.{◌≡◌, ◌↔◌, ℕ, ◌/◌, List, Contains
 use Rattle.std.specs.Prelude.{Result, Ok, Err, IfOk}
 use Rattle.cache_ident.specs.declared.names.Frame.{Frame}
 use Rattle.cache_ident.specs.declared.names.Name.{Name}
-use Rattle.cache_ident.specs.Residents.{Resident, IsNameResident}
+use Rattle.cache_ident.specs.Residents.{IsNameResident}
 use Rattle.residents.specs.declared.frames.FrameRows.{FrameRows}
 use Rattle.residents.specs.declared.list.Residents.{Residents}
 use Rattle.residents.specs.Framed.{IsFramed}
-use Rattle.residents.specs.Tables.{AreThose}
 use Rattle.journal_rules.specs.declared.calls.Touched.{Touched}
 use Rattle.journal_rules.specs.declared.calls.Touched.TheVariants.{Row, OnFrame, InGroup}
 use Rattle.journal_rules.specs.Touched.{IsTouched, HaveTouched, AreOfResidents, IsAlone}
