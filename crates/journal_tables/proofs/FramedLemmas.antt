@@ -7,16 +7,13 @@ use Rattle.cache_ident.specs.declared.idents.Ident.{Ident}
 use Rattle.cache_ident.specs.declared.names.Frame.{Frame}
 use Rattle.cache_ident.specs.declared.names.Name.{Name}
 use Rattle.cache_ident.specs.Residents.{Resident, with_loaded, without, locked_if, with_lock}
-use Rattle.flat_laws.proofs.Members.{Contains-map, Contains-from_map, contains_nothing}
+use Rattle.flat_laws.proofs.Members.{Contains-map, Contains-from_map}
 use Rattle.flat_state.specs.State.{FlatState}
 use Rattle.run_journal.proofs.Others.{without_cases, stays_without, locked_keeps}
 use Rattle.residents.specs.declared.frames.FrameRows.{FrameRows}
 use Rattle.residents.specs.Framed.{IsFramed}
 use Rattle.journal_laws.specs.Touching.{frame_of}
 use Rattle.journal_rules.specs.Framed.{AreFramedBy}
-
-pub frames_none : (frames : FrameRows) (s : FlatState) → ((frame : Frame) (name : Name) → IsFramed frames frame name → ⊥) → AreFramedBy frames s []
-frames_none frames s none frame name = (λ is. absurd (none frame name is), λ is. absurd (contains_nothing is.0.0 is.0.1))
 
 abbrev new_one : Ident → Name → Resident
 new_one ident name = record { ident = ident; name = name; locked = false }
@@ -82,12 +79,12 @@ pub put_on : {X E : Type 0} (r : Result X E) (old after : FrameRows) (s : FlatSt
     → OnOk r ((frame : Frame) (name : Name) → IsFramed after frame name ↔ (IsFramed old frame name ⊎ ((frame_of s row ≡ Some frame) × (name ≡ row))))
 put_on (Err e) old after s row on is adds = tt
 put_on (Ok x) old after s row on is adds = λ frame name. (
-  λ framed. elim ((adds frame name).0 framed) [ | inl was ↦ inl was | inr one ↦ inr (so s row on is frame one.0, one.1) ],
-  λ either. (adds frame name).1 (elim either [ | inl was ↦ inl was | inr one ↦ inr (same_so s row on is frame one.0, one.1) ]),
+  λ framed. elim ((adds frame name).0 framed) [ inl was ↦ inl was | inr one ↦ inr (so s row on is frame one.0, one.1) ],
+  λ either. (adds frame name).1 (elim either [ inl was ↦ inl was | inr one ↦ inr (same_so s row on is frame one.0, one.1) ]),
 )
 
 pub put_nowhere : (frames : FrameRows) (s : FlatState) (row : Name) → None ≡ frame_of s row → (frame : Frame) (name : Name) → IsFramed frames frame name ↔ (IsFramed frames frame name ⊎ ((frame_of s row ≡ Some frame) × (name ≡ row)))
-put_nowhere frames s row is frame name = (λ framed. inl framed, λ either. elim either [ | inl was ↦ was | inr one ↦ absurd (none-some frame (is ∙ one.0)) ])
+put_nowhere frames s row is frame name = (λ framed. inl framed, λ either. elim either [ inl was ↦ was | inr one ↦ absurd (none-some frame (is ∙ one.0)) ])
 
 pub take_off : (old after : FrameRows) (s : FlatState) (row : Name) (on : Frame) → Some on ≡ frame_of s row
     → ((frame : Frame) (name : Name) → IsFramed after frame name ↔ (IsFramed old frame name × (((frame ≡ on) × (name ≡ row)) → ⊥)))
