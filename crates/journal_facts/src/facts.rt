@@ -230,7 +230,13 @@ impl Facts {
         if !self.has(thread) {
             return Ok(false);
         }
-        let done = complete(self.alloc, &mut self.flat, self.tables.residents(), thread)?;
+        let done = complete(
+            self.alloc,
+            &mut self.flat,
+            self.tables.residents(),
+            self.tables.frames(),
+            thread,
+        )?;
         self.go_on(Due::Anything);
         Ok(done)
     }

@@ -1,4 +1,4 @@
--- What stays good depends on the same, has the same owner and the same class.
+-- What stays good depends on the same, and has the same owner, frame and class.
 use Rattle.std.proofs.Common.{◌≡◌, ◌↔◌, ℕ, ◌<◌, Bool, true, false, List, [], ◌∷◌, map, filter, length, Option, Some, None, is_some, slice_get, Contains, refl, ap, ap₂, sym, ◌∙◌, subst, inl, inr, arith}
 use Rattle.std.specs.Prelude.{if◌then◌else◌, ◌==◌, ◌&&◌, option_to_list, nat_lt}
 use Rattle.std.specs.Option.{option_map}
@@ -33,6 +33,7 @@ use Rattle.flat_laws.proofs.ShortChains.{own_row}
 use Rattle.flat_laws.proofs.ParentLaws.{there_is}
 use Rattle.run_journal.proofs.Others.{Contains-from_filter}
 use Rattle.run_journal.specs.Legal.{AreGood}
+use Rattle.journal_laws.specs.Touching.{frame_of}
 
 abbrev kernel_zero : KernelNo
 kernel_zero = record { 0 = 0 }
@@ -169,7 +170,7 @@ module _ (s : FlatState) (e : Event) (formed : IsWellFormed s) where
       by None here some = absurd (cc)
       by (Some kernel) here some = keeps.spaces space.0 kernel here ∙ sym here
 
-  -- and has the same owner and class
+  -- and has the same owner, frame and class
   name_owner : (name : Name) → stands s name ≡ true → stands u name ≡ true → owner u name ≡ owner s name
   unfolding owner stands
   name_owner (Kernel kernel) there now = ap (λ (b : Bool). if b then Some kernel_zero else None) (is_below u.kernels kernel.0 now ∙ sym (is_below s.kernels kernel.0 there))
@@ -194,6 +195,18 @@ module _ (s : FlatState) (e : Event) (formed : IsWellFormed s) where
           sym (ap (λ (n : SpaceNo). slice_get u.spaces n.0) (forth space vpn.0 x y here there).space)
           ∙ space_kept x.space (formed.rows.each x (find-contains (is_row_of space vpn.0) s.rows x here)).space
 
+  name_frame : (name : Name) → stands s name ≡ true → stands u name ≡ true → frame_of u name ≡ frame_of s name
+  unfolding stands
+  name_frame (Kernel kernel) there now = refl
+  name_frame (Space space) there now = refl
+  name_frame (Thread thread) there now = refl
+  name_frame (Mapping space vpn) there now = by (row_of s.rows space vpn.0) (row_of u.rows space vpn.0) refl refl there now
+    where
+      by : (o p : Option Row) → row_of s.rows space vpn.0 ≡ o → row_of u.rows space vpn.0 ≡ p → is_some o ≡ true → is_some p ≡ true → option_map (λ (row : Row). row.frame) p ≡ option_map (λ (row : Row). row.frame) o
+      by None p here there some_s some_u = absurd (cc)
+      by (Some x) None here there some_s some_u = absurd (cc)
+      by (Some x) (Some y) here there some_s some_u = ap Some (sym (forth space vpn.0 x y here there).frame)
+
   name_class : (name : Name) → stands s name ≡ true → stands u name ≡ true → class_of u name ≡ class_of s name
   unfolding class_of stands
   name_class (Kernel kernel) there now = refl
@@ -213,6 +226,9 @@ depends_on_same s e formed = name_depends s e formed
 
 pub owner_stays : (s : FlatState) (e : Event) → IsWellFormed s → (name : Name) → stands s name ≡ true → stands (applied s e) name ≡ true → owner (applied s e) name ≡ owner s name
 owner_stays s e formed = name_owner s e formed
+
+pub frame_stays : (s : FlatState) (e : Event) → IsWellFormed s → (name : Name) → stands s name ≡ true → stands (applied s e) name ≡ true → frame_of (applied s e) name ≡ frame_of s name
+frame_stays s e formed = name_frame s e formed
 
 pub class_stays : (s : FlatState) (e : Event) → IsWellFormed s → (name : Name) → stands s name ≡ true → stands (applied s e) name ≡ true → class_of (applied s e) name ≡ class_of s name
 class_stays s e formed = name_class s e formed

@@ -1,5 +1,7 @@
 -- Which descriptors a completed call can touch.
 use Rattle.std.specs.Prelude.{◌≡◌, ◌/◌, Option, Some, None, slice_get}
+use Rattle.std.specs.Option.{option_map}
+use Rattle.cache_ident.specs.declared.names.Frame.{Frame}
 use Rattle.cache_ident.specs.declared.names.Name.{Name}
 use Rattle.cache_ident.specs.declared.names.Name.TheVariants.{Kernel, Space, Thread, Mapping}
 use Rattle.cache_ident.specs.declared.names.SpaceNo.{SpaceNo}
@@ -11,6 +13,13 @@ use Rattle.fault_forward.specs.declared.effects.Effect.TheVariants as effects
 use Rattle.fault_forward.specs.Calls.{completion_of}
 use Rattle.flat_state.specs.declared.records.FlatThread.{FlatThread}
 use Rattle.flat_state.specs.State.{FlatState}
+
+-- the frame of the row that has the name, if there is one
+abbrev pub frame_of : FlatState → Name → Option Frame
+frame_of s (Mapping space vpn) = option_map (λ (row : Row). row.frame) (row_of s.rows space vpn.0)
+frame_of s (Kernel kernel) = None
+frame_of s (Space space) = None
+frame_of s (Thread thread) = None
 
 -- the name is that of a row of which something is so
 abbrev pub IsRowWith : FlatState → Name → (Row → Type 0) → Type 0

@@ -1,58 +1,24 @@
 -- Completed calls, and what they leave.
-use Rattle.std.proofs.Common.{◌≡◌, ◌≢◌, ℕ, ◌+◌, ◌<◌, Bool, true, false, List, [], ◌∷◌, length, get_or, Option, Some, None, is_some, IsSome, slice_get, Contains, refl, ap, sym, ◌∙◌, subst, inl, inr, arith}
-use Rattle.std.specs.Prelude.{◌==◌, if◌then◌else◌}
+use Rattle.std.proofs.Common.{◌≡◌, ℕ, ◌+◌, ◌<◌, Bool, true, false, List, [], ◌∷◌, length, get_or, Option, Some, None, is_some, IsSome, slice_get, Contains, ◌⊎◌, refl, ap, sym, ◌∙◌, subst, inl, inr, arith}
 use Rattle.std.specs.Bool.{MatchBool}
-use Rattle.std.proofs.lemmas.Bool.{cases_lt, false≢true, eqb-true}
+use Rattle.std.proofs.lemmas.Bool.{cases_lt, false≢true}
 use Rattle.std.proofs.lemmas.List.{get_or_default}
 use Rattle.cache_ident.specs.declared.names.Name.{Name}
-use Rattle.cache_ident.specs.declared.names.SpaceNo.{SpaceNo}
 use Rattle.cache_ident.specs.declared.names.ThreadNo.{ThreadNo}
 use Rattle.cache_ident.specs.Residents.{Resident, IsNameResident}
-use Rattle.rv32_exec.specs.declared.contexts.Context.{Context}
-use Rattle.fault_forward.specs.Calls.{Completion, completion_by, call_number, taken}
 use Rattle.flat_state.specs.declared.events.Event.TheVariants.{Complete}
 use Rattle.flat_state.specs.declared.records.FlatThread.{FlatThread}
 use Rattle.flat_state.specs.State.{FlatState}
 use Rattle.flat_state.specs.Call.{is_completable, complete_if, completion_for, after_completion}
 use Rattle.flat_state.specs.Events.{after_event, applied}
+use Rattle.flat_laws.proofs.Members.{contains_nothing, Contains-here, Contains-behind, Contains-cases}
 use Rattle.run_journal.specs.Legal.{StaysGood, AreGood}
-use Rattle.journal_laws.specs.Touching.{TouchesBy, TouchesFor, Touches}
+use Rattle.journal_laws.specs.Touching.{TouchesFor, Touches}
 use Rattle.journal_laws.proofs.Untouched.{untouched_stays}
-use Rattle.journal_rules.specs.Running.{AreGoodNames, IsHarmless, LeavesGood, SpoilOne}
-
--- ---- what a call touches
-
-module _ (s : FlatState) (space : SpaceNo) (name : Name) where
-  abbrev Misses : Completion → Type 0
-  Misses c = TouchesBy c.effect s space name → ⊥
-
-  either : (b : Bool) (x y : Completion) → Misses x → Misses y → Misses (if b then x else y)
-  either true x y first second = first
-  either false x y first second = second
-
-  other : (b : Bool) (x y : Completion) → (b ≡ true → ⊥) → Misses y → Misses (if b then x else y)
-  other true x y off second = absurd (off refl)
-  other false x y off second = second
-
-  takes : (c : Context) (queue : List ℕ) → Misses (taken c queue)
-  takes c [] = λ touches. touches
-  takes c (first ∷ queue) = λ touches. touches
-
-  misses : (number : ℕ) (thread : ThreadNo) (c : Context) (queue : List ℕ) → number ≢ 6 → number ≢ 7 → number ≢ 9 → Misses (completion_by number thread c queue)
-  misses number thread c queue no6 no7 no9 =
-      either (number == 0) _ _ (λ t. t)
-      (either (number == 1) _ _ (λ t. t)
-      (either (number == 2) _ _ (λ t. t)
-      (either (number == 3) _ _ (takes c queue)
-      (either (number == 4) _ _ (λ t. t)
-      (either (number == 5) _ _ (λ t. t)
-      (other (number == 6) _ _ (λ e. no6 (eqb-true number 6 e))
-      (other (number == 7) _ _ (λ e. no7 (eqb-true number 7 e))
-      (either (number == 8) _ _ (λ t. t)
-      (other (number == 9) _ _ (λ e. no9 (eqb-true number 9 e)) (λ t. t))))))))))
-
-pub harmless : (t : FlatThread) → call_number t.context ≢ 6 → call_number t.context ≢ 7 → call_number t.context ≢ 9 → IsHarmless t
-harmless t no6 no7 no9 s name = misses s t.space name (call_number t.context) t.no t.context t.queue.items no6 no7 no9
+use Rattle.residents.proofs.NameLemmas.{name_or}
+use Rattle.journal_rules.specs.declared.calls.Touched.{Touched}
+use Rattle.journal_rules.specs.Running.{AreGoodNames, LeavesGood, SpoilOne}
+use Rattle.journal_rules.specs.Touched.{IsTouched, TouchesAll}
 
 -- ---- whether it fits
 
@@ -69,20 +35,36 @@ fits_not s thread t found may fit = false≢true (sym (ap is_some (fits_is s thr
 pub fits_none : (s : FlatState) (thread : ThreadNo) → None ≡ slice_get s.threads thread.0 → IsSome (after_event s (Complete thread)) → ⊥
 fits_none s thread found fit = false≢true (sym (ap is_some (fits_is s thread None found)) ∙ fit)
 
-pub misses_all : (s : FlatState) (thread : ThreadNo) (t : FlatThread) → Some t ≡ slice_get s.threads thread.0 → IsHarmless t → (name : Name) → Touches s thread name → ⊥
-misses_all s thread t found none name touches = none s name (subst (λ (o : Option FlatThread). TouchesFor o s name) (sym found) touches)
+pub touched_all : (s : FlatState) (thread : ThreadNo) (t : FlatThread) (by : Touched) → Some t ≡ slice_get s.threads thread.0 → TouchesAll t by → (name : Name) → Touches s thread name → IsTouched s by name
+touched_all s thread t by found all name touches = all s name (subst (λ (o : Option FlatThread). TouchesFor o s name) (sym found) touches)
 
 -- ---- what it leaves
 
-pub leaves_untouched : (s : FlatState) (rs : List Resident) (thread : ThreadNo) → IsSome (after_event s (Complete thread)) → ((name : Name) → Touches s thread name → ⊥) → AreGood s rs → LeavesGood s rs thread
-leaves_untouched s rs thread fit none good = record { fits = fit; good = λ r there. untouched_stays s thread rs r (good r there) (none r.name) }
+contains_or : (names : List Name) (name : Name) → Contains names name ⊎ (Contains names name → ⊥)
+contains_or [] name = inr (λ there. contains_nothing name there)
+contains_or (x ∷ xs) name = elim (name_or x name) [
+  | inl same ↦ inl (subst (λ (n : Name). Contains (x ∷ xs) n) same (Contains-here x xs))
+  | inr apart ↦ elim (contains_or xs name) [
+    | inl behind ↦ inl (Contains-behind x xs name behind)
+    | inr none ↦ inr (λ there. elim (Contains-cases x xs name there) [ inl first ↦ apart first | inr behind ↦ none behind ])
+  ]
+]
 
-pub leaves_by : (s u : FlatState) (rs : List Resident) (thread : ThreadNo) (names : List Name) (b : Bool) → u ≡ applied s (Complete thread) → IsSome (after_event s (Complete thread))
-    → ((r : Resident) → Contains rs r → Contains names r.name) → ((name : Name) → Contains names name → IsNameResident rs name)
+-- the names are of residents, and every resident that the call touches has one of them
+pub leaves_by : (s u : FlatState) (rs : List Resident) (thread : ThreadNo) (names : List Name) (b : Bool) → u ≡ applied s (Complete thread) → IsSome (after_event s (Complete thread)) → AreGood s rs
+    → ((name : Name) → IsNameResident rs name → Touches s thread name → Contains names name) → ((name : Name) → Contains names name → IsNameResident rs name)
     → MatchBool b (AreGoodNames u rs names) (SpoilOne u rs names) → MatchBool b (LeavesGood s rs thread × (u ≡ applied s (Complete thread))) (LeavesGood s rs thread → ⊥)
-leaves_by s u rs thread names true is fit all only good =
-    (record { fits = fit; good = λ r there. subst (λ (v : FlatState). StaysGood v rs r) is (good r (all r there)) }, is)
-leaves_by s u rs thread names false is fit all only spoilt = λ leaves.
+leaves_by s u rs thread names true is fit before all only good = (
+  record {
+    fits = fit;
+    good = λ r there. elim (contains_or names r.name) [
+      | inl named ↦ subst (λ (v : FlatState). StaysGood v rs r) is (good r named)
+      | inr other ↦ untouched_stays s thread rs r (before r there) (λ touches. other (all r.name (r, there, refl) touches))
+    ];
+  },
+  is,
+)
+leaves_by s u rs thread names false is fit before all only spoilt = λ leaves.
     let found = only spoilt.0 spoilt.1 in
     spoilt.2 found.0 found.2 (subst (λ (v : FlatState). StaysGood v rs found.0) (sym is) (leaves.good found.0 found.1))
 

@@ -1,3 +1,4 @@
 pub mod Naming
 pub mod Stepping
 pub mod Completing
+mod Among

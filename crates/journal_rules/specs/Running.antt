@@ -4,12 +4,9 @@ use Rattle.cache_ident.specs.declared.names.ThreadNo.{ThreadNo}
 use Rattle.cache_ident.specs.declared.names.Name.{Name}
 use Rattle.cache_ident.specs.Residents.{Resident, IsNameResident}
 use Rattle.flat_state.specs.declared.events.Event.TheVariants.{Complete}
-use Rattle.fault_forward.specs.Calls.{completion_of}
-use Rattle.flat_state.specs.declared.records.FlatThread.{FlatThread}
 use Rattle.flat_state.specs.State.{FlatState}
 use Rattle.flat_state.specs.Events.{after_event, applied}
 use Rattle.run_journal.specs.Legal.{MayStep, StaysGood, after_steps, AreGood}
-use Rattle.journal_laws.specs.Touching.{TouchesBy}
 
 -- the thread may take each of so many steps
 abbrev pub MayStepOn : FlatState → List Resident → ThreadNo → ℕ → Type 0
@@ -33,7 +30,3 @@ AreGoodNames s rs names = (r : Resident) → Contains names r.name → StaysGood
 
 abbrev pub SpoilOne : FlatState → List Resident → List Name → Type 0
 SpoilOne s rs names = (name : Name) × Contains names name × ((r : Resident) → r.name ≡ name → StaysGood s rs r → ⊥)
-
--- the call that the thread is in touches no descriptor
-abbrev pub IsHarmless : FlatThread → Type 0
-IsHarmless t = (s : FlatState) (name : Name) → TouchesBy (completion_of t.no t.context t.queue.items).effect s t.space name → ⊥

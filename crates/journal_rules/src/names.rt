@@ -9,9 +9,10 @@ ghost use Rattle.residents.specs.Tables.{AreThose};
 ghost use Rattle.run_journal.specs.Groups.{HasParents};
 ghost use Rattle.run_journal.specs.Legal.{StaysGood, cap_of, limit_of};
 ghost use Rattle.journal_laws.specs.Leaving.{LacksParent};
+ghost use Rattle.journal_laws.specs.Touching.{frame_of};
 ghost use Rattle.journal_rules.specs.Running.{AreResident, LackOne};
 
-use cache_ident::{Class, KernelNo, Kind, Name};
+use cache_ident::{Class, Frame, KernelNo, Kind, Name};
 use flat_machine::Flat;
 use phys_groups::Row;
 use residents::Residents;
@@ -57,6 +58,21 @@ pub fn owner(flat: &Flat, name: Name) -> Option<KernelNo>
         Name::Mapping(space, vpn) => {
             let row = flat.row(space, vpn)?;
             flat.kernel_of(row.space)
+        }
+    }
+}
+
+/// The frame of the row that has the name, if there is such a row. It costs the logarithm of the rows.
+pub fn frame(flat: &Flat, name: Name) -> Option<Frame>
+    ensures { result ≡ frame_of flat.now name }
+{
+    match name {
+        Name::Kernel(_) => None,
+        Name::Space(_) => None,
+        Name::Thread(_) => None,
+        Name::Mapping(space, vpn) => {
+            let row = flat.row(space, vpn)?;
+            Some(row.frame)
         }
     }
 }

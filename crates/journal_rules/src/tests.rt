@@ -1,14 +1,20 @@
-//! A sender, which takes its message row away by a call, and a receiver, in one space.
+//! A sender, which takes its message row or its kernel's rights away by a call, and a receiver, in one space.
 
 use super::*;
 use cache_ident::{Caps, Cause, Class, Frame, Ident, KernelNo, Kind, Name, SpaceNo, ThreadNo, Vpn};
 use flat_machine::{Decl, Event, Flat, GREATEST_CAPS, Machine};
 use phys_groups::Flags;
-use residents::Residents;
+use residents::{FrameRows, Residents};
 use run_journal::Entry;
 use std::alloc::Global;
 use std::process::Abort;
 use std::test::Fail;
+
+// It puts 7 into a7 and calls, with 16 in a0: the message row is to go.
+const UNMAP: [u32; 3] = [0x0070_0893, 0x0000_0073, 0];
+
+// It puts 9 into a7 and 0 into a0 and calls: the kernel is to have no rights on the group.
+const GRANT: [u32; 3] = [0x0090_0893, 0x0000_0513, 0x0000_0073];
 
 const KERNEL: KernelNo = KernelNo(0);
 
@@ -60,7 +66,7 @@ fn word(offset: u32, value: u32) -> Decl {
     }
 }
 
-fn machine(alloc: Global) -> Result<Flat, Fail> {
+fn machine(alloc: Global, code: [u32; 3]) -> Result<Flat, Fail> {
     let (groups, caps) = (1, GREATEST_CAPS);
     let (no, kernel, kernels) = (SPACE, KERNEL, 1);
     let machine = Machine { groups, caps };
@@ -84,8 +90,9 @@ fn machine(alloc: Global) -> Result<Flat, Fail> {
         map(0, "x", None),
         map(16, "rwm", None),
         map(32, "r", Some(RECEIVER)),
-        word(0, 0x0070_0893),
-        word(4, 0x0000_0073),
+        word(0, code[0]),
+        word(4, code[1]),
+        word(8, code[2]),
     ];
     let mut flat = Flat::new(alloc);
     for decl in decls {
@@ -122,7 +129,7 @@ fn kernels_have_limits(rt: &impl Abort, flat: &Flat, none: &Flat) {
 
 #[test]
 fn names_in_a_machine(rt: HostRuntime) -> Result<(), Fail> {
-    let (none, flat) = (Flat::new(rt.alloc()), machine(rt.alloc())?);
+    let (none, flat) = (Flat::new(rt.alloc()), machine(rt.alloc(), UNMAP)?);
     names_stand(&rt, &flat, &none);
     rows_have_classes(&rt, &flat, &none);
     kernels_have_limits(&rt, &flat, &none);
@@ -153,14 +160,28 @@ fn a_step_is_good(rt: &impl Abort, flat: &Flat, residents: &Residents) {
 #[test]
 fn what_is_resident_decides(rt: HostRuntime) -> Result<(), Fail> {
     let alloc = rt.alloc();
-    let flat = machine(alloc)?;
+    let flat = machine(alloc, UNMAP)?;
     nothing_is_good(&rt, &flat, &Residents::new(alloc));
     a_step_is_good(&rt, &flat, &residents_of_a_step(alloc)?);
     Ok(())
 }
 
-fn runs(alloc: Global, residents: &Residents, steps: u32) -> Result<(Flat, bool), Fail> {
-    let mut flat = machine(alloc)?;
+// The frames of the code row, the message row and its signal row.
+fn frames_of_rows(alloc: Global) -> Result<FrameRows, Fail> {
+    let mut frames = FrameRows::new(alloc);
+    frames.add(Frame(0), CODE_ROW)?;
+    frames.add(Frame(2), SIGNAL_ROW)?;
+    frames.add(Frame(2), MESSAGE_ROW)?;
+    Ok(frames)
+}
+
+fn runs(
+    alloc: Global,
+    residents: &Residents,
+    code: [u32; 3],
+    steps: u32,
+) -> Result<(Flat, bool), Fail> {
+    let mut flat = machine(alloc, code)?;
     let ran = run(&mut flat, residents, SENDER, steps)?;
     Ok((flat, ran))
 }
@@ -169,9 +190,11 @@ fn runs(alloc: Global, residents: &Residents, steps: u32) -> Result<(Flat, bool)
 fn a_call_is_completed(rt: HostRuntime) -> Result<(), Fail> {
     let alloc = rt.alloc();
     let residents = residents_of_a_step(alloc)?;
-    let (mut flat, ran) = runs(alloc, &residents, 2)?;
+    let (mut flat, ran) = runs(alloc, &residents, UNMAP, 2)?;
     assert!(rt; ran);
-    let done = complete(alloc, &mut flat, &residents, SENDER)?;
+    let mut frames = FrameRows::new(alloc);
+    frames.add(Frame(0), CODE_ROW)?;
+    let done = complete(alloc, &mut flat, &residents, &frames, SENDER)?;
     assert!(rt; done);
     assert!(rt; !stands(&flat, MESSAGE_ROW));
     Ok(())
@@ -181,12 +204,33 @@ fn a_call_is_completed(rt: HostRuntime) -> Result<(), Fail> {
 fn a_call_that_takes_a_resident_row_is_not(rt: HostRuntime) -> Result<(), Fail> {
     let alloc = rt.alloc();
     let mut residents = residents_of_a_step(alloc)?;
-    let (mut flat, ran) = runs(alloc, &residents, 3)?;
+    let (mut flat, ran) = runs(alloc, &residents, UNMAP, 3)?;
     assert!(rt; !ran);
     load(&mut residents, 4, SIGNAL_ROW)?;
     load(&mut residents, 5, MESSAGE_ROW)?;
     assert!(rt; stays_good(&flat, &residents, MESSAGE_ROW));
-    let done = complete(alloc, &mut flat, &residents, SENDER)?;
+    let done = complete(
+        alloc,
+        &mut flat,
+        &residents,
+        &frames_of_rows(alloc)?,
+        SENDER,
+    )?;
+    assert!(rt; !done);
+    Ok(())
+}
+
+#[test]
+fn rights_that_a_resident_row_needs_stay(rt: HostRuntime) -> Result<(), Fail> {
+    let alloc = rt.alloc();
+    let residents = residents_of_a_step(alloc)?;
+    let mut frames = FrameRows::new(alloc);
+    frames.add(Frame(0), CODE_ROW)?;
+    let (mut flat, ran) = runs(alloc, &residents, GRANT, 3)?;
+    assert!(rt; ran);
+    assert!(rt; frame(&flat, CODE_ROW) == Some(Frame(0)));
+    assert!(rt; frame(&flat, Name::Thread(SENDER)).is_none());
+    let done = complete(alloc, &mut flat, &residents, &frames, SENDER)?;
     assert!(rt; !done);
     Ok(())
 }

@@ -7,3 +7,4 @@ pub mod PairLemmas
 pub mod LockLemmas
 pub mod TableLemmas
 pub mod Staying
+mod FramedLemmas

@@ -1,8 +1,12 @@
 -- What the tables are of while nothing comes or goes.
-use Rattle.std.proofs.Common.{◌≡◌, ◌↔◌, ℕ, zero, suc, List, [], replicate, Contains, refl, sym, ◌∙◌, subst}
+use Rattle.std.proofs.Common.{◌≡◌, ◌↔◌, ℕ, zero, suc, List, [], replicate, Contains, Option, Some, None, refl, ap, sym, ◌∙◌, subst}
+use Rattle.std.specs.Option.{option_map}
 use Rattle.cache_ident.specs.declared.names.Name.{Name}
+use Rattle.cache_ident.specs.declared.names.Name.TheVariants.{Kernel, Space, Thread, Mapping}
 use Rattle.cache_ident.specs.declared.names.ThreadNo.{ThreadNo}
 use Rattle.cache_ident.specs.Residents.{Resident}
+use Rattle.phys_groups.specs.declared.rows.Row.{Row}
+use Rattle.phys_groups.specs.Translation.{row_of}
 use Rattle.flat_state.specs.declared.events.Decl.{Decl}
 use Rattle.flat_state.specs.declared.events.Event.{Event}
 use Rattle.flat_state.specs.declared.events.Event.TheVariants.{Step, Complete}
@@ -12,8 +16,9 @@ use Rattle.flat_state.specs.Events.{after_events, applied, flat}
 use Rattle.flat_state.specs.WellFormed.{IsWellFormed}
 use Rattle.flat_state.proofs.FormedEvents.{flat_formed}
 use Rattle.flat_laws.proofs.Members.{contains_nothing}
-use Rattle.flat_laws.proofs.StepSame.{step_same, same_owner, same_parents}
-use Rattle.journal_laws.proofs.SameDependence.{depends_on_same, owner_stays}
+use Rattle.flat_laws.proofs.StepSame.{IsSameBut, step_same, found_row, same_owner, same_parents}
+use Rattle.journal_laws.specs.Touching.{frame_of}
+use Rattle.journal_laws.proofs.SameDependence.{depends_on_same, owner_stays, frame_stays}
 use Rattle.run_journal.specs.declared.entries.Entry.TheVariants.{Declared, Sealed, Ran, Ended, Completed}
 use Rattle.run_journal.specs.Told.{Told, told_after}
 use Rattle.run_journal.specs.Legal.{MayRun, MayEnd, MayComplete}
@@ -22,12 +27,14 @@ use Rattle.journal_tables.specs.Tables.{AreOf}
 use Rattle.journal_tables.specs.Whole.{AreWhole}
 use Rattle.journal_tables.proofs.WholeLemmas.{whole_nothing, whole_ran, whole_ended, whole_completed}
 use Rattle.journal_tables.proofs.PairLemmas.{pairs_same}
+use Rattle.journal_tables.proofs.FramedLemmas.{frames_same}
 use Rattle.journal_tables.proofs.LockLemmas.{locks_same}
 
--- what is resident has the owners and depends on what it had and did
+-- what is resident has the owners and frames and depends on what it had and did
 pub record StaysOf (s u : FlatState) (rs : List Resident) : Type 0 where
   pub depends : (r : Resident) → Contains rs r → (parent : Name) → Depends u r.name parent ↔ Depends s r.name parent
   pub owner_is : (r : Resident) → Contains rs r → owner u r.name ≡ owner s r.name
+  pub frame_is : (r : Resident) → Contains rs r → frame_of u r.name ≡ frame_of s r.name
 
 pub of_same : (tables : Tables) (k after : Told) → AreOf tables k → after.residents ≡ k.residents → AreWhole after.state after.loads after.residents → StaysOf k.state after.state k.residents → AreOf tables after
 of_same tables k after are same whole stays = subst (λ (rs : List Resident). AreWhole after.state after.loads rs → AreOf tables (record after { residents = rs })) {x = k.residents} {y = after.residents} (sym same)
@@ -36,9 +43,20 @@ of_same tables k after are same whole stays = subst (λ (rs : List Resident). Ar
       those = are.those;
       slots = are.slots;
       pairs = pairs_same tables.dependents k.state after.state k.residents stays.depends are.pairs;
+      frames = frames_same tables.frames k.state after.state k.residents stays.frame_is are.frames;
       locks = locks_same tables.locks k.state after.state k.residents stays.owner_is are.locks;
     })
     whole
+
+same_frame : (s u : FlatState) (same : IsSameBut s u) (name : Name) → frame_of u name ≡ frame_of s name
+same_frame s u same (Kernel kernel) = refl
+same_frame s u same (Space space) = refl
+same_frame s u same (Thread thread) = refl
+same_frame s u same (Mapping space vpn) = ap (option_map (λ (row : Row). row.frame)) (found_row s u same space vpn.0) ∙ by (row_of s.rows space vpn.0)
+  where
+    by : (o : Option Row) → option_map (λ (row : Row). row.frame) (option_map same.mark o) ≡ option_map (λ (row : Row). row.frame) o
+    by None = refl
+    by (Some row) = ap Some (same.keeps.frame row)
 
 -- a step leaves all that
 step_stays : (s : FlatState) (thread : ThreadNo) (rs : List Resident) → StaysOf s (applied s (Step thread)) rs
@@ -49,25 +67,27 @@ step_stays s thread rs =
           let is = same_parents s (applied s (Step thread)) same r.name in
           (subst (λ (ps : List Name). Contains ps parent) is, subst (λ (ps : List Name). Contains ps parent) (sym is));
       owner_is = λ r there. same_owner s (applied s (Step thread)) same r.name;
+      frame_is = λ r there. same_frame s (applied s (Step thread)) same r.name;
     }
 
 steps_stay : (n : ℕ) (s : FlatState) (thread : ThreadNo) (rs : List Resident) → StaysOf s (after_events s (replicate n (Step thread))) rs
-steps_stay zero s thread rs = record { depends = λ r there parent. (λ d. d, λ d. d); owner_is = λ r there. refl }
+steps_stay zero s thread rs = record { depends = λ r there parent. (λ d. d, λ d. d); owner_is = λ r there. refl; frame_is = λ r there. refl }
 steps_stay (suc n) s thread rs =
     let first = step_stays s thread rs in
     let rest = steps_stay n (applied s (Step thread)) thread rs in
     record {
       depends = λ r there parent. (λ d. (first.depends r there parent).0 ((rest.depends r there parent).0 d), λ d. (rest.depends r there parent).1 ((first.depends r there parent).1 d));
       owner_is = λ r there. rest.owner_is r there ∙ first.owner_is r there;
+      frame_is = λ r there. rest.frame_is r there ∙ first.frame_is r there;
     }
 
 pub of_declared : (tables : Tables) (k : Told) (d : Decl) → AreOf tables k → k.residents ≡ [] → AreOf tables (told_after k (Declared d))
 of_declared tables k d are none = of_same tables k (told_after k (Declared d)) are refl
     (subst (λ (rs : List Resident). AreWhole (told_after k (Declared d)).state k.loads rs) (sym none) (whole_nothing (told_after k (Declared d)).state k.loads))
-    (subst (λ (rs : List Resident). StaysOf k.state (told_after k (Declared d)).state rs) (sym none) (record { depends = λ r there. absurd (contains_nothing r there); owner_is = λ r there. absurd (contains_nothing r there) }))
+    (subst (λ (rs : List Resident). StaysOf k.state (told_after k (Declared d)).state rs) (sym none) (record { depends = λ r there. absurd (contains_nothing r there); owner_is = λ r there. absurd (contains_nothing r there); frame_is = λ r there. absurd (contains_nothing r there) }))
 
 pub of_sealed : (tables : Tables) (k : Told) → AreOf tables k → AreOf tables (told_after k Sealed)
-of_sealed tables k are = record { whole = are.whole; those = are.those; slots = are.slots; pairs = are.pairs; locks = are.locks }
+of_sealed tables k are = record { whole = are.whole; those = are.those; slots = are.slots; pairs = are.pairs; frames = are.frames; locks = are.locks }
 
 pub of_ran : (tables : Tables) (k : Told) (thread : ThreadNo) (steps cpu : ℕ) → AreOf tables k → MayRun k thread steps → AreOf tables (told_after k (Ran thread steps cpu))
 of_ran tables k thread steps cpu are may =
@@ -84,4 +104,5 @@ of_completed tables k es thread cpu reached are may =
     of_same tables k (told_after k (Completed thread cpu)) are refl whole (record {
       depends = depends_on_same k.state (Complete thread) formed k.residents are.whole.good may.good;
       owner_is = λ r there. owner_stays k.state (Complete thread) formed r.name (are.whole.good r there).there (may.good r there).there;
+      frame_is = λ r there. frame_stays k.state (Complete thread) formed r.name (are.whole.good r there).there (may.good r there).there;
     })

@@ -12,7 +12,8 @@ ghost use Rattle.journal_tables.specs.declared.tables.Tables.{Tables};
 ghost use Rattle.journal_tables.specs.Tables.{AreOf};
 
 /// Tables stay of what is told while a legal journal declares, seals, takes steps and completes calls: none of these changes who
-/// owns what is resident, or what it depends on. Of a completed call this holds of every state that events can reach.
+/// owns what is resident, what it depends on, or the frame of a row. Of a completed call this holds of every state that events
+/// can reach.
 pub fn what_is_resident_stays_through_events()
     ensures declared { (tables : Tables) (k : Told) (d : Decl) → AreOf tables k → k.residents ≡ [] → AreOf tables (told_after k (entries.Declared d)) }
     ensures sealed { (tables : Tables) (k : Told) → AreOf tables k → AreOf tables (told_after k entries.Sealed) }

@@ -1,24 +1,29 @@
 //! All that is kept of what is resident.
 
-ghost use Rattle.std.specs.Prelude.{◌≡◌, ◌↔◌, ℕ, ◌+◌, ◌<◌, ◌^◌, Contains, IfOk, IsTrue, MatchOption, OnOk, true};
+ghost use Rattle.std.specs.Prelude.{◌≡◌, ◌⊎◌, ◌↔◌, ℕ, ◌+◌, ◌<◌, ◌^◌, Contains, IfOk, IsTrue, MatchOption, OnOk, Some, true};
 ghost use Rattle.std.specs.Bool.{MatchBool};
 ghost use Rattle.cache_ident.specs.declared.idents.Cause.{Cause};
 ghost use Rattle.cache_ident.specs.declared.idents.Cause.TheVariants as causes;
+ghost use Rattle.cache_ident.specs.declared.names.Frame.{Frame};
+ghost use Rattle.cache_ident.specs.declared.names.Name.{Name};
 ghost use Rattle.flat_state.specs.Dependence.{owner};
+ghost use Rattle.residents.specs.Framed.{IsFramed};
 ghost use Rattle.residents.specs.Slots.{IsLowest};
 ghost use Rattle.residents.specs.Tables.{AreThose, resident_of};
 ghost use Rattle.run_journal.specs.declared.entries.Entry.TheVariants as entries;
 ghost use Rattle.run_journal.specs.Groups.{NothingDependsOn};
 ghost use Rattle.run_journal.specs.Legal.{MayLeave, MayLoad, MayLock, MayUnlock, cap_of, count_of};
 ghost use Rattle.run_journal.specs.Told.{Told, nothing_told, told_after};
+ghost use Rattle.journal_laws.specs.Touching.{frame_of};
+ghost use Rattle.journal_rules.specs.Framed.{AreFramedBy};
 ghost use Rattle.journal_tables.specs.Locks.{RecountsIf};
 
 use crate::kind_slots::KindSlots;
 use crate::locks::Locks;
 use cache_ident::{Ident, Kind, Name, NoMemory};
 use flat_machine::Flat;
-use journal_rules::{cap, limit, owner, stays_good};
-use residents::{Dependents, Held, Residents};
+use journal_rules::{cap, frame, limit, owner, stays_good};
+use residents::{Dependents, FrameRows, Held, Residents};
 use std::alloc::Global;
 
 const FIRST: Ident = Ident {
@@ -36,6 +41,7 @@ pub struct Tables {
     residents: Residents,
     slots: KindSlots,
     dependents: Dependents,
+    frames: FrameRows,
     locks: Locks,
 }
 
@@ -51,6 +57,7 @@ impl Tables {
             residents: Residents::new(alloc),
             slots: KindSlots::new(alloc),
             dependents: Dependents::new(alloc),
+            frames: FrameRows::new(alloc),
             locks: Locks::new(alloc),
         }
     }
@@ -60,6 +67,13 @@ impl Tables {
         ensures { (k : Told) → AreOf self.now k → AreThose result.now k.residents }
     {
         &self.residents
+    }
+
+    /// The resident rows of each frame. Constant time.
+    pub fn frames(&self) -> &FrameRows
+        ensures { (k : Told) → AreOf self.now k → AreFramedBy result.now k.state k.residents }
+    {
+        &self.frames
     }
 
     /// How many of a kind are resident. Constant time.
@@ -88,6 +102,7 @@ impl Tables {
         self.slots.take(ident.kind, ident.slot);
         let parents = flat.parents(name);
         self.dependents.add(name, parents.as_slice())?;
+        put_on_frame(&mut self.frames, flat, name)?;
         Ok(true)
     }
 
@@ -186,10 +201,31 @@ impl Tables {
         self.slots.release(held.ident.kind, held.ident.slot)?;
         let parents = flat.parents(held.name);
         self.dependents.remove(held.name, parents.as_slice());
+        take_off_frame(&mut self.frames, flat, held.name);
         forget_lock(&mut self.locks, flat, held);
         self.residents.remove(held);
         Ok(())
     }
+}
+
+// From now on a row is on its frame.
+fn put_on_frame(frames: &mut FrameRows, flat: &Flat, row: Name) -> Result<(), NoMemory>
+    ensures { OnOk result ((frame : Frame) (name : Name) → IsFramed frames.new frame name ↔ (IsFramed frames.old frame name ⊎ ((frame_of flat.now row ≡ Some frame) × (name ≡ row)))) }
+{
+    match frame(flat, row) {
+        Some(frame) => frames.add(frame, row),
+        None => Ok(()),
+    }
+}
+
+// From now on a row isn't on its frame.
+fn take_off_frame(frames: &mut FrameRows, flat: &Flat, row: Name)
+    ensures { (frame : Frame) (name : Name) → IsFramed frames.new frame name ↔ (IsFramed frames.old frame name × (((frame_of flat.now row ≡ Some frame) × (name ≡ row)) → ⊥)) }
+{
+    let Some(frame) = frame(flat, row) else {
+        return;
+    };
+    frames.remove(frame, row);
 }
 
 // One fewer of what its owner has is locked, if it is locked.

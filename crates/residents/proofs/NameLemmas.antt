@@ -35,7 +35,7 @@ same_name (Mapping a u) (Space b) equal = absurd (cc)
 same_name (Mapping a u) (Thread b) equal = absurd (cc)
 same_name (Mapping a u) (Mapping b v) equal = grind (arith, nat_tests)
 
-same_nat : (a b : ℕ) → nat_cmp a b ≡ Equal → a ≡ b
+pub same_nat : (a b : ℕ) → nat_cmp a b ≡ Equal → a ≡ b
 same_nat a b equal = grind (arith, nat_tests)
 
 -- ordering by ordering

@@ -1,18 +1,14 @@
 -- What a table stands for after a change.
-use Rattle.std.proofs.Common.{◌≡◌, ◌≢◌, ℕ, Bool, true, false, cond, List, [], ◌∷◌, Contains, Option, Some, None, is_some, refl, ap, sym, ◌∙◌, subst, inl, inr}
+use Rattle.std.proofs.Common.{◌≡◌, ◌≢◌, ℕ, Bool, false, cond, List, [], ◌∷◌, Contains, Option, Some, None, refl, ap, sym, ◌∙◌, subst, inl, inr}
 use Rattle.std.specs.Prelude.{Result, Ok, Err, OnOk, OnErr}
 use Rattle.std.specs.Map.{lookup}
-use Rattle.std.specs.BTreeMap.{BTreeMap, get, is_at, keys}
-use Rattle.std.specs.Ordering.{eq_by_cmp}
-use Rattle.std.proofs.lemmas.Map.Views.{Contains-keys_from_lookup, IsSome-lookup_from_Contains}
+use Rattle.std.specs.BTreeMap.{BTreeMap, get, is_at}
 use Rattle.std.specs.declared.cmp.Ordering.{Ordering}
 use Rattle.std.proofs.lemmas.Bool.{cases_Bool}
-use Rattle.std.proofs.lemmas.Cmp.{eq_by_cmp_equiv}
 use Rattle.std.proofs.lemmas.Option.{none-some, same_Some}
 use Rattle.std.proofs.lemmas.List.Elements.{Contains-push, Contains-push_cases, Contains-append_left}
 use Rattle.cache_ident.specs.declared.idents.Ident.{Ident}
 use Rattle.cache_ident.specs.declared.names.Name.{Name}
-use Rattle.cache_ident.specs.contracts.names.NameOrd.TheImpl.Laws as name_laws
 use Rattle.cache_ident.specs.Rolls.{is_same}
 use Rattle.cache_ident.proofs.RollLemmas.{is_same-refl, same_ident}
 use Rattle.cache_ident.specs.Residents.{Resident, IsNameResident, with_loaded, without, locked_if, with_lock}
@@ -21,7 +17,7 @@ use Rattle.run_journal.proofs.Others.{without_cases, stays_without, locked_keeps
 use Rattle.residents.specs.declared.list.Held.{Held}
 use Rattle.residents.specs.declared.list.Residents.{Residents}
 use Rattle.residents.specs.Tables.{resident_of, held_of, held_at, name_at, AreThose, HasNoSerial}
-use Rattle.residents.proofs.NameLemmas.{name_cmp, same_name, at_is, name_or, nat_or}
+use Rattle.residents.proofs.NameLemmas.{name_or, nat_or}
 
 -- a table has this under one key now, and everything else as before
 pub record Puts {K X : Type 0} (old new : K → Option X) (key : K) (now : Option X) : Type 0 where
@@ -199,15 +195,3 @@ put_back old mid new name held put taken none q = elim (name_or q name) [
   | inl same ↦ ap new same ∙ taken.here ∙ sym none ∙ ap old (sym same)
   | inr other ↦ taken.other q other ∙ put.other q other
 ]
-
--- what a map has stands among its keys
-pub has_key : {X : Type 0} (table : BTreeMap Name X) (name : Name) (x : X) → get name_cmp table name ≡ Some x → Contains (keys table) name
-has_key {X = X} table name x is = Contains-keys_from_lookup {eq = eq_by_cmp name_cmp} (λ a b same. sym (at_is name_cmp same_name a b same)) name table.entries (ap is_some is)
-
--- and what stands among the keys the map has
-pub key_has : {X : Type 0} (table : BTreeMap Name X) (name : Name) → Contains (keys table) name → (x : X) × (get name_cmp table name ≡ Some x)
-key_has {X = X} table name there = by (get name_cmp table name) refl (IsSome-lookup_from_Contains (eq_by_cmp_equiv name_laws.total-law) name table.entries there)
-  where
-    by : (o : Option X) → get name_cmp table name ≡ o → is_some o ≡ true → (x : X) × (get name_cmp table name ≡ Some x)
-    by None is some = absurd (cc)
-    by (Some x) is some = (x, is)

@@ -1,6 +1,6 @@
 //! What is resident, by name and by serial.
 
-ghost use Rattle.std.specs.Prelude.{◌≡◌, ◌↔◌, [], List, Contains, IsTrue, IfOk, MatchOption, OnOk, OnErr};
+ghost use Rattle.std.specs.Prelude.{◌≡◌, ◌↔◌, [], List, Contains, IsTrue, MatchOption, OnOk, OnErr};
 ghost use Rattle.cache_ident.specs.declared.names.Name.{Name};
 ghost use Rattle.cache_ident.specs.Residents.{Resident, IsNameResident, with_loaded, without, with_lock};
 
@@ -96,17 +96,5 @@ impl Residents {
         };
         // The name is there, so that no memory is wanted.
         let _ = self.by_name.insert(held.name, changed);
-    }
-
-    /// The names of all. It takes time and memory for each.
-    pub fn names(&self, alloc: Global) -> Result<Vec<Name>, NoMemory>
-        ensures all { IfOk result (λ names. (rs : List Resident) → AreThose self.now rs → (r : Resident) → Contains rs r → Contains names.items r.name) }
-        ensures only { IfOk result (λ names. (rs : List Resident) → AreThose self.now rs → (name : Name) → Contains names.items name → IsNameResident rs name) }
-    {
-        let mut names = Vec::new(alloc);
-        for name in self.by_name.keys() {
-            names.push(*name)?;
-        }
-        Ok(names)
     }
 }

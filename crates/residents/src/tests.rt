@@ -1,5 +1,5 @@
 use super::*;
-use cache_ident::{Ident, KernelNo, Kind, Name, SpaceNo};
+use cache_ident::{Frame, Ident, KernelNo, Kind, Name, SpaceNo, Vpn};
 use std::test::Fail;
 
 const KERNEL: Name = Name::Kernel(KernelNo(0));
@@ -16,8 +16,7 @@ fn ident(kind: Kind, serial: u64) -> Ident {
 
 #[test]
 fn residents_come_and_go(rt: HostRuntime) -> Result<(), Fail> {
-    let alloc = rt.alloc();
-    let mut residents = Residents::new(alloc);
+    let mut residents = Residents::new(rt.alloc());
     let first = ident(Kind::Kernel, 0);
     let second = ident(Kind::Space, 1);
     residents.load(first, KERNEL)?;
@@ -36,8 +35,6 @@ fn residents_come_and_go(rt: HostRuntime) -> Result<(), Fail> {
         ..held
     };
     assert_eq!(rt; residents.find(second), Some(locked));
-    let names = residents.names(alloc)?;
-    assert!(rt; names.as_slice() == [KERNEL, SPACE].as_slice());
     residents.remove(locked);
     assert!(rt; !residents.is_named(SPACE));
     assert_eq!(rt; residents.find(second), None);
@@ -69,5 +66,28 @@ fn a_parent_has_its_children(rt: HostRuntime) -> Result<(), Fail> {
     assert!(rt; !dependents.has(SPACE));
     dependents.remove(SPACE, &[KERNEL]);
     assert!(rt; !dependents.has(KERNEL));
+    Ok(())
+}
+
+#[test]
+fn a_frame_has_its_rows(rt: HostRuntime) -> Result<(), Fail> {
+    let alloc = rt.alloc();
+    let mut rows = FrameRows::new(alloc);
+    let first = Name::Mapping(SpaceNo(0), Vpn(16));
+    let second = Name::Mapping(SpaceNo(3), Vpn(2));
+    rows.add(Frame(127), first)?;
+    rows.add(Frame(128), first)?;
+    rows.add(Frame(255), second)?;
+    rows.add(Frame(255), first)?;
+    rows.add(Frame(u32::MAX), second)?;
+    let empty: [Name; 0] = [];
+    assert!(rt; rows.of_frame(alloc, Frame(255))?.as_slice() == [first, second].as_slice());
+    assert!(rt; rows.of_frame(alloc, Frame(254))?.as_slice() == empty.as_slice());
+    assert!(rt; rows.of_frame(alloc, Frame(u32::MAX))?.as_slice() == [second].as_slice());
+    assert!(rt; rows.of_group(alloc, 1)?.as_slice() == [first, first, second].as_slice());
+    assert!(rt; rows.of_group(alloc, 33_554_431)?.as_slice() == [second].as_slice());
+    assert!(rt; rows.of_group(alloc, u32::MAX)?.as_slice() == empty.as_slice());
+    rows.remove(Frame(255), first);
+    assert!(rt; rows.of_frame(alloc, Frame(255))?.as_slice() == [second].as_slice());
     Ok(())
 }

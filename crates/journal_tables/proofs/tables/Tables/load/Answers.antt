@@ -1,9 +1,12 @@
-use Rattle.std.proofs.Common.{◌≡◌, ◌↔◌, ◌⊎◌, List, Contains, refl, ap, sym, ◌∙◌, subst}
+use Rattle.std.proofs.Common.{◌≡◌, ◌↔◌, ◌⊎◌, List, Contains, Some, refl, ap, sym, ◌∙◌, subst}
 use Rattle.std.proofs.lemmas.Bool.{false≢true}
+use Rattle.cache_ident.specs.declared.names.Frame.{Frame}
 use Rattle.cache_ident.specs.declared.names.Name.{Name}
 use Rattle.flat_state.specs.State.{FlatState}
 use Rattle.flat_state.specs.Dependence.{parents}
+use Rattle.residents.specs.Framed.{IsFramed}
 use Rattle.residents.specs.Pairs.{IsPair}
+use Rattle.journal_laws.specs.Touching.{frame_of}
 use Rattle.journal_tables.proofs.TableLemmas.{of_loaded, fresh_serial}
 use Rattle.journal_tables.proofs.tables.Tables.load.Goals as goal
 
@@ -21,6 +24,7 @@ returns c = λ k state loads are.
         others = c.take.ensures.others;
         adds = subst (λ (ps : List Name). (parent other : Name) → IsPair c.add.new.self parent other ↔ (IsPair c.args.self.now.dependents parent other ⊎ ((other ≡ c.args.name) × Contains ps parent)))
             (c.as_slice.ensures.value ∙ c.parents-parents.ensures ∙ ap (λ (s : FlatState). parents s c.args.name) (sym state)) c.in_ok-add.ensures;
+        frames = subst (λ (s : FlatState). (frame : Frame) (other : Name) → IsFramed c.put_on_frame.new.frames frame other ↔ (IsFramed c.args.self.now.frames frame other ⊎ ((frame_of s c.args.name ≡ Some frame) × (other ≡ c.args.name)))) (sym state) c.in_ok-put_on_frame.ensures;
         locks = refl;
       }),
     )

@@ -31,4 +31,4 @@ returns c = λ k state are.
     let owned = c.in-Some-owner.ensures ∙ ap (λ (s : FlatState). owner s c.in-Some.held.name) (sym state) in
     let may = may_lock c.args.self.now k c.args.ident c.in-Some.held are is c.in-Some-owner.kernel owned c.if-held.false
     (let count = c.count.ensures in let limit = c.limit.ensures ∙ ap (λ (s : FlatState). limit_of s c.in-Some-owner.kernel c.args.ident.kind) (sym state) in let room = c.if-count-limit.false in omega arith) in
-    (may, λ cpu. of_locked c.args.self.now _ k c.args.ident c.in-Some.held cpu are is refl refl c.in-Some-owner.kernel may c.if-held.false (sym owned) (c.set_lock.ensures k.residents are.those is.0) c.in_ok-add.ensures)
+    (may, λ cpu. of_locked c.args.self.now _ k c.args.ident c.in-Some.held cpu are is refl refl refl c.in-Some-owner.kernel may c.if-held.false (sym owned) (c.set_lock.ensures k.residents are.those is.0) c.in_ok-add.ensures)

@@ -27,6 +27,6 @@ returns c = λ k state are.
       not_first = other_ident c.args.ident first_ident (sym c.if-eq.ensures);
     } in (
       may,
-      λ cpu. of_unlocked c.args.self.now _ k c.args.ident c.in-Some.held cpu are is refl refl may on (c.set_lock.ensures k.residents are.those is.0)
+      λ cpu. of_unlocked c.args.self.now _ k c.args.ident c.in-Some.held cpu are is refl refl refl may on (c.set_lock.ensures k.residents are.those is.0)
           (subst (λ (s : FlatState). RecountsIf c.in-Some.held.locked c.args.self.now.locks c.forget_lock.new.locks (owner s c.in-Some.held.name) c.in-Some.held.ident.kind) (sym state) c.forget_lock.ensures),
     )

@@ -1,6 +1,0 @@
-use Rattle.std.proofs.Common.{◌≡◌, ◌++◌}
-use Rattle.std.specs.BTreeMap.{keys}
-use Rattle.residents.proofs.list.Residents.names.Given as goal
-
-abbrev pub invariant-loop-name : goal.invariant-loop-name
-invariant-loop-name l = l.names.items ++ l.name-iterator ≡ keys l.self.by_name
