@@ -3,6 +3,7 @@
 ghost use Rattle.std.specs.Prelude.{◌≡◌, [], false, IfOk};
 ghost use Rattle.clap.specs.Words.{app_of, rule_of, found_of, rows_of};
 ghost use Rattle.run_words.specs.Command.{option, bare, command};
+ghost use Rattle.run_words.specs.Examples.{AreTaken, AreRefused};
 ghost use Rattle.run_words.specs.Options.{mode_in, number_in, options_in, fault_by, IsReading, by_default};
 
 use crate::options::{Mode, Options, WordsFault};
@@ -107,3 +108,12 @@ pub fn read(alloc: Global, words: &Words) -> Result<Options, WordsFault>
         Err(error) => Err(fault_by(error.kind())),
     }
 }
+
+/// Which words `read` takes, and what it makes of them, as a law by examples.
+pub fn words_by_example()
+    // Each of these is taken, and asks for what stands beside it.
+    ensures taken { AreTaken }
+
+    // None of these is.
+    ensures refused { AreRefused }
+{}
