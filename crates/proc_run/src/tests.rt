@@ -90,6 +90,20 @@ thread 0 badcall 10 out 0\n",
 }
 
 #[test]
+fn no_beginning_is_a_scenario(rt: HostRuntime) -> Result<(), Fail> {
+    let no_words = Words::new(rt.alloc());
+    let whole = HELLO.len();
+    for cut in 2..whole + 1 {
+        let (status, _) = run_over(&rt, &no_words, &HELLO[..whole - cut], &[], &[])?;
+        assert_eq!(rt; status, 5);
+    }
+    let (status, held) = run_over(&rt, &no_words, &HELLO[..whole - 1], &[], &[])?;
+    assert_eq!(rt; status, 0);
+    assert_eq!(rt; held.as_slice(), HELLO_REPORT);
+    Ok(())
+}
+
+#[test]
 fn programs_and_their_reports(rt: HostRuntime) -> Result<(), Fail> {
     let cases: [(&[u8], u8, &[u8]); 7] = [
         // Adds one to a word of memory, stores it behind, and puts out its low byte.
