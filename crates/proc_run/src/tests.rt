@@ -205,6 +205,7 @@ fn each_write_fails(rt: HostRuntime) -> Result<(), Fail> {
     assert!(rt; writes_fail_in_turn(&rt, &["--mode", "journal"], 28)?);
     assert!(rt; writes_fail_in_turn(&rt, &["x"], 8)?);
     assert!(rt; writes_fail_in_turn(&rt, &["--mode", "gen", "--steps", "1"], 4)?);
+    assert!(rt; writes_fail_in_turn(&rt, &["--mode", "check"], 3)?);
     Ok(())
 }
 
@@ -222,6 +223,7 @@ fn each_read_fails(rt: HostRuntime) -> Result<(), Fail> {
     for at in 0..4 {
         assert_eq!(rt; read_fails(&rt, &[], at)?, (3, 0));
         assert_eq!(rt; read_fails(&rt, &["--mode", "journal"], at)?, (3, 0));
+        assert_eq!(rt; read_fails(&rt, &["--mode", "check"], at)?, (3, 0));
     }
     assert_eq!(rt; read_fails(&rt, &[], 4)?, (0, HELLO_REPORT.len()));
     assert_eq!(rt; read_fails(&rt, &["x"], 0)?, (7, USAGE.len()));
