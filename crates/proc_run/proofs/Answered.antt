@@ -28,6 +28,8 @@ use Rattle.check_mode.specs.Parts.{scenario_part}
 use Rattle.check_mode.proofs.Answered.{yes_so, never_no, never_bad, never_faulty}
 use Rattle.seed_scenarios.proofs.Seeded.{is_scenario}
 use Rattle.proc_run.specs.Running.{IsRun}
+use Rattle.proc_run.specs.declared.text.Account.{Account}
+use Rattle.proc_run.specs.declared.text.Account.TheVariants as accounts
 use Rattle.proc_run.specs.Texts.{text_of}
 use Rattle.proc_run.specs.Outcomes.{most_bytes, IsScenario, HasFault, ComesOut, ComesOutOrNoMemory, ComesOutOfCheck, ComesOutIn, IsLegalAt, IsNoFault, IsRunOf, IsRunAnswer, IsCheckAnswer, IsAnswerIn, IsAnswer, reads_in, ComesFrom, IsDueBy, IsDue, IsToldIn, IsTold, IsFaultlessIn, IsFaultless, reads_source, IsRefusal}
 use Rattle.proc_run.specs.Dues.{status_of}
@@ -44,41 +46,41 @@ first_fault bs e line rule is (inl none) = absurd (two_faults line rule (sym is 
 first_fault bs e line rule is (inr meant) = meant ∙ ap (λ (x : ScenarioFault). Err x) is
 
 -- the machine of a run to its end, and its text, are those that are due
-run_of : (o : Options) (ds : List Decl) (bs : List ℕ) (j : List Entry) (s : FlatState) (how : Settled) (steps : ℕ) (text : List ℕ) → IsRun ds j s how steps o.steps → text ≡ text_of o j s how steps → IsScenario bs ds → IsRunOf o bs how j text
-run_of o ds bs j s how steps text ran written is_scenario = record {
+run_of : (account : Account) (limit : ℕ) (ds : List Decl) (bs : List ℕ) (j : List Entry) (s : FlatState) (how : Settled) (steps : ℕ) (text : List ℕ) → IsRun ds j s how steps limit → text ≡ text_of account j s how steps → IsScenario bs ds → IsRunOf account limit bs how j text
+run_of account limit ds bs j s how steps text ran written is_scenario = record {
   decls = ds;
   is_scenario = is_scenario;
   rest = ran.rest;
   begins = ran.begins;
   fits = ran.fits;
-  settled_so = ran.status ∙ ap₂ (λ t n. settled_of t n o.steps) ran.state ran.count;
-  written = written ∙ ap₂ (λ t n. text_of o j t how n) ran.state ran.count;
+  settled_so = ran.status ∙ ap₂ (λ t n. settled_of t n limit) ran.state ran.count;
+  written = written ∙ ap₂ (λ t n. text_of account j t how n) ran.state ran.count;
 }
 
-pub run_is_answer : (o : Options) (ds : List Decl) (bs : List ℕ) (j : Written) (s : FlatState) (how : Settled) (steps : ℕ) (text : List ℕ) → IsRun ds j.entries s how steps o.steps → text ≡ text_of o j.entries s how steps → IsScenario bs ds → IsRunAnswer o bs (status_of how) (kept.Journal j) text
-run_is_answer o ds bs j s settled.Done steps text ran written is_scenario = run_of o ds bs j.entries s settled.Done steps text ran written is_scenario
-run_is_answer o ds bs j s settled.Stalled steps text ran written is_scenario = run_of o ds bs j.entries s settled.Stalled steps text ran written is_scenario
-run_is_answer o ds bs j s settled.Spent steps text ran written is_scenario = run_of o ds bs j.entries s settled.Spent steps text ran written is_scenario
-run_is_answer o ds bs j s settled.Running steps text ran written is_scenario = absurd (ran.over refl)
+pub run_is_answer : (account : Account) (limit : ℕ) (ds : List Decl) (bs : List ℕ) (j : Written) (s : FlatState) (how : Settled) (steps : ℕ) (text : List ℕ) → IsRun ds j.entries s how steps limit → text ≡ text_of account j.entries s how steps → IsScenario bs ds → IsRunAnswer account limit bs (status_of how) (kept.Journal j) text
+run_is_answer account limit ds bs j s settled.Done steps text ran written is_scenario = run_of account limit ds bs j.entries s settled.Done steps text ran written is_scenario
+run_is_answer account limit ds bs j s settled.Stalled steps text ran written is_scenario = run_of account limit ds bs j.entries s settled.Stalled steps text ran written is_scenario
+run_is_answer account limit ds bs j s settled.Spent steps text ran written is_scenario = run_of account limit ds bs j.entries s settled.Spent steps text ran written is_scenario
+run_is_answer account limit ds bs j s settled.Running steps text ran written is_scenario = absurd (ran.over refl)
 
 -- a scenario runs to its end, and any other text is answered by its first fault
-comes_out_of_run : (o : Options) (bs : List ℕ) (status : RunStatus) (k : Kept) (text : List ℕ) → IsRunAnswer o bs status k text → ComesOut (scenario bs) status
-comes_out_of_run o bs Done (kept.Journal j) text answer = rw answer.is_scenario tt
-comes_out_of_run o bs Done kept.Nothing text answer = absurd answer
-comes_out_of_run o bs Stalled (kept.Journal j) text answer = rw answer.is_scenario tt
-comes_out_of_run o bs Stalled kept.Nothing text answer = absurd answer
-comes_out_of_run o bs Spent (kept.Journal j) text answer = rw answer.is_scenario tt
-comes_out_of_run o bs Spent kept.Nothing text answer = absurd answer
-comes_out_of_run o bs ReadFault k text answer = absurd answer
-comes_out_of_run o bs WriteFault k text answer = absurd answer
-comes_out_of_run o bs (BadScenario line rule) kept.Nothing text answer = rw answer.0 refl
-comes_out_of_run o bs (BadScenario line rule) (kept.Journal j) text answer = absurd answer
-comes_out_of_run o bs NoMemory k text answer = absurd answer
-comes_out_of_run o bs Usage k text answer = absurd answer
-comes_out_of_run o bs TooLong k text answer = absurd answer
-comes_out_of_run o bs (Checked how) k text answer = absurd answer
-comes_out_of_run o bs (NotLegal at point) k text answer = absurd answer
-comes_out_of_run o bs (BadJournal line) k text answer = absurd answer
+comes_out_of_run : (account : Account) (limit : ℕ) (bs : List ℕ) (status : RunStatus) (k : Kept) (text : List ℕ) → IsRunAnswer account limit bs status k text → ComesOut (scenario bs) status
+comes_out_of_run account limit bs Done (kept.Journal j) text answer = rw answer.is_scenario tt
+comes_out_of_run account limit bs Done kept.Nothing text answer = absurd answer
+comes_out_of_run account limit bs Stalled (kept.Journal j) text answer = rw answer.is_scenario tt
+comes_out_of_run account limit bs Stalled kept.Nothing text answer = absurd answer
+comes_out_of_run account limit bs Spent (kept.Journal j) text answer = rw answer.is_scenario tt
+comes_out_of_run account limit bs Spent kept.Nothing text answer = absurd answer
+comes_out_of_run account limit bs ReadFault k text answer = absurd answer
+comes_out_of_run account limit bs WriteFault k text answer = absurd answer
+comes_out_of_run account limit bs (BadScenario line rule) kept.Nothing text answer = rw answer.0 refl
+comes_out_of_run account limit bs (BadScenario line rule) (kept.Journal j) text answer = absurd answer
+comes_out_of_run account limit bs NoMemory k text answer = absurd answer
+comes_out_of_run account limit bs Usage k text answer = absurd answer
+comes_out_of_run account limit bs TooLong k text answer = absurd answer
+comes_out_of_run account limit bs (Checked how) k text answer = absurd answer
+comes_out_of_run account limit bs (NotLegal at point) k text answer = absurd answer
+comes_out_of_run account limit bs (BadJournal line) k text answer = absurd answer
 
 -- what stands behind a scenario is checked, and any other first part is answered by its first fault
 comes_out_of_check : (limit : ℕ) (bs : List ℕ) (status : RunStatus) (k : Kept) (text : List ℕ) → IsCheckAnswer limit bs status k text → ComesOutOfCheck (scenario (scenario_part bs)) status
@@ -120,9 +122,9 @@ legal_answer limit bs (BadJournal line) kept.Nothing text ds j has answer = absu
 legal_answer limit bs (BadJournal line) (kept.Journal i) text ds j has answer = absurd answer
 
 comes_out : (mode : Mode) (o : Options) (bs : List ℕ) (status : RunStatus) (k : Kept) (text : List ℕ) → IsAnswerIn mode o bs status k text → ComesOutIn mode bs status
-comes_out Run o bs status k text answer = comes_out_of_run o bs status k text answer
-comes_out Journal o bs status k text answer = comes_out_of_run o bs status k text answer
-comes_out Gen o bs status k text answer = comes_out_of_run o bs status k text answer
+comes_out Run o bs status k text answer = comes_out_of_run accounts.Report o.steps bs status k text answer
+comes_out Journal o bs status k text answer = comes_out_of_run accounts.Journal o.steps bs status k text answer
+comes_out Gen o bs status k text answer = comes_out_of_run (accounts.Summary o.seed) o.steps bs status k text answer
 comes_out Check o bs status k text answer = comes_out_of_check o.steps bs status k text answer
 
 never_usage : (mode : Mode) (o : Options) (bs : List ℕ) (k : Kept) (text : List ℕ) → IsAnswerIn mode o bs Usage k text → ⊥

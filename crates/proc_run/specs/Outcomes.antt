@@ -26,6 +26,8 @@ use Rattle.run_words.specs.declared.options.Mode.{Mode}
 use Rattle.run_words.specs.declared.options.Mode.TheVariants.{Run, Journal, Gen, Check}
 use Rattle.run_words.specs.declared.options.Options.{Options}
 use Rattle.run_words.specs.Options.{options}
+use Rattle.proc_run.specs.declared.text.Account.{Account}
+use Rattle.proc_run.specs.declared.text.Account.TheVariants as accounts
 use Rattle.proc_run.specs.Texts.{text_of}
 
 -- how many bytes an input may have
@@ -66,24 +68,24 @@ HasFault bytes line rule = scenario bytes ≡ Err (faults.Bad line rule)
 -- ---- what is due
 
 -- The text is a scenario. The journal begins with its declarations and the seal, and fits in order. The run is settled so, as
--- the machine with unlimited tables is on what is left of the journal, at the limit of steps; and this is the text on it
--- that the mode has.
-pub record IsRunOf (o : Options) (scenario_text : List ℕ) (how : Settled) (j : List Entry) (text : List ℕ) : Type 0 where
+-- the machine with unlimited tables is on what is left of the journal, at the limit of steps; and this is the text of the
+-- account of it.
+pub record IsRunOf (account : Account) (limit : ℕ) (scenario_text : List ℕ) (how : Settled) (j : List Entry) (text : List ℕ) : Type 0 where
   pub decls : List Decl
   pub is_scenario : IsScenario scenario_text decls
   pub rest : List Entry
   pub begins : j ≡ opening decls ++ rest
   pub fits : FitsInOrder j
-  pub settled_so : how ≡ settled_of (flat (erase j)) (steps_in j) o.steps
-  pub written : text ≡ text_of o j (flat (erase j)) how (steps_in j)
+  pub settled_so : how ≡ settled_of (flat (erase j)) (steps_in j) limit
+  pub written : text ≡ text_of account j (flat (erase j)) how (steps_in j)
 
--- this status, what is kept and what is written are the answer to the text of a scenario that is run
-abbrev pub IsRunAnswer : Options → List ℕ → RunStatus → Kept → List ℕ → Type 0
-IsRunAnswer o bs Done (kept.Journal j) text = IsRunOf o bs settled.Done j.entries text
-IsRunAnswer o bs Stalled (kept.Journal j) text = IsRunOf o bs settled.Stalled j.entries text
-IsRunAnswer o bs Spent (kept.Journal j) text = IsRunOf o bs settled.Spent j.entries text
-IsRunAnswer o bs (BadScenario line rule) kept.Nothing text = HasFault bs line rule × (text ≡ fault_line line rule)
-IsRunAnswer o bs status k text = ⊥
+-- this status, what is kept and what is written are the answer to the text of a scenario that is run, at a limit of steps
+abbrev pub IsRunAnswer : Account → ℕ → List ℕ → RunStatus → Kept → List ℕ → Type 0
+IsRunAnswer account limit bs Done (kept.Journal j) text = IsRunOf account limit bs settled.Done j.entries text
+IsRunAnswer account limit bs Stalled (kept.Journal j) text = IsRunOf account limit bs settled.Stalled j.entries text
+IsRunAnswer account limit bs Spent (kept.Journal j) text = IsRunOf account limit bs settled.Spent j.entries text
+IsRunAnswer account limit bs (BadScenario line rule) kept.Nothing text = HasFault bs line rule × (text ≡ fault_line line rule)
+IsRunAnswer account limit bs status k text = ⊥
 
 -- the part of the input up to its line end is a scenario, and of its declarations and what stands behind it that is so
 abbrev pub IsFoundIn : List ℕ → (List Decl → List ℕ → Type 0) → Type 0
@@ -99,9 +101,9 @@ IsCheckAnswer limit bs status k text = ⊥
 
 -- they are the answer to an input, by the mode
 abbrev pub IsAnswerIn : Mode → Options → List ℕ → RunStatus → Kept → List ℕ → Type 0
-IsAnswerIn Run o bs status k text = IsRunAnswer o bs status k text
-IsAnswerIn Journal o bs status k text = IsRunAnswer o bs status k text
-IsAnswerIn Gen o bs status k text = IsRunAnswer o bs status k text
+IsAnswerIn Run o bs status k text = IsRunAnswer accounts.Report o.steps bs status k text
+IsAnswerIn Journal o bs status k text = IsRunAnswer accounts.Journal o.steps bs status k text
+IsAnswerIn Gen o bs status k text = IsRunAnswer (accounts.Summary o.seed) o.steps bs status k text
 IsAnswerIn Check o bs status k text = IsCheckAnswer o.steps bs status k text
 
 abbrev pub IsAnswer : Options → List ℕ → RunStatus → Kept → List ℕ → Type 0

@@ -22,7 +22,7 @@ ghost use Rattle.proc_run.specs.Dues.{OnFailed, UnlessFailed, status_of};
 
 use crate::outcome::{Kept, Outcome, RunStatus};
 use crate::run::{Finished, run};
-use crate::text::text;
+use crate::text::{Account, text};
 use byte_ports::{ReadError, Sink, Source, read_to_end, write_all};
 use check_mode::{Checked, answer};
 use flat_machine::{Decl, NoMemory, Settled};
@@ -107,14 +107,18 @@ fn faulty(alloc: Global, number: u64, rule: u32) -> Result<DueText, AllocError>
 }
 
 // What is due for the run of a scenario.
-fn answered(alloc: Global, options: &Options, decls: &[Decl]) -> Result<DueText, NoMemory>
+fn answered(
+    alloc: Global,
+    account: Account,
+    steps: u32,
+    decls: &[Decl],
+) -> Result<DueText, NoMemory>
     requires some { 0 < length decls.now }
     requires fit { AllFit nothing_declared decls.now }
-    requires runs { options.now.mode ≢ Mode.Check }
-    ensures { IfOk result (λ d. (bs : List ℕ) → IsScenario bs decls.now → IsRunAnswer options.now bs d.status d.kept d.text.items) }
+    ensures { IfOk result (λ d. (bs : List ℕ) → IsScenario bs decls.now → IsRunAnswer account steps bs d.status d.kept d.text.items) }
 {
-    let run = run(alloc, decls, u64::from(options.steps))?;
-    let text = text(alloc, options, &run)?;
+    let run = run(alloc, decls, u64::from(steps))?;
+    let text = text(alloc, account, &run)?;
     let Finished {
         journal,
         settled,
@@ -128,13 +132,12 @@ fn answered(alloc: Global, options: &Options, decls: &[Decl]) -> Result<DueText,
 }
 
 // What is due for the run of a scenario whose bytes were read to their end.
-fn due_for_run(alloc: Global, options: &Options, bytes: &[u8]) -> Result<DueText, NoText>
-    requires { options.now.mode ≢ Mode.Check }
-    ensures due { IfOk result (λ d. IsRunAnswer options.now bytes.now d.status d.kept d.text.items) }
+fn due_for_run(alloc: Global, account: Account, steps: u32, bytes: &[u8]) -> Result<DueText, NoText>
+    ensures due { IfOk result (λ d. IsRunAnswer account steps bytes.now d.status d.kept d.text.items) }
     ensures unfailed { OnFailed result ⊥ }
 {
     match read(alloc, bytes) {
-        Ok(scenario) => Ok(answered(alloc, options, scenario.decls())?),
+        Ok(scenario) => Ok(answered(alloc, account, steps, scenario.decls())?),
         Err(ScenarioFault::Bad { line, rule }) => Ok(faulty(alloc, line, rule)?),
         Err(ScenarioFault::NoMemory) => Err(NoText::NoMemory),
     }
@@ -173,11 +176,11 @@ fn due_by_check(checked: Checked) -> DueText
 }
 
 // What is due for the check of a scenario and a journal, whose bytes were read to their end.
-fn due_for_check(alloc: Global, options: &Options, bytes: &[u8]) -> Result<DueText, NoText>
-    ensures due { IfOk result (λ d. IsCheckAnswer options.now.steps bytes.now d.status d.kept d.text.items) }
+fn due_for_check(alloc: Global, steps: u32, bytes: &[u8]) -> Result<DueText, NoText>
+    ensures due { IfOk result (λ d. IsCheckAnswer steps bytes.now d.status d.kept d.text.items) }
     ensures unfailed { OnFailed result ⊥ }
 {
-    match answer(alloc, bytes, u64::from(options.steps)) {
+    match answer(alloc, bytes, u64::from(steps)) {
         Ok(checked) => Ok(due_by_check(checked)),
         Err(ScenarioFault::Bad { line, rule }) => Ok(faulty(alloc, line, rule)?),
         Err(ScenarioFault::NoMemory) => Err(NoText::NoMemory),
@@ -189,9 +192,13 @@ fn due_for(alloc: Global, options: &Options, bytes: &[u8]) -> Result<DueText, No
     ensures due { IfOk result (λ d. IsAnswer options.now bytes.now d.status d.kept d.text.items) }
     ensures unfailed { OnFailed result ⊥ }
 {
+    let steps = options.steps;
+    let seed = options.seed;
     match options.mode {
-        Mode::Run | Mode::Journal | Mode::Gen => due_for_run(alloc, options, bytes),
-        Mode::Check => due_for_check(alloc, options, bytes),
+        Mode::Run => due_for_run(alloc, Account::Report, steps, bytes),
+        Mode::Journal => due_for_run(alloc, Account::Journal, steps, bytes),
+        Mode::Gen => due_for_run(alloc, Account::Summary { seed }, steps, bytes),
+        Mode::Check => due_for_check(alloc, steps, bytes),
     }
 }
 

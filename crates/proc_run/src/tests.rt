@@ -90,6 +90,20 @@ thread 0 badcall 10 out 0\n",
 }
 
 #[test]
+fn no_beginning_is_a_scenario(rt: HostRuntime) -> Result<(), Fail> {
+    let no_words = Words::new(rt.alloc());
+    let whole = HELLO.len();
+    for cut in 2..whole + 1 {
+        let (status, _) = run_over(&rt, &no_words, &HELLO[..whole - cut], &[], &[])?;
+        assert_eq!(rt; status, 5);
+    }
+    let (status, held) = run_over(&rt, &no_words, &HELLO[..whole - 1], &[], &[])?;
+    assert_eq!(rt; status, 0);
+    assert_eq!(rt; held.as_slice(), HELLO_REPORT);
+    Ok(())
+}
+
+#[test]
 fn programs_and_their_reports(rt: HostRuntime) -> Result<(), Fail> {
     let cases: [(&[u8], u8, &[u8]); 7] = [
         // Adds one to a word of memory, stores it behind, and puts out its low byte.
@@ -191,6 +205,7 @@ fn each_write_fails(rt: HostRuntime) -> Result<(), Fail> {
     assert!(rt; writes_fail_in_turn(&rt, &["--mode", "journal"], 28)?);
     assert!(rt; writes_fail_in_turn(&rt, &["x"], 8)?);
     assert!(rt; writes_fail_in_turn(&rt, &["--mode", "gen", "--steps", "1"], 4)?);
+    assert!(rt; writes_fail_in_turn(&rt, &["--mode", "check"], 3)?);
     Ok(())
 }
 
@@ -208,6 +223,7 @@ fn each_read_fails(rt: HostRuntime) -> Result<(), Fail> {
     for at in 0..4 {
         assert_eq!(rt; read_fails(&rt, &[], at)?, (3, 0));
         assert_eq!(rt; read_fails(&rt, &["--mode", "journal"], at)?, (3, 0));
+        assert_eq!(rt; read_fails(&rt, &["--mode", "check"], at)?, (3, 0));
     }
     assert_eq!(rt; read_fails(&rt, &[], 4)?, (0, HELLO_REPORT.len()));
     assert_eq!(rt; read_fails(&rt, &["x"], 0)?, (7, USAGE.len()));

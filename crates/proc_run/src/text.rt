@@ -1,4 +1,4 @@
-//! The text of a run, by its mode.
+//! What is written of a run.
 
 ghost use Rattle.std.specs.Prelude.{◌≡◌, ◌≢◌, ◌+◌, ◌++◌, IfOk, length};
 ghost use Rattle.flat_state.specs.declared.records.Settled.TheVariants.{Running};
@@ -10,8 +10,18 @@ use flat_machine::{Flat, FlatThread, NoMemory};
 use flat_report::report;
 use journal_text::print;
 use report_text::summary;
-use run_words::{Mode, Options};
 use std::alloc::{AllocError, Global};
+
+/// What is written of a run.
+#[derive(Clone, Copy)]
+pub enum Account {
+    /// Its report.
+    Report,
+    /// Its journal, and behind it its report.
+    Journal,
+    /// The summary of the run of the scenario that is made from that seed.
+    Summary { seed: u32 },
+}
 
 // The bytes so far, and those that a thread put out. No memory holds 2^64 of them.
 fn with_output(bytes: u64, thread: &FlatThread) -> Result<u64, NoMemory>
@@ -45,21 +55,19 @@ fn summary_of(alloc: Global, seed: u32, run: &Finished) -> Result<Vec<u8>, NoMem
     summary(alloc, seed, run.settled, run.steps, threads, bytes)
 }
 
-/// The text that a run is answered with: its report, behind its journal in that mode; or its summary.
-pub fn text(alloc: Global, options: &Options, run: &Finished) -> Result<Vec<u8>, NoMemory>
-    requires over { run.now.settled ≢ Running }
-    requires runs { options.now.mode ≢ Mode.Check }
-    ensures { IfOk result (λ text. text.items ≡ text_of options.now run.now.journal.entries run.now.flat run.now.settled run.now.steps) }
+/// The text of an account of a run.
+pub fn text(alloc: Global, account: Account, run: &Finished) -> Result<Vec<u8>, NoMemory>
+    requires { run.now.settled ≢ Running }
+    ensures { IfOk result (λ text. text.items ≡ text_of account run.now.journal.entries run.now.flat run.now.settled run.now.steps) }
 {
-    match options.mode {
-        Mode::Run => report(alloc, &run.flat, run.settled, run.steps),
-        Mode::Journal => {
+    match account {
+        Account::Report => report(alloc, &run.flat, run.settled, run.steps),
+        Account::Journal => {
             let mut text = print(alloc, &run.journal)?;
             let report = report(alloc, &run.flat, run.settled, run.steps)?;
             text.extend_from_slice(&report)?;
             Ok(text)
         }
-        Mode::Gen => summary_of(alloc, options.seed, run),
-        Mode::Check => unreachable!(),
+        Account::Summary { seed } => summary_of(alloc, seed, run),
     }
 }

@@ -11,6 +11,7 @@ use Rattle.clap.specs.declared.error.kind.ErrorKind.TheVariants.{OutOfMemory}
 use Rattle.clap.proofs.OnLiterals.{clap_on_literals}
 use Rattle.run_words.specs.declared.options.Options.{Options}
 use Rattle.run_words.specs.Command.{command}
+use Rattle.run_words.specs.Examples.{AreTaken, AreRefused}
 use Rattle.run_words.specs.declared.options.WordsFault.{WordsFault}
 use Rattle.run_words.specs.declared.options.WordsFault.TheVariants.{NoMemory, Refused}
 use Rattle.run_words.specs.Options.{by_default, fault_by, IsReading, options, options_in}
@@ -65,3 +66,13 @@ no_words = refl
 pub by_default_so : (words : List Text) (r : Result Options WordsFault) → words ≡ [] → IsReading words r → IfOk r (λ o. o ≡ by_default)
 by_default_so words (Ok o) none meant = same_Some o by_default (sym meant ∙ (ap options none ∙ no_words))
 by_default_so words (Err fault) none meant = tt
+
+-- ---- examples
+
+pub examples_are_taken : AreTaken
+unfolding options options_in clap_on_literals
+examples_are_taken = refl
+
+pub examples_are_refused : AreRefused
+unfolding options options_in clap_on_literals
+examples_are_refused = refl

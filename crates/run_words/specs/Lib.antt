@@ -1,2 +1,4 @@
 pub mod Command
 pub mod Options
+pub mod Examples
+pub mod Values

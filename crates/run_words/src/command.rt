@@ -3,6 +3,8 @@
 ghost use Rattle.std.specs.Prelude.{◌≡◌, [], false, IfOk};
 ghost use Rattle.clap.specs.Words.{app_of, rule_of, found_of, rows_of};
 ghost use Rattle.run_words.specs.Command.{option, bare, command};
+ghost use Rattle.run_words.specs.Examples.{AreTaken, AreRefused};
+ghost use Rattle.run_words.specs.Values.{ModesAreNamed, NumbersHaveRanges};
 ghost use Rattle.run_words.specs.Options.{mode_in, number_in, options_in, fault_by, IsReading, by_default};
 
 use crate::options::{Mode, Options, WordsFault};
@@ -107,3 +109,18 @@ pub fn read(alloc: Global, words: &Words) -> Result<Options, WordsFault>
         Err(error) => Err(fault_by(error.kind())),
     }
 }
+
+/// Which words `read` takes, and what it makes of them: of each option alone with any value, and of several by examples.
+pub fn which_words_are_taken()
+    // A mode is one of the four names.
+    ensures modes { ModesAreNamed }
+
+    // A number is one in decimal digits that lies in its option's range.
+    ensures ranges { NumbersHaveRanges }
+
+    // Each of these is taken, and asks for what stands beside it.
+    ensures taken { AreTaken }
+
+    // None of these is.
+    ensures refused { AreRefused }
+{}

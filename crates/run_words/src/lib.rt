@@ -5,7 +5,7 @@ mod command;
 mod options;
 mod words;
 
-pub use command::read;
+pub use command::{read, which_words_are_taken};
 pub use options::{Mode, Options, WordsFault};
 pub use std::alloc::AllocError as NoMemory;
 pub use words::Words;
