@@ -4,6 +4,7 @@ use Rattle.std.specs.List.{find, insert}
 use Rattle.std.specs.Prelude.{if◌then◌else◌, OnErr, OnOk, Result, Ok, Err}
 use Rattle.std.proofs.lemmas.Bool.{false≢true}
 use Rattle.std.specs.Option.{option_map}
+use Rattle.std.specs.Ordering.{nat_cmp}
 use Rattle.std.proofs.lemmas.List.{get_or_default}
 use Rattle.std.proofs.lemmas.List.Edits.{length-insert, length-remove}
 use Rattle.std.proofs.lemmas.List.Elements.{All-cons, All-contains, Contains-get_or}
@@ -11,12 +12,15 @@ use Rattle.cache_ident.specs.declared.names.Name.{Name}
 use Rattle.cache_ident.specs.contracts.names.NameOrd.TheImpl as order
 use Rattle.cache_ident.specs.contracts.names.NameOrd.TheImpl.Laws as laws
 use Rattle.sorted_list.specs.Sorted.{IsAdded, IsTakenOut, Sorted}
+use Rattle.sorted_list.specs.Sorted.{IsProper as IsProperList}
+use Rattle.growing_list.specs.Index.{IsIndex}
+use Rattle.growing_list.proofs.IndexLemmas.{index_grown}
 use Rattle.slab.specs.Slab.{Slab, get, slab_len, ContainsKey, HasRoomFor, Updates}
 use Rattle.slot_cache.proofs.IndexLemmas.{inserted, once, removed}
+use Rattle.slot_cache.proofs.NameLemmas.{same_name}
 use Rattle.slot_cache.proofs.SlotLemmas.{pair_same}
 use Rattle.owner_shelf.specs.declared.shelved.Shelved.{Shelved}
 use Rattle.owner_shelf.specs.Rows.{OnShelf, content_under, is_named, row_under, rows_without, HasNoRow, IsProper}
-use Rattle.owner_shelf.specs.Index.{IsIndex}
 use Rattle.owner_shelf.specs.Layout.{row_at, rows_in, IsKept, IsSound}
 use Rattle.owner_shelf.proofs.NameLemmas.{eq_same}
 use Rattle.owner_shelf.proofs.ShelfLemmas.{absent_in, length-rows_in, none_under, others_apart, row_in, rows_apart, rows_in-insert, rows_in-remove, rows_in-same, rows_once}
@@ -78,7 +82,7 @@ module _ {R : Type 0} (called : R → Name) (records : Slab (Shelved R)) (index 
   name_absent seen is name absent = absent_in called records.slots name index.entries sound.kept (subst (λ (s : OnShelf R). HasNoRow called s.rows name) (sym is) absent)
 
   -- where there is more memory, there may be more room
-  pub sound_grown : (new : Slab (Shelved R)) (new_index : Sorted Name ℕ) → new.slots ≡ records.slots → new_index.entries ≡ index.entries → IsIndex new_index → new_index.room ≤ new.capacity → IsSound called new new_index
+  pub sound_grown : (new : Slab (Shelved R)) (new_index : Sorted Name ℕ) → new.slots ≡ records.slots → new_index.entries ≡ index.entries → IsIndex (order.ghosts).cmp new_index → new_index.room ≤ new.capacity → IsSound called new new_index
   sound_grown new new_index slots entries proper roomy = record {
     index_is = proper;
     kept = rw (slots, entries) sound.kept;
@@ -87,9 +91,13 @@ module _ {R : Type 0} (called : R → Name) (records : Slab (Shelved R)) (index 
   }
 
   -- whether the index has grown or not
-  pub sound_after : {A B : Type 0} (result : Result A B) (room : ℕ) (new : Slab (Shelved R)) (new_index : Sorted Name ℕ) → OnOk result (new_index ≡ record index { room = room }) → OnErr result (new_index ≡ index) → IsIndex new_index → new.slots ≡ records.slots → index.room ≤ room → room ≤ new.capacity → IsSound called new new_index
-  sound_after (Ok x) room new new_index ok err proper slots grows roomy = sound_grown new new_index slots (ap (λ (s : Sorted Name ℕ). s.entries) ok) proper (rw (ap (λ (s : Sorted Name ℕ). s.room) ok) roomy)
-  sound_after (Err e) room new new_index ok err proper slots grows roomy = sound_grown new new_index slots (ap (λ (s : Sorted Name ℕ). s.entries) err) proper (rw (ap (λ (s : Sorted Name ℕ). s.room) err) (omega (arith, grows, roomy)))
+  pub sound_after : {A B : Type 0} (result : Result A B) (room : ℕ) (new : Slab (Shelved R)) (new_index : Sorted Name ℕ) → OnOk result (new_index ≡ record index { room = room }) → OnErr result (new_index ≡ index) → IsProperList (order.ghosts).cmp nat_cmp new_index → new.slots ≡ records.slots → index.room ≤ room → room ≤ new.capacity → IsSound called new new_index
+  sound_after (Ok x) room new new_index ok err proper slots grows roomy =
+      let same = ap (λ (s : Sorted Name ℕ). s.entries) ok in
+      sound_grown new new_index slots same (index_grown (order.ghosts).cmp laws.total-law same_name nat_cmp index new_index sound.index_is same proper) (rw (ap (λ (s : Sorted Name ℕ). s.room) ok) roomy)
+  sound_after (Err e) room new new_index ok err proper slots grows roomy =
+      let same = ap (λ (s : Sorted Name ℕ). s.entries) err in
+      sound_grown new new_index slots same (index_grown (order.ghosts).cmp laws.total-law same_name nat_cmp index new_index sound.index_is same proper) (rw (ap (λ (s : Sorted Name ℕ). s.room) err) (omega (arith, grows, roomy)))
 
   module _ (new : Slab (Shelved R)) (new_index : Sorted Name ℕ) (name : Name) (key : ℕ) where
     -- a row came to a key at which nothing lay
@@ -114,7 +122,7 @@ module _ {R : Type 0} (called : R → Name) (records : Slab (Shelved R)) (index 
             | inr was ↦ All-contains (IsKept called new.slots) index.entries e still_kept was
           ]
 
-      pub sound_put : IsAdded index.entries new_index.entries (name, key) → slab_len new ≡ slab_len records + 1 → new.capacity ≡ records.capacity → new_index.room ≡ index.room → IsIndex new_index → IsSound called new new_index
+      pub sound_put : IsAdded index.entries new_index.entries (name, key) → slab_len new ≡ slab_len records + 1 → new.capacity ≡ records.capacity → new_index.room ≡ index.room → IsIndex (order.ghosts).cmp new_index → IsSound called new new_index
       sound_put added len capacity room proper =
           let longer = ap length added.2 ∙ length-insert index.entries added.0 (name, key) added.1 in
           record {
@@ -156,7 +164,7 @@ module _ {R : Type 0} (called : R → Name) (records : Slab (Shelved R)) (index 
       left_still : All (λ entry. row_at new.slots entry.1 ≡ row_at records.slots entry.1) new_index.entries
       left_still k d within = updates.others (get_or new_index.entries k d).1 (own_key (get_or new_index.entries k d) (Contains-get_or new_index.entries k d within)).1
 
-      pub sound_take : slab_len new + 1 ≡ slab_len records → new.capacity ≡ records.capacity → new_index.room ≡ index.room → IsIndex new_index → IsSound called new new_index
+      pub sound_take : slab_len new + 1 ≡ slab_len records → new.capacity ≡ records.capacity → new_index.room ≡ index.room → IsIndex (order.ghosts).cmp new_index → IsSound called new new_index
       sound_take len capacity room proper =
           let shorter = length-remove index.entries taken.0 taken.1 in
           let fewer = ap length taken.3 in

@@ -1,9 +1,10 @@
 -- Where the rows of a shelf lie.
 use Rattle.std.specs.Prelude.{◌≡◌, ℕ, ◌≤◌, List, length, All, Option, Some, None, filter_map, slice_index_or}
 use Rattle.cache_ident.specs.declared.names.Name.{Name}
+use Rattle.cache_ident.specs.contracts.names.NameOrd.TheImpl as names
 use Rattle.sorted_list.specs.Sorted.{Sorted}
+use Rattle.growing_list.specs.Index.{IsIndex}
 use Rattle.slab.specs.Slab.{Slab, slab_len}
-use Rattle.owner_shelf.specs.Index.{IsIndex}
 use Rattle.owner_shelf.specs.declared.shelved.Shelved.{Shelved}
 
 module _ {R : Type 0} where
@@ -22,7 +23,7 @@ module _ {R : Type 0} (called : R → Name) where
 
   -- for each name its row lies at its key, nothing else lies there, and there is memory for as many as there is room for
   pub record IsSound (records : Slab (Shelved R)) (index : Sorted Name ℕ) : Type 0 where
-    pub index_is : IsIndex index
+    pub index_is : IsIndex (names.ghosts).cmp index
     pub kept : All (IsKept records.slots) index.entries
     pub counted : slab_len records ≡ length index.entries
     pub roomy : index.room ≤ records.capacity

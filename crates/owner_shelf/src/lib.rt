@@ -1,7 +1,6 @@
 //! The descriptors of a kind that aren't loaded: each stands with its owner, under its name.
 #![tactic(auto)]
 
-mod names;
 mod shelf;
 mod shelved;
 #[cfg(test)]

@@ -5,9 +5,9 @@ ghost use Rattle.std.specs.Option.{option_map};
 ghost use Rattle.sorted_list.specs.Sorted.{IsAdded};
 ghost use Rattle.owner_shelf.specs.Rows.{content_under, row_under, rows_without, HasNoRow, IsProper};
 
-use super::names::NameIndex;
 use super::shelved::Shelved;
 use cache_ident::{KernelNo, Name, NoMemory};
+use growing_list::GrowingList;
 use slab::Slab;
 use slot_cache::Descriptor;
 use std::alloc::Global;
@@ -22,7 +22,7 @@ use std::marker::Model;
 pub struct Shelf<R: Descriptor> {
     records: Slab<Shelved<R>>,
     // Where in `records` the row of each name lies.
-    by_name: NameIndex,
+    by_name: GrowingList<Name, usize>,
 }
 
 impl<R: Descriptor> Model for Shelf<R> {
@@ -44,7 +44,7 @@ impl<R: Descriptor + Drop> Shelf<R> {
     {
         Shelf {
             records: Slab::new(alloc),
-            by_name: NameIndex::new(alloc),
+            by_name: GrowingList::new(alloc),
         }
     }
 

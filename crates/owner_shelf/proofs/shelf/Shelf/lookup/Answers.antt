@@ -1,13 +1,14 @@
 use Rattle.std.proofs.Common.{refl, sym, ap, ◌∙◌}
 use Rattle.std.specs.Option.{option_map}
 use Rattle.owner_shelf.specs.declared.shelved.Shelved.{Shelved}
+use Rattle.owner_shelf.proofs.NameLemmas.{found_name, no_name}
 use Rattle.owner_shelf.proofs.SoundLemmas.{lies, none_seen, proper_seen, row_seen}
 use Rattle.owner_shelf.proofs.shelf.Shelf.lookup.Goals as goal
 
 pub returns-in_err-key-clause-value : goal.returns-in_err-key-clause-value
 returns-in_err-key-clause-value g c =
     let i = c.self.inside in
-    let none = none_seen g.R.Descriptor.called i.records i.by_name c.self.invariant c.args.self.now c.self.view_is c.args.name c.in_err-key.ensures.absent in
+    let none = none_seen g.R.Descriptor.called i.records i.by_name c.self.invariant c.args.self.now c.self.view_is c.args.name (no_name i.by_name.entries c.args.name c.in_err-key.ensures.value) in
     rw (c.from_residual.ensures, none) refl
 
 pub returns-in_err-key-clause-proper : goal.returns-in_err-key-clause-proper
@@ -18,12 +19,12 @@ returns-in_err-key-clause-proper g c =
 pub index-requires : goal.index-requires
 index-requires g c =
     let i = c.self.inside in
-    lies g.R.Descriptor.called i.records i.by_name c.self.invariant c.args.name c.in_ok-key.key c.in_ok-key.ensures.found
+    lies g.R.Descriptor.called i.records i.by_name c.self.invariant c.args.name c.in_ok-key.key (found_name i.by_name.entries c.args.name c.in_ok-key.key c.in_ok-key.ensures.value)
 
 pub returns-clause-value : goal.returns-clause-value
 returns-clause-value g c =
     let i = c.self.inside in
-    let row = row_seen g.R.Descriptor.called i.records i.by_name c.self.invariant c.args.self.now c.self.view_is c.args.name c.in_ok-key.key c.in_ok-key.ensures.found in
+    let row = row_seen g.R.Descriptor.called i.records i.by_name c.self.invariant c.args.self.now c.self.view_is c.args.name c.in_ok-key.key (found_name i.by_name.entries c.args.name c.in_ok-key.key c.in_ok-key.ensures.value) in
     sym (ap (option_map (λ (r : Shelved g.row.R.Denot). r.content)) (row ∙ c.index.ensures))
 
 pub returns-clause-proper : goal.returns-clause-proper

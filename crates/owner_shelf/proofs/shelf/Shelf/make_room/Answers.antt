@@ -16,7 +16,7 @@ invariant_of-self-2 g c =
     let e = c.reserve.ensures in
     let room = 2 * c.room.result + 1 in
     let slots = ap (λ (s : Slab (Shelved g.row.R.Denot)). s.slots) e.rest_kept in
-    let roomy : room ≤ c.reserve.new.self.capacity = omega (arith, c.in_ok-reserve.ensures.room, ap (λ l. count_by is_some l) slots, c.self.invariant.counted, c.self.invariant.index_is.few, c.room.ensures.room, c.len.ensures) in
+    let roomy : room ≤ c.reserve.new.self.capacity = omega (arith, c.in_ok-reserve.ensures.room, ap (λ l. count_by is_some l) slots, c.self.invariant.counted, c.self.invariant.index_is.few, c.room.ensures.room, c.len.ensures.len) in
     sound_after g.R.Descriptor.called i.records i.by_name c.self.invariant c.grow.result room c.reserve.new.self c.grow.new.self c.grow.ensures.ok c.grow.ensures.err c.grow.ensures.proper slots (omega (arith, c.room.ensures.room)) roomy
 
 pub returns-clause-proper : goal.returns-clause-proper

@@ -1,5 +1,7 @@
 use Rattle.std.proofs.Common.{sym}
+use Rattle.std.specs.Ordering.{nat_cmp}
 use Rattle.owner_shelf.specs.declared.shelved.Shelved.{Shelved}
+use Rattle.owner_shelf.proofs.NameLemmas.{entry_absent, names_added}
 use Rattle.owner_shelf.proofs.SoundLemmas.{has_place, has_room, name_absent, proper, rows_put, sound_put}
 use Rattle.owner_shelf.proofs.shelf.Shelf.put_back.Goals as goal
 
@@ -11,7 +13,8 @@ insert_reserved-key-requires g c =
 pub insert-requires-clause-absent : goal.insert-requires-clause-absent
 insert-requires-clause-absent g c =
     let i = c.self.inside in
-    name_absent g.R.Descriptor.called i.records i.by_name c.self.invariant c.args.self.now c.self.view_is c.name-name.result (rw c.name-name.ensures c.requires.absent)
+    let absent = name_absent g.R.Descriptor.called i.records i.by_name c.self.invariant c.args.self.now c.self.view_is c.name-name.result (rw c.name-name.ensures c.requires.absent) in
+    entry_absent nat_cmp i.by_name.entries c.name-name.result c.insert_reserved-key.result absent
 
 pub insert-requires-clause-room : goal.insert-requires-clause-room
 insert-requires-clause-room g c =
@@ -22,7 +25,9 @@ pub invariant_of-self : goal.invariant_of-self
 invariant_of-self g c =
     let i = c.self.inside in
     let e = c.insert_reserved-key.ensures in
-    sound_put g.R.Descriptor.called i.records i.by_name c.self.invariant c.insert_reserved-key.new.self c.insert.new.self c.name-name.result c.insert_reserved-key.result (record { owner = c.args.owner; content = c.args.value }) e.was_vacant e.updates (sym c.name-name.ensures) c.insert.ensures.entries e.len e.capacity c.insert.ensures.room c.insert.ensures.proper
+    let absent = name_absent g.R.Descriptor.called i.records i.by_name c.self.invariant c.args.self.now c.self.view_is c.name-name.result (rw c.name-name.ensures c.requires.absent) in
+    let index = names_added nat_cmp i.by_name c.insert.new.self c.name-name.result c.insert_reserved-key.result c.self.invariant.index_is c.insert.ensures.proper absent c.insert.ensures.entries in
+    sound_put g.R.Descriptor.called i.records i.by_name c.self.invariant c.insert_reserved-key.new.self c.insert.new.self c.name-name.result c.insert_reserved-key.result (record { owner = c.args.owner; content = c.args.value }) e.was_vacant e.updates (sym c.name-name.ensures) c.insert.ensures.entries e.len e.capacity c.insert.ensures.room index
 
 pub returns-clause-rows : goal.returns-clause-rows
 returns-clause-rows g c =

@@ -1,0 +1,4 @@
+pub mod ListLemmas
+pub mod SignalLemmas
+pub mod ContentLemmas
+pub mod SoundLemmas

@@ -1,0 +1,11 @@
+//! The rows, each loaded or on the shelf of its owner, in declared order and by frame.
+#![tactic(auto)]
+
+mod iter;
+mod signals;
+mod store;
+#[cfg(test)]
+mod tests;
+
+pub use iter::SignalRows;
+pub use store::RowStore;

@@ -1,0 +1,166 @@
+//! Rows that are declared, loaded, listed and retracted.
+
+ghost use Rattle.std.specs.Prelude.{◌≡◌, None, IfOk, IsSome, IsTrue};
+ghost use Rattle.cache_ident.specs.declared.idents.Kind.TheVariants.{Mapping};
+ghost use Rattle.mapping_cache.specs.Frames.{FrameIs};
+ghost use Rattle.slot_cache.specs.Cells.{IsFull, IsLoaded, NameIs};
+ghost use Rattle.slot_cache.specs.Rows.{row_name};
+ghost use Rattle.owner_shelf.specs.Rows.{content_under};
+ghost use Rattle.kind_store.specs.Kept.{content_of};
+ghost use Rattle.kind_store.specs.Rolls.{AreEnrolled};
+ghost use Rattle.row_store.specs.Kept.{ReceiverIs};
+
+use crate::RowStore;
+use cache_ident::{Frame, Ident, KernelNo, Name, NoMemory, Roll, SpaceNo, ThreadNo, Vpn};
+use phys_groups::{Flags, Row};
+use slot_cache::Descriptor;
+use std::alloc::Global;
+use std::process::Abort;
+use std::test::Fail;
+
+fn row(page: u32, frame: u32, receiver: Option<u32>) -> Row {
+    Row {
+        space: SpaceNo(1),
+        vpn: Vpn(page),
+        frame: Frame(frame),
+        flags: Flags::default(),
+        receiver: receiver.map(ThreadNo),
+        referenced: false,
+        modified: false,
+    }
+}
+
+fn page(no: u32) -> Name {
+    Name::Mapping(SpaceNo(1), Vpn(no))
+}
+
+// An empty store and an empty roll.
+fn start(alloc: Global, cap: u32) -> Result<(RowStore, Roll), NoMemory>
+    ensures { IfOk result (λ both. AreEnrolled Mapping both.1.issued both.0.kept.cells) }
+{
+    let store = RowStore::new(alloc, cap)?;
+    let roll = Roll::new(alloc);
+    Ok((store, roll))
+}
+
+fn is_absent(store: &RowStore, row: &Row) -> bool
+    ensures { IsTrue result → content_of row_name store.now.kept (row_name row.now) ≡ None }
+{
+    store.item(row.name()).is_none()
+}
+
+fn is_shelved(store: &RowStore, name: Name) -> bool
+    ensures { IsTrue result → IsSome (content_under row_name store.now.kept.rows name) }
+{
+    store.owner_of(name).is_some()
+}
+
+fn has_place(store: &RowStore) -> bool
+    ensures { IsTrue result → IsFull store.now.kept.cells → ⊥ }
+{
+    store.free().is_some()
+}
+
+fn is_loaded(store: &RowStore, ident: Ident) -> bool
+    ensures { IsTrue result → IsLoaded store.now.kept.cells ident }
+{
+    store.get(ident).is_some()
+}
+
+// Makes room for a row and puts it on the shelf.
+fn declare(rt: &impl Abort, store: &mut RowStore, row: Row) -> Result<(), NoMemory>
+    ensures { store.new.kept.cells ≡ store.old.kept.cells }
+{
+    if store.room() == 0 {
+        store.make_room()?;
+    }
+    assert!(rt; store.room() > 0);
+    assert!(rt; is_absent(store, &row));
+    store.declare(KernelNo(2), row);
+    Ok(())
+}
+
+fn load(rt: &impl Abort, store: &mut RowStore, roll: &mut Roll, no: u32) -> Ident
+    requires { AreEnrolled Mapping roll.old.issued store.old.kept.cells }
+    ensures { AreEnrolled Mapping roll.new.issued store.new.kept.cells }
+{
+    assert!(rt; is_shelved(store, page(no)));
+    assert!(rt; has_place(store));
+    assert!(rt; roll.spare() > 0);
+    store.load(page(no), roll)
+}
+
+fn leave(rt: &impl Abort, store: &mut RowStore, roll: &mut Roll, ident: Ident)
+    requires { AreEnrolled Mapping roll.old.issued store.old.kept.cells }
+    ensures { AreEnrolled Mapping roll.new.issued store.new.kept.cells }
+{
+    assert!(rt; is_loaded(store, ident));
+    store.leave(ident, KernelNo(2), roll, 40);
+}
+
+fn retract(rt: &impl Abort, store: &mut RowStore, no: u32) -> Row {
+    assert!(rt; is_shelved(store, page(no)));
+    store.retract(page(no))
+}
+
+#[test]
+fn rows_are_listed_in_declared_order(rt: HostRuntime) -> Result<(), Fail> {
+    let (mut store, mut roll) = start(rt.alloc(), 2)?;
+    roll.reserve(2)?;
+    declare(&rt, &mut store, row(7, 3, Some(0)))?;
+    declare(&rt, &mut store, row(5, 3, None))?;
+    declare(&rt, &mut store, row(2, 3, Some(1)))?;
+    declare(&rt, &mut store, row(9, 4, Some(1)))?;
+    assert!(rt; store.names().eq([7, 5, 2, 9].map(page)));
+    assert!(rt; store.signal_rows(Frame(3)).eq([7, 2].map(page)));
+    assert!(rt; store.signal_rows(Frame(4)).eq([page(9)]));
+    assert!(rt; store.signal_rows(Frame(5)).next().is_none());
+    let ident = load(&rt, &mut store, &mut roll, 7);
+    assert!(rt; store.signal_rows(Frame(3)).eq([7, 2].map(page)));
+    assert!(rt; store.of_frame(Frame(3)).eq([ident]));
+    leave(&rt, &mut store, &mut roll, ident);
+    assert!(rt; store.of_frame(Frame(3)).next().is_none());
+    assert!(rt; retract(&rt, &mut store, 7) == row(7, 3, Some(0)));
+    assert!(rt; store.names().eq([5, 2, 9].map(page)));
+    assert!(rt; store.signal_rows(Frame(3)).eq([page(2)]));
+    declare(&rt, &mut store, row(7, 3, Some(0)))?;
+    assert!(rt; store.names().eq([5, 2, 9, 7].map(page)));
+    assert!(rt; store.signal_rows(Frame(3)).eq([2, 7].map(page)));
+    assert_eq!(rt;
+        (store.names().len(), store.signal_rows(Frame(3)).len()),
+        (4, 2)
+    );
+    Ok(())
+}
+
+// Whether the name is loaded with that identifier, as a row of frame 3 for thread 0.
+fn is_loaded_as(store: &RowStore, ident: Ident, name: Name) -> bool
+    ensures loaded { IsTrue result → IsLoaded store.now.kept.cells ident }
+    ensures name { IsTrue result → NameIs row_name store.now.kept.cells ident.slot name }
+    ensures frame { IsTrue result → FrameIs store.now.kept.cells ident.slot (record { 0 = 3 }) }
+{
+    match store.get(ident) {
+        Some(row) => row.name() == name && row.frame == Frame(3),
+        None => false,
+    }
+}
+
+#[test]
+fn a_row_changes_in_its_slot(rt: HostRuntime) -> Result<(), Fail> {
+    let (mut store, mut roll) = start(rt.alloc(), 1)?;
+    roll.reserve(1)?;
+    declare(&rt, &mut store, row(7, 3, Some(0)))?;
+    let ident = load(&rt, &mut store, &mut roll, 7);
+    assert!(rt; is_loaded(&store, ident));
+    store.update(ident, |row| row.modified = true);
+    assert!(rt; store.loaded().all(|loaded| loaded.value.modified));
+    assert!(rt; store.resident(page(7)) == Some(ident));
+    assert!(rt; is_loaded(&store, ident));
+    store.lock(ident);
+    assert!(rt; store.victim(&[]).is_none());
+    assert!(rt; is_loaded(&store, ident));
+    assert!(rt; store.is_locked(ident));
+    store.unlock(ident);
+    assert!(rt; store.victim(&[]) == Some(ident));
+    Ok(())
+}
