@@ -9,9 +9,10 @@ use cache_ident::{Caps, Cause, Ident, KernelNo, Kind, Name, SpaceNo, ThreadNo, V
 use phys_groups::Flags;
 use text_fields::skip;
 
-/// The number that the digits at the front write.
+/// The number that the digits at the front write, and what follows them: 0 where there are none. None where it needs
+/// more than 64 bits.
 #[tactic(auto, unfolding(crate::specs::Reading::number_from))]
-pub(crate) fn number(bytes: &[u8]) -> Option<(u64, &[u8])>
+pub fn number(bytes: &[u8]) -> Option<(u64, &[u8])>
     ensures { Gives (λ x. (x.0, x.1.now)) result (number_at bytes.now) }
 {
     let mut number = 0u64;
@@ -43,9 +44,9 @@ pub(crate) fn small(bytes: &[u8]) -> Option<(u32, &[u8])>
     Some((number as u32, rest))
 }
 
-/// A space and a number of 32 bits.
+/// The number of 32 bits behind a space, and what follows it.
 #[tactic(auto, unfolding(crate::specs::Reading::field_at))]
-pub(crate) fn field(bytes: &[u8]) -> Option<(u32, &[u8])>
+pub fn field(bytes: &[u8]) -> Option<(u32, &[u8])>
     ensures { Gives (λ x. (x.0, x.1.now)) result (field_at bytes.now) }
 {
     small(skip(bytes, b" ")?)
@@ -145,9 +146,9 @@ fn kind(bytes: &[u8]) -> Option<(Kind, &[u8])>
     }
 }
 
-/// An identifier: the letter of its kind, its slot, a dot and its serial.
+/// An identifier, as the letter of its kind, its slot, a dot and its serial, and what follows it.
 #[tactic(auto, unfolding(crate::specs::Reading::ident_at))]
-pub(crate) fn ident(bytes: &[u8]) -> Option<(Ident, &[u8])>
+pub fn ident(bytes: &[u8]) -> Option<(Ident, &[u8])>
     ensures { Gives (λ x. (x.0, x.1.now)) result (ident_at bytes.now) }
 {
     let (kind, rest) = kind(bytes)?;

@@ -8,7 +8,9 @@ mod printing;
 mod reading;
 
 pub use fault::JournalFault;
-pub use printing::{print, put_flags, put_rights};
+pub use fields::{field, ident, number};
+pub use lines::entry_at;
+pub use printing::{print, put_decl, put_field, put_flags, put_ident, put_number, put_rights};
 pub use reading::read;
 
 #[cfg(test)]

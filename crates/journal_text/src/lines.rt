@@ -226,9 +226,10 @@ fn other(bytes: &[u8]) -> Option<Entry>
     Some(Entry::Sealed)
 }
 
-/// The one entry whose line may stand at the front of the bytes.
+/// The one entry whose line may stand at the front of the bytes. Whether it stands there is to be seen by comparing
+/// the bytes with its line.
 #[tactic(auto, unfolding(crate::specs::Reading::entry_at))]
-pub(crate) fn entry_at(bytes: &[u8]) -> Option<Entry>
+pub fn entry_at(bytes: &[u8]) -> Option<Entry>
     ensures { Gives (λ x. x) result (entry_at bytes.now) }
 {
     if let Some(entry) = other(bytes) {

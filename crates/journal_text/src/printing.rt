@@ -15,20 +15,21 @@ use run_journal::{Entry, Journal};
 use std::alloc::Global;
 use text_fields::put_word;
 
-fn number(out: &mut Vec<u8>, number: u64) -> Result<(), NoMemory>
+/// Adds a number in decimal.
+pub fn put_number(out: &mut Vec<u8>, number: u64) -> Result<(), NoMemory>
     ensures { OnOk result (out.new.items ≡ out.old.items ++ decimal number) }
 {
     let mut buffer = Buffer::new();
     out.extend_from_slice(buffer.format(number).as_bytes())
 }
 
-// A space and a number.
+/// Adds a space and a number.
 #[tactic(auto, unfolding(crate::specs::Lines::field))]
-fn put_field(out: &mut Vec<u8>, value: u32) -> Result<(), NoMemory>
+pub fn put_field(out: &mut Vec<u8>, value: u32) -> Result<(), NoMemory>
     ensures { OnOk result (out.new.items ≡ out.old.items ++ field value) }
 {
     out.extend_from_slice(b" ")?;
-    number(out, u64::from(value))
+    put_number(out, u64::from(value))
 }
 
 #[tactic(auto, unfolding(crate::specs::Lines::caps_text))]
@@ -80,13 +81,14 @@ fn put_receiver(out: &mut Vec<u8>, receiver: Option<ThreadNo>) -> Result<(), NoM
     }
 }
 
-fn put_ident(out: &mut Vec<u8>, ident: Ident) -> Result<(), NoMemory>
+/// Adds an identifier: the letter of its kind, its slot, a dot and its serial.
+pub fn put_ident(out: &mut Vec<u8>, ident: Ident) -> Result<(), NoMemory>
     ensures { OnOk result (out.new.items ≡ out.old.items ++ ident_text ident) }
 {
     out.push(ident.kind.letter() as u8)?;
-    number(out, u64::from(ident.slot))?;
+    put_number(out, u64::from(ident.slot))?;
     out.extend_from_slice(b".")?;
-    number(out, ident.serial)
+    put_number(out, ident.serial)
 }
 
 fn put_name(out: &mut Vec<u8>, name: Name) -> Result<(), NoMemory>
@@ -107,7 +109,7 @@ fn put_named(out: &mut Vec<u8>, kind: &[u8], no: u32) -> Result<(), NoMemory>
     ensures { OnOk result (out.new.items ≡ out.old.items ++ (kind.now ++ decimal no)) }
 {
     out.extend_from_slice(kind)?;
-    number(out, u64::from(no))
+    put_number(out, u64::from(no))
 }
 
 fn put_cause(out: &mut Vec<u8>, cause: Cause) -> Result<(), NoMemory>
@@ -139,8 +141,9 @@ fn put_fields(out: &mut Vec<u8>, word: &[u8], fields: &[u32]) -> Result<(), NoMe
     Ok(())
 }
 
+/// Adds a declaration, as its line has it before the line feed.
 #[tactic(auto, unfolding(crate::specs::Lines::decl_text))]
-fn put_decl(out: &mut Vec<u8>, decl: &Decl) -> Result<(), NoMemory>
+pub fn put_decl(out: &mut Vec<u8>, decl: &Decl) -> Result<(), NoMemory>
     ensures { OnOk result (out.new.items ≡ out.old.items ++ decl_text decl.now) }
 {
     match *decl {

@@ -1,5 +1,6 @@
 use super::*;
-use cache_ident::{Cause, Ident, Kind, Name, SpaceNo, Vpn};
+use cache_ident::{Cause, Ident, KernelNo, Kind, Name, SpaceNo, Vpn};
+use flat_state::Decl;
 use run_journal::{Entry, Journal};
 use std::test::Fail;
 
@@ -87,4 +88,35 @@ fn a_line_of_another_form_is_a_fault(rt: HostRuntime) {
             Err(fault) => assert_eq!(rt; fault, JournalFault::Line(line), "{text:?}"),
         }
     }
+}
+
+#[test]
+fn parts_of_a_line(rt: HostRuntime) -> Result<(), Fail> {
+    let row = Ident {
+        kind: Kind::Mapping,
+        slot: 0,
+        serial: 2,
+    };
+    assert!(rt; matches!(number(b"18446744073709551615 7"), Some((u64::MAX, b" 7"))));
+    assert!(rt; matches!(field(b" 7\n"), Some((7, b"\n"))));
+    assert!(rt; field(b"7\n").is_none());
+    match ident(b"M0.2 cpu 0") {
+        Some((read, rest)) => assert!(rt; read == row && rest == b" cpu 0".as_slice()),
+        None => panic!(rt; "the identifier is not read"),
+    }
+    assert_eq!(rt; entry_at(b"sealed\n"), Some(Entry::Sealed));
+    let space = Decl::Space {
+        no: SpaceNo(1),
+        kernel: KernelNo(0),
+    };
+    let mut text = Vec::new(rt.alloc());
+    put_decl(&mut text, &space)?;
+    put_field(&mut text, 7)?;
+    put_number(&mut text, u64::MAX)?;
+    put_ident(&mut text, row)?;
+    assert_eq!(rt;
+        text.as_slice(),
+        b"space 1 0 718446744073709551615M0.2".as_slice()
+    );
+    Ok(())
 }

@@ -8,6 +8,7 @@ mod words;
 pub use flat_state::Settled;
 pub use lines::{ReportLines, summary};
 pub use std::alloc::AllocError as NoMemory;
+pub use words::{access_text, reason_text, word_text};
 
 #[cfg(test)]
 mod tests;

@@ -103,3 +103,17 @@ fn a_summary(rt: HostRuntime) -> Result<(), Fail> {
     );
     Ok(())
 }
+
+#[test]
+fn words_of_a_fault(rt: HostRuntime) -> Result<(), Fail> {
+    let reason = Reason::Misaligned {
+        what: Misaligned::Jump,
+        va: 0x1e,
+    };
+    let text = reason_text(rt.alloc(), reason)?;
+    assert_eq!(rt; text.as_str(), "misaligned jump 0x0000001e");
+    let word = word_text(rt.alloc(), 0xfedc_ba98)?;
+    assert_eq!(rt; word.as_str(), "0xfedcba98");
+    assert_eq!(rt; access_text(Access::Fetch), "fetch");
+    Ok(())
+}

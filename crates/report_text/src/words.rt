@@ -29,7 +29,8 @@ fn kind_text(kind: FaultKind) -> &'static str
     }
 }
 
-fn access_text(access: Access) -> &'static str
+/// What an access is called: `fetch`, `read` or `write`.
+pub fn access_text(access: Access) -> &'static str
     ensures { result.now ≡ access_text access }
 {
     match access {
@@ -49,15 +50,16 @@ fn misaligned_text(what: Misaligned) -> &'static str
     }
 }
 
-// A word or an address in hexadecimal.
-fn word_text(alloc: Global, word: u32) -> Result<String, AllocError>
+/// A word or an address: `0x` and eight hexadecimal digits in lower case.
+pub fn word_text(alloc: Global, word: u32) -> Result<String, AllocError>
     ensures { IfOk result (λ text. string_bytes text ≡ word_text word) }
 {
     let digits = hex::encode(alloc, word.to_be_bytes())?;
     format!(in alloc; "0x{digits}")
 }
 
-fn reason_text(alloc: Global, reason: Reason) -> Result<String, AllocError>
+/// Why a thread has ended, as `exit 0` or `fault page fetch 0x00004000`.
+pub fn reason_text(alloc: Global, reason: Reason) -> Result<String, AllocError>
     ensures { IfOk result (λ text. string_bytes text ≡ reason_text reason) }
 {
     match reason {
