@@ -2,13 +2,11 @@
 
 ghost use Rattle.std.specs.Prelude.{◌≡◌, None, IfOk, IsSome, IsTrue};
 ghost use Rattle.cache_ident.specs.declared.idents.Kind.TheVariants.{Mapping};
-ghost use Rattle.mapping_cache.specs.Frames.{FrameIs};
-ghost use Rattle.slot_cache.specs.Cells.{IsFull, IsLoaded, NameIs};
+ghost use Rattle.slot_cache.specs.Cells.{IsFull, IsLoaded};
 ghost use Rattle.slot_cache.specs.Rows.{row_name};
 ghost use Rattle.owner_shelf.specs.Rows.{content_under};
 ghost use Rattle.kind_store.specs.Kept.{content_of};
 ghost use Rattle.kind_store.specs.Rolls.{AreEnrolled};
-ghost use Rattle.row_store.specs.Kept.{ReceiverIs};
 
 use crate::RowStore;
 use cache_ident::{Frame, Ident, KernelNo, Name, NoMemory, Roll, SpaceNo, ThreadNo, Vpn};
@@ -131,18 +129,6 @@ fn rows_are_listed_in_declared_order(rt: HostRuntime) -> Result<(), Fail> {
         (4, 2)
     );
     Ok(())
-}
-
-// Whether the name is loaded with that identifier, as a row of frame 3 for thread 0.
-fn is_loaded_as(store: &RowStore, ident: Ident, name: Name) -> bool
-    ensures loaded { IsTrue result → IsLoaded store.now.kept.cells ident }
-    ensures name { IsTrue result → NameIs row_name store.now.kept.cells ident.slot name }
-    ensures frame { IsTrue result → FrameIs store.now.kept.cells ident.slot (record { 0 = 3 }) }
-{
-    match store.get(ident) {
-        Some(row) => row.name() == name && row.frame == Frame(3),
-        None => false,
-    }
 }
 
 #[test]
