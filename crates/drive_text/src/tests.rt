@@ -3,6 +3,7 @@ use board_ops::{Answer, Op, Refused};
 use cache_ident::{Frame, Ident, KernelNo, Kind, Name, SpaceNo, ThreadNo, Vpn};
 use quantum::Paused;
 use rv32_exec::{Access, Reason, Status};
+use std::alloc::Global;
 use std::test::Fail;
 
 const EVERY_FORM: &[u8] = b"declare machine 1 8 8 8 8\n\
@@ -37,17 +38,15 @@ fn ident(kind: Kind, slot: u32, serial: u64) -> Ident {
 }
 
 // How many lines stand at the front, one behind the other, and what follows them.
-fn lines_of(alloc: std::alloc::Global, text: &[u8]) -> Result<(usize, &[u8]), NoMemory> {
-    let mut count = 0usize;
+fn lines_of(alloc: Global, text: &[u8]) -> Result<(usize, &[u8]), NoMemory> {
     let mut rest = text;
-    while !rest.is_empty() && count < 100 {
+    for number in 0..100usize {
         match read_line(alloc, rest)? {
             Some(first) => rest = first.rest,
-            None => return Ok((count, rest)),
+            None => return Ok((number, rest)),
         }
-        count += 1;
     }
-    Ok((count, rest))
+    Ok((100, rest))
 }
 
 #[test]
@@ -108,7 +107,7 @@ fn another_line_is_not_read(rt: HostRuntime) -> Result<(), Fail> {
     Ok(())
 }
 
-fn answer_is(alloc: std::alloc::Global, answer: &Answer, text: &[u8]) -> Result<bool, NoMemory> {
+fn answer_is(alloc: Global, answer: &Answer, text: &[u8]) -> Result<bool, NoMemory> {
     let mut out = Vec::from_slice(alloc, b"did\n")?;
     put_answer(alloc, &mut out, answer)?;
     Ok(out.as_slice().strip_prefix(b"did\n") == Some(text))
