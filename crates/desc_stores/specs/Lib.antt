@@ -1,0 +1,4 @@
+pub mod Items
+pub mod Contents
+pub mod Sound
+pub mod Changes

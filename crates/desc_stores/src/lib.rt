@@ -1,0 +1,9 @@
+//! The contents of all kinds, by name: each descriptor stands in one place, in the cache of its kind or on the shelf of
+//! its owner.
+#![tactic(auto)]
+
+mod items;
+mod stores;
+
+pub use items::{Item, ItemRef};
+pub use stores::Stores;
