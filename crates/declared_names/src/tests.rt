@@ -1,6 +1,6 @@
 //! Names that come and go.
 
-ghost use Rattle.std.specs.Prelude.{◌≢◌, All, Contains, IsTrue};
+ghost use Rattle.std.specs.Prelude.{◌↔◌, Contains, IsTrue};
 ghost use Rattle.declared_names.specs.Order.{names_in};
 
 use crate::DeclaredNames;
@@ -13,26 +13,22 @@ fn thread(no: u32) -> Name {
 }
 
 fn has(names: &DeclaredNames, name: Name) -> bool
-    ensures there { IsTrue result → Contains (names_in names.now) name }
+    ensures { IsTrue result ↔ Contains (names_in names.now) name }
 {
     names.iter().any(|other| name == other)
 }
 
-fn lacks(names: &DeclaredNames, name: Name) -> bool
-    ensures { IsTrue result → All (λ entry. entry.1 ≢ name) names.now.entries }
-{
-    names.iter().all(|other| name != other)
-}
-
 fn push(rt: &impl Abort, names: &mut DeclaredNames, no: u32) -> u64 {
+    let name = thread(no);
     assert!(rt; names.room() > 0);
-    assert!(rt; lacks(names, thread(no)));
-    names.push(thread(no))
+    assert!(rt; !has(names, name));
+    names.push(name)
 }
 
 fn remove(rt: &impl Abort, names: &mut DeclaredNames, no: u32) -> u64 {
-    assert!(rt; has(names, thread(no)));
-    names.remove(thread(no))
+    let name = thread(no);
+    assert!(rt; has(names, name));
+    names.remove(name)
 }
 
 #[test]

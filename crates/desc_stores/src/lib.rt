@@ -4,6 +4,8 @@
 
 mod items;
 mod stores;
+#[cfg(test)]
+mod tests;
 
 pub use items::{Item, ItemRef};
 pub use stores::Stores;

@@ -14,13 +14,17 @@ fn is_there(list: &List, key: u32, value: u32) -> bool
     list.run(&key).any(|found| value == found)
 }
 
-fn add(rt: &impl Abort, list: &mut List, key: u32, value: u32) {
+fn add(rt: &impl Abort, list: &mut List, key: u32, value: u32)
+    ensures { list.new.room ≡ list.old.room }
+{
     assert!(rt; list.len() < list.room());
     assert!(rt; !is_there(list, key, value));
     list.insert(key, value);
 }
 
-fn take(rt: &impl Abort, list: &mut List, key: u32, value: u32) {
+fn take(rt: &impl Abort, list: &mut List, key: u32, value: u32)
+    ensures { list.new.room ≡ list.old.room }
+{
     assert!(rt; is_there(list, key, value));
     list.remove(key, value);
 }

@@ -82,10 +82,11 @@ fn load(rt: &impl Abort, store: &mut RowStore, roll: &mut Roll, no: u32) -> Iden
     requires { AreEnrolled Mapping roll.old.issued store.old.kept.cells }
     ensures { AreEnrolled Mapping roll.new.issued store.new.kept.cells }
 {
-    assert!(rt; is_shelved(store, page(no)));
+    let name = page(no);
+    assert!(rt; is_shelved(store, name));
     assert!(rt; has_place(store));
     assert!(rt; roll.spare() > 0);
-    store.load(page(no), roll)
+    store.load(name, roll)
 }
 
 fn leave(rt: &impl Abort, store: &mut RowStore, roll: &mut Roll, ident: Ident)
@@ -97,56 +98,117 @@ fn leave(rt: &impl Abort, store: &mut RowStore, roll: &mut Roll, ident: Ident)
 }
 
 fn retract(rt: &impl Abort, store: &mut RowStore, no: u32) -> Row {
-    assert!(rt; is_shelved(store, page(no)));
-    store.retract(page(no))
+    let name = page(no);
+    assert!(rt; is_shelved(store, name));
+    store.retract(name)
+}
+
+// Whether all rows are of these pages, in this order.
+fn are_listed(store: &RowStore, pages: &[u32]) -> bool {
+    let mut names = store.names();
+    for no in pages {
+        if names.next() != Some(page(*no)) {
+            return false;
+        }
+    }
+    names.next().is_none()
+}
+
+// Whether the signal rows of a frame are of these pages, in this order.
+fn are_signal_rows(store: &RowStore, frame: u32, pages: &[u32]) -> bool {
+    let mut names = store.signal_rows(Frame(frame));
+    for no in pages {
+        if names.next() != Some(page(*no)) {
+            return false;
+        }
+    }
+    names.next().is_none()
+}
+
+fn declare_four(rt: &impl Abort, store: &mut RowStore) -> Result<(), NoMemory>
+    ensures { store.new.kept.cells ≡ store.old.kept.cells }
+{
+    declare(rt, store, row(7, 3, Some(0)))?;
+    declare(rt, store, row(5, 3, None))?;
+    declare(rt, store, row(2, 3, Some(1)))?;
+    declare(rt, store, row(9, 4, Some(1)))
+}
+
+fn four_are_listed(rt: &impl Abort, store: &RowStore) {
+    assert!(rt; are_listed(store, &[7, 5, 2, 9]));
+    assert!(rt; are_signal_rows(store, 3, &[7, 2]));
+    assert!(rt; are_signal_rows(store, 4, &[9]));
+    assert!(rt; are_signal_rows(store, 5, &[]));
+}
+
+fn load_and_leave(rt: &impl Abort, store: &mut RowStore, roll: &mut Roll)
+    requires { AreEnrolled Mapping roll.old.issued store.old.kept.cells }
+{
+    let ident = load(rt, store, roll, 7);
+    assert!(rt; store.of_frame(Frame(3)).next() == Some(ident));
+    leave(rt, store, roll, ident);
+    assert!(rt; store.of_frame(Frame(3)).next().is_none());
+}
+
+// Takes a row away, and declares it again, which makes it the last.
+fn declare_again(rt: &impl Abort, store: &mut RowStore) -> Result<(), NoMemory> {
+    assert!(rt; retract(rt, store, 7) == row(7, 3, Some(0)));
+    assert!(rt; are_listed(store, &[5, 2, 9]));
+    assert!(rt; are_signal_rows(store, 3, &[2]));
+    declare(rt, store, row(7, 3, Some(0)))?;
+    assert!(rt; are_listed(store, &[5, 2, 9, 7]));
+    assert!(rt; are_signal_rows(store, 3, &[2, 7]));
+    Ok(())
+}
+
+fn list(rt: &impl Abort, store: &mut RowStore, roll: &mut Roll) -> Result<(), Fail>
+    requires { AreEnrolled Mapping roll.old.issued store.old.kept.cells }
+{
+    roll.reserve(2)?;
+    declare_four(rt, store)?;
+    four_are_listed(rt, store);
+    load_and_leave(rt, store, roll);
+    four_are_listed(rt, store);
+    declare_again(rt, store)?;
+    Ok(())
 }
 
 #[test]
 fn rows_are_listed_in_declared_order(rt: HostRuntime) -> Result<(), Fail> {
     let (mut store, mut roll) = start(rt.alloc(), 2)?;
-    roll.reserve(2)?;
-    declare(&rt, &mut store, row(7, 3, Some(0)))?;
-    declare(&rt, &mut store, row(5, 3, None))?;
-    declare(&rt, &mut store, row(2, 3, Some(1)))?;
-    declare(&rt, &mut store, row(9, 4, Some(1)))?;
-    assert!(rt; store.names().eq([7, 5, 2, 9].map(page)));
-    assert!(rt; store.signal_rows(Frame(3)).eq([7, 2].map(page)));
-    assert!(rt; store.signal_rows(Frame(4)).eq([page(9)]));
-    assert!(rt; store.signal_rows(Frame(5)).next().is_none());
-    let ident = load(&rt, &mut store, &mut roll, 7);
-    assert!(rt; store.signal_rows(Frame(3)).eq([7, 2].map(page)));
-    assert!(rt; store.of_frame(Frame(3)).eq([ident]));
-    leave(&rt, &mut store, &mut roll, ident);
-    assert!(rt; store.of_frame(Frame(3)).next().is_none());
-    assert!(rt; retract(&rt, &mut store, 7) == row(7, 3, Some(0)));
-    assert!(rt; store.names().eq([5, 2, 9].map(page)));
-    assert!(rt; store.signal_rows(Frame(3)).eq([page(2)]));
-    declare(&rt, &mut store, row(7, 3, Some(0)))?;
-    assert!(rt; store.names().eq([5, 2, 9, 7].map(page)));
-    assert!(rt; store.signal_rows(Frame(3)).eq([2, 7].map(page)));
-    assert_eq!(rt;
-        (store.names().len(), store.signal_rows(Frame(3)).len()),
-        (4, 2)
-    );
+    list(&rt, &mut store, &mut roll)
+}
+
+fn mark(rt: &impl Abort, store: &mut RowStore, ident: Ident) {
+    assert!(rt; is_loaded(store, ident));
+    store.update(ident, |row| row.modified = true);
+    assert!(rt; store.loaded().all(|loaded| loaded.value.modified));
+}
+
+fn set_lock(rt: &impl Abort, store: &mut RowStore, ident: Ident) {
+    assert!(rt; is_loaded(store, ident));
+    store.lock(ident);
+    assert!(rt; store.victim(&[]).is_none());
+    assert!(rt; is_loaded(store, ident));
+    assert!(rt; store.is_locked(ident));
+    store.unlock(ident);
+    assert!(rt; store.victim(&[]) == Some(ident));
+}
+
+fn change(rt: &impl Abort, store: &mut RowStore, roll: &mut Roll) -> Result<(), Fail>
+    requires { AreEnrolled Mapping roll.old.issued store.old.kept.cells }
+{
+    roll.reserve(1)?;
+    declare(rt, store, row(7, 3, Some(0)))?;
+    let ident = load(rt, store, roll, 7);
+    mark(rt, store, ident);
+    assert!(rt; store.resident(page(7)) == Some(ident));
+    set_lock(rt, store, ident);
     Ok(())
 }
 
 #[test]
 fn a_row_changes_in_its_slot(rt: HostRuntime) -> Result<(), Fail> {
     let (mut store, mut roll) = start(rt.alloc(), 1)?;
-    roll.reserve(1)?;
-    declare(&rt, &mut store, row(7, 3, Some(0)))?;
-    let ident = load(&rt, &mut store, &mut roll, 7);
-    assert!(rt; is_loaded(&store, ident));
-    store.update(ident, |row| row.modified = true);
-    assert!(rt; store.loaded().all(|loaded| loaded.value.modified));
-    assert!(rt; store.resident(page(7)) == Some(ident));
-    assert!(rt; is_loaded(&store, ident));
-    store.lock(ident);
-    assert!(rt; store.victim(&[]).is_none());
-    assert!(rt; is_loaded(&store, ident));
-    assert!(rt; store.is_locked(ident));
-    store.unlock(ident);
-    assert!(rt; store.victim(&[]) == Some(ident));
-    Ok(())
+    change(&rt, &mut store, &mut roll)
 }

@@ -1,0 +1,281 @@
+//! Descriptors that are declared, loaded, changed and put back.
+
+ghost use Rattle.std.specs.Prelude.{◌≡◌, ◌+◌, ◌^◌, ◌<◌, None, Some, IsTrue};
+ghost use Rattle.cache_ident.specs.declared.idents.Standing.TheVariants.{Live};
+ghost use Rattle.cache_ident.specs.Rolls.{standing_in};
+ghost use Rattle.cache_ident.specs.Names.{kind_of};
+ghost use Rattle.desc_stores.specs.Items.{name_of};
+ghost use Rattle.desc_stores.specs.Contents.{content_of, IsFullOf, IsShelved};
+ghost use Rattle.desc_stores.specs.Changes.{room_of, IsNext};
+
+use crate::{Item, ItemRef, Stores};
+use arrayvec::ArrayVec;
+use cache_ident::{
+    Caps, Frame, Ident, KernelNo, Kind, Name, NoMemory, SpaceNo, Standing, ThreadNo, Vpn,
+};
+use kernel_cache::KernelRec;
+use phys_groups::{Flags, Rights, Row};
+use rv32_exec::{Context, Output, Status};
+use space_cache::SpaceRec;
+use std::alloc::Global;
+use std::process::Abort;
+use std::test::Fail;
+use thread_cache::ThreadRec;
+
+fn kernel(no: u32) -> Item {
+    Item::Kernel(KernelRec {
+        no: KernelNo(no),
+        rights: Rights::none(),
+        limits: Caps::default(),
+        locked: Caps::default(),
+    })
+}
+
+fn space(no: u32) -> Item {
+    Item::Space(SpaceRec {
+        no: SpaceNo(no),
+        kernel: KernelNo(0),
+    })
+}
+
+fn thread(alloc: Global, priority: u32) -> Item {
+    Item::Thread(ThreadRec {
+        no: ThreadNo(0),
+        space: SpaceNo(0),
+        context: Context {
+            regs: [0; 32],
+            pc: 0,
+        },
+        status: Status::Ready,
+        priority,
+        queue: ArrayVec::new(),
+        output: Output::new(alloc),
+        on_cpu: None,
+        last: 0,
+    })
+}
+
+fn row(vpn: u32) -> Item {
+    Item::Mapping(Row {
+        space: SpaceNo(0),
+        vpn: Vpn(vpn),
+        frame: Frame(5),
+        flags: Flags::default(),
+        receiver: None,
+        referenced: false,
+        modified: false,
+    })
+}
+
+const ROW: Name = Name::Mapping(SpaceNo(0), Vpn(7));
+
+fn is_absent(stores: &Stores, name: Name) -> bool
+    ensures { IsTrue result → content_of stores.now name ≡ None }
+{
+    stores.item(name).is_none()
+}
+
+fn is_next(stores: &Stores, item: &Item) -> bool
+    ensures { IsTrue result → IsNext stores.now item.now }
+{
+    match item {
+        Item::Kernel(kernel) => is_number(kernel.no.0, stores.kernel_count()),
+        Item::Space(space) => is_number(space.no.0, stores.space_count()),
+        Item::Thread(thread) => is_number(thread.no.0, stores.thread_count()),
+        Item::Mapping(_) => true,
+    }
+}
+
+// Whether the number is the next one, and not the last that there is.
+fn is_number(number: u32, count: u32) -> bool
+    ensures { IsTrue result → (number ≡ count) × (count + 1 < 2 ^ 32) }
+{
+    number == count && count < u32::MAX
+}
+
+fn is_shelved(stores: &Stores, name: Name) -> bool
+    ensures { IsTrue result → IsShelved stores.now name }
+{
+    stores.owner_of(name).is_some()
+}
+
+fn has_place(stores: &Stores, kind: Kind) -> bool
+    ensures { IsTrue result → IsFullOf stores.now kind → ⊥ }
+{
+    stores.free(kind).is_some()
+}
+
+fn is_live(stores: &Stores, ident: Ident) -> bool
+    ensures { IsTrue result → standing_in stores.now.issued ident ≡ Live }
+{
+    matches!(stores.standing(ident), Standing::Live)
+}
+
+// Makes room for a descriptor and puts it on the shelf.
+fn declare(rt: &impl Abort, stores: &mut Stores, item: Item) -> Result<(), NoMemory> {
+    stores.make_room()?;
+    let name = item.name();
+    assert!(rt; is_absent(stores, name));
+    assert!(rt; is_next(stores, &item));
+    stores.declare(KernelNo(0), item);
+    Ok(())
+}
+
+fn load(rt: &impl Abort, stores: &mut Stores, name: Name) -> Ident {
+    assert!(rt; is_shelved(stores, name));
+    assert!(rt; has_place(stores, name.kind()));
+    assert!(rt; stores.spare() > 0);
+    stores.load(name)
+}
+
+fn leave(rt: &impl Abort, stores: &mut Stores, ident: Ident, owner: u32, at: u64) {
+    assert!(rt; is_live(stores, ident));
+    stores.leave(ident, KernelNo(owner), at);
+}
+
+fn set_lock(rt: &impl Abort, stores: &mut Stores, ident: Ident, on: bool) -> bool {
+    assert!(rt; is_live(stores, ident));
+    if on {
+        stores.lock(ident);
+    } else {
+        stores.unlock(ident);
+    }
+    is_locked(rt, stores, ident)
+}
+
+fn is_locked(rt: &impl Abort, stores: &Stores, ident: Ident) -> bool {
+    assert!(rt; is_live(stores, ident));
+    stores.is_locked(ident)
+}
+
+// One slot for each kind.
+fn with_one_slot(alloc: Global) -> Result<Stores, NoMemory> {
+    let caps = Caps {
+        kernels: 1,
+        spaces: 1,
+        threads: 1,
+        mappings: 1,
+    };
+    Stores::new(alloc, caps)
+}
+
+// Declares a kernel, a space, a thread and a row.
+fn declare_all(rt: &impl Abort, stores: &mut Stores, alloc: Global) -> Result<(), NoMemory> {
+    declare(rt, stores, kernel(0))?;
+    declare(rt, stores, space(0))?;
+    declare(rt, stores, thread(alloc, 3))?;
+    declare(rt, stores, row(7))?;
+    stores.reserve(8)
+}
+
+fn is_modified(stores: &Stores, name: Name) -> bool {
+    match stores.item(name) {
+        Some(ItemRef::Mapping(row)) => row.modified,
+        _ => false,
+    }
+}
+
+fn is_found(stores: &Stores, name: Name, ident: Ident) -> bool {
+    stores.resident(name) == Some(ident) && stores.get(ident).is_some()
+}
+
+fn is_full(stores: &Stores, kind: Kind) -> bool {
+    stores.free(kind).is_none()
+}
+
+fn is_victim(stores: &Stores, ident: Ident) -> bool {
+    stores.victim(ident.kind, &[]) == Some(ident)
+}
+
+fn is_under(stores: &Stores, name: Name, owner: u32) -> bool {
+    stores.owner_of(name) == Some(KernelNo(owner))
+}
+
+fn has_left(stores: &Stores, ident: Ident) -> bool {
+    matches!(stores.standing(ident), Standing::Left(40)) && stores.get(ident).is_none()
+}
+
+// Loads, locks, unlocks and puts back.
+fn go_round(rt: &impl Abort, stores: &mut Stores, name: Name) {
+    assert!(rt; is_under(stores, name, 0));
+    let ident = load(rt, stores, name);
+    assert!(rt; is_found(stores, name, ident));
+    assert!(rt; is_full(stores, ident.kind));
+    assert!(rt; is_victim(stores, ident));
+    assert!(rt; set_lock(rt, stores, ident, true));
+    assert!(rt; !is_victim(stores, ident));
+    assert!(rt; !set_lock(rt, stores, ident, false));
+    leave(rt, stores, ident, 2, 40);
+    assert!(rt; has_left(stores, ident));
+    assert!(rt; is_under(stores, name, 2));
+}
+
+fn all_go_round(rt: &impl Abort, stores: &mut Stores, alloc: Global) -> Result<(), Fail> {
+    declare_all(rt, stores, alloc)?;
+    go_round(rt, stores, Name::Kernel(KernelNo(0)));
+    go_round(rt, stores, Name::Space(SpaceNo(0)));
+    go_round(rt, stores, Name::Thread(ThreadNo(0)));
+    go_round(rt, stores, ROW);
+    Ok(())
+}
+
+#[test]
+fn each_kind_is_loaded_and_leaves(rt: HostRuntime) -> Result<(), Fail> {
+    let alloc = rt.alloc();
+    let mut stores = with_one_slot(alloc)?;
+    all_go_round(&rt, &mut stores, alloc)
+}
+
+// Marks what is loaded with an identifier as modified, if it is a row.
+fn mark(rt: &impl Abort, stores: &mut Stores, ident: Ident) {
+    assert!(rt; is_live(stores, ident));
+    if ident.kind == Kind::Mapping {
+        stores.update_row(ident, |row| row.modified = true);
+    }
+}
+
+fn change_a_row(rt: &impl Abort, stores: &mut Stores, alloc: Global) -> Result<(), Fail> {
+    declare_all(rt, stores, alloc)?;
+    let ident = load(rt, stores, ROW);
+    assert!(rt; stores.rows_of_frame(Frame(5)).next() == Some(ident));
+    mark(rt, stores, ident);
+    assert!(rt; is_modified(stores, ROW));
+    leave(rt, stores, ident, 0, 1);
+    assert!(rt; is_modified(stores, ROW) && stores.resident(ROW).is_none());
+    assert!(rt; stores.rows_of_frame(Frame(5)).next().is_none());
+    Ok(())
+}
+
+#[test]
+fn what_leaves_takes_its_change_along(rt: HostRuntime) -> Result<(), Fail> {
+    let alloc = rt.alloc();
+    let mut stores = with_one_slot(alloc)?;
+    change_a_row(&rt, &mut stores, alloc)
+}
+
+// Takes a row off the shelf for good, and says whether it was modified.
+fn retract(rt: &impl Abort, stores: &mut Stores, name: Name) -> bool {
+    assert!(rt; is_shelved(stores, name));
+    match name {
+        Name::Mapping(_, _) => stores.retract(name).modified,
+        _ => false,
+    }
+}
+
+fn retract_a_row(rt: &impl Abort, stores: &mut Stores, alloc: Global) -> Result<(), Fail> {
+    declare_all(rt, stores, alloc)?;
+    declare(rt, stores, row(8))?;
+    assert!(rt; stores.row_names().next() == Some(ROW));
+    assert!(rt; !retract(rt, stores, ROW));
+    assert!(rt; stores.item(ROW).is_none());
+    assert!(rt; stores.row_names().next() == Some(Name::Mapping(SpaceNo(0), Vpn(8))));
+    assert!(rt; stores.signal_rows(Frame(5)).next().is_none());
+    Ok(())
+}
+
+#[test]
+fn a_row_goes_for_good(rt: HostRuntime) -> Result<(), Fail> {
+    let alloc = rt.alloc();
+    let mut stores = with_one_slot(alloc)?;
+    retract_a_row(&rt, &mut stores, alloc)
+}
