@@ -1,11 +1,12 @@
 //! Descriptors that are declared, loaded, changed and put back.
 
-ghost use Rattle.std.specs.Prelude.{◌≡◌, ◌+◌, ◌^◌, ◌<◌, None, Some, IsTrue};
+ghost use Rattle.std.specs.Prelude.{◌≡◌, ◌+◌, ◌^◌, ◌<◌, None, Some, IfSome, IsSome, IsTrue};
 ghost use Rattle.cache_ident.specs.declared.idents.Standing.TheVariants.{Live};
 ghost use Rattle.cache_ident.specs.Rolls.{standing_in};
 ghost use Rattle.cache_ident.specs.Names.{kind_of};
 ghost use Rattle.desc_stores.specs.Items.{name_of};
-ghost use Rattle.desc_stores.specs.Contents.{content_of, IsFullOf, IsShelved};
+ghost use Rattle.desc_stores.specs.declared.items.Item.TheVariants as Item;
+ghost use Rattle.desc_stores.specs.Contents.{content_of, item_as, IsFullOf, IsShelved};
 ghost use Rattle.desc_stores.specs.Changes.{room_of, IsNext};
 
 use crate::{Item, ItemRef, Stores};
@@ -16,6 +17,7 @@ use cache_ident::{
 use kernel_cache::KernelRec;
 use phys_groups::{Flags, Rights, Row};
 use rv32_exec::{Context, Output, Status};
+use slot_cache::Descriptor;
 use space_cache::SpaceRec;
 use std::alloc::Global;
 use std::process::Abort;
@@ -278,4 +280,79 @@ fn a_row_goes_for_good(rt: HostRuntime) -> Result<(), Fail> {
     let alloc = rt.alloc();
     let mut stores = with_one_slot(alloc)?;
     retract_a_row(&rt, &mut stores, alloc)
+}
+
+// The row that is loaded with an identifier.
+fn loaded_row(stores: &Stores, ident: Ident) -> Option<Row>
+    ensures { IfSome result (λ row. item_as stores.now ident ≡ Some (Item.Mapping row)) }
+{
+    match stores.get(ident) {
+        Some(ItemRef::Mapping(row)) => Some(*row),
+        _ => None,
+    }
+}
+
+// Puts another content in the place of a loaded row, if there is one.
+fn put_row(rt: &impl Abort, stores: &mut Stores, ident: Ident) {
+    assert!(rt; is_live(stores, ident));
+    if let Some(row) = loaded_row(stores, ident) {
+        let marked = Row {
+            modified: true,
+            ..row
+        };
+        let _ = stores.change(ident, Item::Mapping(marked));
+    }
+}
+
+// Gives a loaded thread another priority.
+fn raise(rt: &impl Abort, stores: &mut Stores, ident: Ident) {
+    assert!(rt; is_live(stores, ident));
+    if ident.kind == Kind::Thread {
+        stores.update_thread(ident, |thread| thread.priority = 9);
+    }
+}
+
+fn has_priority(stores: &Stores, priority: u32) -> bool {
+    match stores.item(Name::Thread(ThreadNo(0))) {
+        Some(ItemRef::Thread(thread)) => thread.priority == priority,
+        _ => false,
+    }
+}
+
+// Puts a record in the place of the first kernel's, wherever that stands, and says how many threads the old one could lock.
+fn put_limits(rt: &impl Abort, stores: &mut Stores, threads: u32) -> u32 {
+    let Item::Kernel(mut kernel) = kernel(0) else {
+        return 0;
+    };
+    kernel.limits.threads = threads;
+    assert!(rt; is_there(stores, &kernel));
+    stores.put_kernel(kernel).limits.threads
+}
+
+fn is_there(stores: &Stores, kernel: &KernelRec) -> bool
+    ensures { IsTrue result → IsSome (content_of stores.now (name_of (Item.Kernel kernel.now))) }
+{
+    stores.item(kernel.name()).is_some()
+}
+
+fn change_all(rt: &impl Abort, stores: &mut Stores, alloc: Global) -> Result<(), Fail> {
+    declare_all(rt, stores, alloc)?;
+    let row = load(rt, stores, ROW);
+    put_row(rt, stores, row);
+    assert!(rt; is_modified(stores, ROW));
+    let thread = load(rt, stores, Name::Thread(ThreadNo(0)));
+    raise(rt, stores, thread);
+    assert!(rt; has_priority(stores, 9));
+    assert_eq!(rt; put_limits(rt, stores, 5), 0);
+    let _ = load(rt, stores, Name::Kernel(KernelNo(0)));
+    assert_eq!(rt; put_limits(rt, stores, 6), 5);
+    assert_eq!(rt; put_limits(rt, stores, 7), 6);
+    Ok(())
+}
+
+#[test]
+fn contents_change_where_they_stand(rt: HostRuntime) -> Result<(), Fail> {
+    let alloc = rt.alloc();
+    let mut stores = with_one_slot(alloc)?;
+    change_all(&rt, &mut stores, alloc)
 }

@@ -1,8 +1,8 @@
 //! Rows that are declared, loaded, listed and retracted.
 
-ghost use Rattle.std.specs.Prelude.{◌≡◌, None, IfOk, IsSome, IsTrue};
+ghost use Rattle.std.specs.Prelude.{◌≡◌, None, IfOk, IfSome, IsSome, IsTrue};
 ghost use Rattle.cache_ident.specs.declared.idents.Kind.TheVariants.{Mapping};
-ghost use Rattle.slot_cache.specs.Cells.{IsFull, IsLoaded};
+ghost use Rattle.slot_cache.specs.Cells.{IsContent, IsFull, IsLoaded};
 ghost use Rattle.slot_cache.specs.Rows.{row_name};
 ghost use Rattle.owner_shelf.specs.Rows.{content_under};
 ghost use Rattle.kind_store.specs.Kept.{content_of};
@@ -185,6 +185,28 @@ fn mark(rt: &impl Abort, store: &mut RowStore, ident: Ident) {
     assert!(rt; store.loaded().all(|loaded| loaded.value.modified));
 }
 
+// The row that is loaded with an identifier.
+fn loaded_row(store: &RowStore, ident: Ident) -> Option<Row>
+    ensures { IfSome result (IsContent store.now.kept.cells ident) }
+{
+    store.get(ident).copied()
+}
+
+// Puts the same row, not marked, in the place of a loaded one, and says whether that was marked.
+fn clear(rt: &impl Abort, store: &mut RowStore, ident: Ident) -> bool {
+    assert!(rt; is_loaded(store, ident));
+    match loaded_row(store, ident) {
+        Some(row) => {
+            let clear = Row {
+                modified: false,
+                ..row
+            };
+            store.change(ident, clear).modified
+        }
+        None => false,
+    }
+}
+
 fn set_lock(rt: &impl Abort, store: &mut RowStore, ident: Ident) {
     assert!(rt; is_loaded(store, ident));
     store.lock(ident);
@@ -204,6 +226,8 @@ fn change(rt: &impl Abort, store: &mut RowStore, roll: &mut Roll) -> Result<(), 
     mark(rt, store, ident);
     assert!(rt; store.resident(page(7)) == Some(ident));
     set_lock(rt, store, ident);
+    assert!(rt; clear(rt, store, ident));
+    assert!(rt; !clear(rt, store, ident));
     Ok(())
 }
 
