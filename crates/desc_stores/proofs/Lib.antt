@@ -5,3 +5,4 @@ pub mod SoundLemmas
 pub mod ChangeLemmas
 pub mod RoomLemmas
 pub mod PutLemmas
+pub mod NamedLemmas

@@ -16,7 +16,7 @@ use Rattle.space_cache.specs.Spaces as space_rec
 use Rattle.thread_cache.specs.declared.ThreadRec.{ThreadRec}
 use Rattle.thread_cache.specs.Threads as thread_rec
 use Rattle.kind_store.specs.Kept.{Kept}
-use Rattle.kind_store.specs.Changes.{is_name, IsLeaving, IsLoading}
+use Rattle.kind_store.specs.Changes.{is_name, with_content, IsLeaving, IsLoading}
 use Rattle.desc_stores.specs.declared.items.Item.{Item}
 use Rattle.desc_stores.specs.declared.items.Item.TheVariants as item
 use Rattle.desc_stores.specs.Contents.{content_of, item_as, Contents}
@@ -64,6 +64,13 @@ pub record OnlyMakesRoom (old new : Contents) : Type 0 where
   pub spaces : old.spaces.room ≤ new.spaces.room
   pub threads : old.threads.room ≤ new.threads.room
   pub rows : old.rows.room ≤ new.rows.room
+
+-- a kind that had room is as it was
+pub record LeavesWhatHasRoom (old new : Contents) : Type 0 where
+  pub kernels : 0 < old.kernels.room → new.kernels ≡ old.kernels
+  pub spaces : 0 < old.spaces.room → new.spaces ≡ old.spaces
+  pub threads : 0 < old.threads.room → new.threads ≡ old.threads
+  pub rows : 0 < old.rows.room → new.rows ≡ old.rows
 
 -- a kernel, a space or a thread has the next number, and it isn't the last that there is
 abbrev pub IsNext : Contents → Item → Type 0
@@ -134,3 +141,20 @@ pub record IsUpdatingRow {R : Type 0} (call : Row → R → Row → Type 0) (old
   pub called_with : call value result left
   pub contents : HasContent old new (item.Mapping left)
   pub is : new ≡ with_item old ident (item.Mapping left)
+
+-- the contents once the item stands in the place of the content of its name, in its slot or on the shelf
+abbrev pub with_named : Contents → Item → Contents
+with_named c (item.Kernel kernel) = record c { kernels = with_content kernel_rec.name_of c.kernels (kernel_rec.name_of kernel) kernel }
+with_named c (item.Space space) = record c { spaces = with_content space_rec.name_of c.spaces (space_rec.name_of space) space }
+with_named c (item.Thread thread) = record c { threads = with_content thread_rec.name_of c.threads (thread_rec.name_of thread) thread }
+with_named c (item.Mapping row) = record c { rows = record c.rows { kept = with_content row_name c.rows.kept (row_name row) row } }
+
+-- a call with the content of the name, which is one of a kind, gave that result, and what it left of the content stands
+-- in its place
+pub record IsUpdatingNamed {T R : Type 0} (of_kind : T → Item) (call : T → R → T → Type 0) (old new : Contents) (name : Name) (result : R) : Type 0 where
+  pub value : T
+  pub was : content_of old name ≡ Some (of_kind value)
+  pub left : T
+  pub called_with : call value result left
+  pub contents : HasContent old new (of_kind left)
+  pub is : new ≡ with_named old (of_kind left)

@@ -22,7 +22,7 @@ ghost use Rattle.desc_stores.specs.declared.items.Item.{Item};
 ghost use Rattle.desc_stores.specs.Items.{name_of, shown, Agrees};
 ghost use Rattle.desc_stores.specs.Contents.{content_of, item_as, names_of, resident_as, residents_of, shelf_owner, HasNoResident, IsFullOf, IsLowestFreeOf, IsResidentAs, IsShelved, IsVictimOf, LockIs, NoneMayGoOf};
 ghost use Rattle.desc_stores.specs.Sound.{AreOwned, IsExactlyOne};
-ghost use Rattle.desc_stores.specs.Changes.{relocked, room_of, with_item, HasContent, HasNoContent, IsDeclaring, IsLeavingOf, IsLoadingOf, IsNext, IsNothing, IsUpdatingRow, IsUpdatingThread, KeepsContents, OnlyMakesRoom};
+ghost use Rattle.desc_stores.specs.Changes.{relocked, room_of, with_item, HasContent, HasNoContent, IsDeclaring, IsLeavingOf, IsLoadingOf, IsNext, IsNothing, IsUpdatingNamed, IsUpdatingRow, IsUpdatingThread, KeepsContents, LeavesWhatHasRoom, OnlyMakesRoom};
 
 use super::items::{Item, ItemRef};
 use cache_ident::{Caps, Frame, Ident, KernelNo, Kind, Name, NoMemory, Roll, Standing};
@@ -84,16 +84,18 @@ impl Stores {
         })
     }
 
-    /// Makes room for one more of each kind. Nothing else changes, and where memory is wanted no room falls. Its time,
-    /// which grows with what is there, is constant for each descriptor that it makes room for, but for a logarithm.
+    /// Makes room for one more of each kind that has none. Nothing else changes, and where memory is wanted no room falls.
+    /// Where there is room of each kind it takes constant time. Otherwise its time, which grows with what is there, is
+    /// constant for each descriptor that it makes room for, but for a logarithm.
     pub fn make_room(&mut self) -> Result<(), NoMemory>
         ensures only { OnlyMakesRoom self.old self.new }
+        ensures left { LeavesWhatHasRoom self.old self.new }
         ensures ok { OnOk result (0 < room_of self.new) }
     {
-        self.kernels.make_room()?;
-        self.spaces.make_room()?;
-        self.threads.make_room()?;
-        self.rows.make_room()
+        make_room_of(&mut self.kernels)?;
+        make_room_of(&mut self.spaces)?;
+        make_room_of(&mut self.threads)?;
+        make_row_room(&mut self.rows)
     }
 
     /// How many more descriptors there can be without memory, whatever their kinds. Constant time.
@@ -408,6 +410,38 @@ impl Stores {
         self.rows.update(ident, change)
     }
 
+    /// Changes the thread of a name where it stands, in its slot or on the shelf, but for its number, and gives what the
+    /// change gives. The record isn't moved.
+    pub fn update_thread_named<R, F: FnOnce(&mut ThreadRec) -> R>(
+        &mut self,
+        name: Name,
+        change: F,
+    ) -> R
+        requires thread { kind_of name ≡ Kind.Thread }
+        requires there { IsSome (content_of self.old name) }
+        requires callable { F.IsAlwaysCallable change }
+        requires agrees { (thread left : ThreadRec) (result : R) → content_of self.old name ≡ Some (Item.Thread thread) → FnOnceReturnsAtMut F.FnOnce change thread result left → Agrees (Item.Thread thread) (Item.Thread left) }
+        ensures updated { IsUpdatingNamed Item.Thread (FnOnceReturnsAtMut F.FnOnce change) self.old self.new name result }
+        ensures residents { residents_of self.new ≡ residents_of self.old }
+        ensures owned { (owner_of : Name → Option KernelNo) → AreOwned owner_of self.old → AreOwned owner_of self.new }
+    {
+        self.threads.update_named(name, change)
+    }
+
+    /// Changes the row of a name where it stands, in its slot or on the shelf, but for its name, frame and receiver, and
+    /// gives what the change gives. The row isn't moved.
+    pub fn update_row_named<R, F: FnOnce(&mut Row) -> R>(&mut self, name: Name, change: F) -> R
+        requires row { kind_of name ≡ Kind.Mapping }
+        requires there { IsSome (content_of self.old name) }
+        requires callable { F.IsAlwaysCallable change }
+        requires agrees { (row left : Row) (result : R) → content_of self.old name ≡ Some (Item.Mapping row) → FnOnceReturnsAtMut F.FnOnce change row result left → Agrees (Item.Mapping row) (Item.Mapping left) }
+        ensures updated { IsUpdatingNamed Item.Mapping (FnOnceReturnsAtMut F.FnOnce change) self.old self.new name result }
+        ensures residents { residents_of self.new ≡ residents_of self.old }
+        ensures owned { (owner_of : Name → Option KernelNo) → AreOwned owner_of self.old → AreOwned owner_of self.new }
+    {
+        self.rows.update_named(name, change)
+    }
+
     /// Puts a record of a kernel in the place of the one that stands, in its slot or on the shelf, and gives the old one
     /// back.
     pub fn put_kernel(&mut self, kernel: KernelRec) -> KernelRec
@@ -416,6 +450,8 @@ impl Stores {
         ensures contents { HasContent self.old self.new (Item.Kernel kernel) }
         ensures residents { residents_of self.new ≡ residents_of self.old }
         ensures owned { (owner_of : Name → Option KernelNo) → AreOwned owner_of self.old → AreOwned owner_of self.new }
+        ensures slots { length self.new.kernels.cells ≡ length self.old.kernels.cells }
+        ensures room { room_of self.new ≡ room_of self.old }
         ensures only { self.new ≡ record self.old { kernels = self.new.kernels } }
     {
         match self.kernels.resident(kernel.name()) {
@@ -439,4 +475,35 @@ impl Stores {
     {
         self.rows.retract(name)
     }
+}
+
+// Makes room for one more of a kind, if there is none.
+fn make_room_of<T: Descriptor + Drop>(kept: &mut KindStore<T>) -> Result<(), NoMemory>
+    ensures cells { kept.new.cells ≡ kept.old.cells }
+    ensures rows { kept.new.rows ≡ kept.old.rows }
+    ensures grows { kept.old.room ≤ kept.new.room }
+    ensures enough { 0 < kept.old.room → kept.new ≡ kept.old }
+    ensures ok { OnOk result (0 < kept.new.room) }
+{
+    if kept.room() > 0 {
+        return Ok(());
+    }
+    kept.make_room()?;
+    Ok(())
+}
+
+// The same of rows.
+fn make_row_room(rows: &mut RowStore) -> Result<(), NoMemory>
+    ensures cells { rows.new.kept.cells ≡ rows.old.kept.cells }
+    ensures rows { rows.new.kept.rows ≡ rows.old.kept.rows }
+    ensures names { rows.new.names ≡ rows.old.names }
+    ensures grows { rows.old.room ≤ rows.new.room }
+    ensures enough { 0 < rows.old.room → rows.new ≡ rows.old }
+    ensures ok { OnOk result (0 < rows.new.room) }
+{
+    if rows.room() > 0 {
+        return Ok(());
+    }
+    rows.make_room()?;
+    Ok(())
 }

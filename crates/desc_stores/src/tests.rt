@@ -255,6 +255,64 @@ fn what_leaves_takes_its_change_along(rt: HostRuntime) -> Result<(), Fail> {
     change_a_row(&rt, &mut stores, alloc)
 }
 
+fn has_rows(stores: &Stores, count: usize) -> bool {
+    stores.row_names().len() == count
+}
+
+fn declare_rows(rt: &impl Abort, stores: &mut Stores) -> Result<(), Fail> {
+    for no in 0..200 {
+        declare(rt, stores, row(no))?;
+    }
+    assert!(rt; has_rows(stores, 200));
+    Ok(())
+}
+
+#[test]
+fn room_is_made_where_there_is_none(rt: HostRuntime) -> Result<(), Fail> {
+    let mut stores = with_one_slot(rt.alloc())?;
+    declare_rows(&rt, &mut stores)
+}
+
+fn has_content(stores: &Stores, name: Name) -> bool
+    ensures { IsTrue result → IsSome (content_of stores.now name) }
+{
+    stores.item(name).is_some()
+}
+
+// Marks the row of a name as modified, wherever it stands.
+fn mark_named(rt: &impl Abort, stores: &mut Stores, name: Name) {
+    assert!(rt; has_content(stores, name));
+    if name.kind() == Kind::Mapping {
+        stores.update_row_named(name, |row| row.modified = true);
+    }
+}
+
+// Gives the thread of a name another priority, wherever it stands.
+fn raise_named(rt: &impl Abort, stores: &mut Stores, name: Name) {
+    assert!(rt; has_content(stores, name));
+    if name.kind() == Kind::Thread {
+        stores.update_thread_named(name, |thread| thread.priority = 9);
+    }
+}
+
+fn change_by_name(rt: &impl Abort, stores: &mut Stores, alloc: Global) -> Result<(), Fail> {
+    declare_all(rt, stores, alloc)?;
+    mark_named(rt, stores, ROW);
+    assert!(rt; is_modified(stores, ROW) && is_under(stores, ROW, 0));
+    let name = Name::Thread(ThreadNo(0));
+    let ident = load(rt, stores, name);
+    raise_named(rt, stores, name);
+    assert!(rt; has_priority(stores, 9) && is_found(stores, name, ident));
+    Ok(())
+}
+
+#[test]
+fn contents_change_by_their_names(rt: HostRuntime) -> Result<(), Fail> {
+    let alloc = rt.alloc();
+    let mut stores = with_one_slot(alloc)?;
+    change_by_name(&rt, &mut stores, alloc)
+}
+
 // Takes a row off the shelf for good, and says whether it was modified.
 fn retract(rt: &impl Abort, stores: &mut Stores, name: Name) -> bool {
     assert!(rt; is_shelved(stores, name));

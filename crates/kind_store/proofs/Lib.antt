@@ -8,3 +8,4 @@ pub mod EnrolLemmas
 pub mod SeenLemmas
 pub mod EditLemmas
 pub mod MoveLemmas
+pub mod NamedLemmas

@@ -1,13 +1,15 @@
 -- What a call leaves.
-use Rattle.std.specs.Prelude.{◌≡◌, Bool, if◌then◌else◌, slice_set, Some, None}
+use Rattle.std.specs.Prelude.{◌≡◌, Bool, if◌then◌else◌, slice_set, List, map, Option, Some, None}
+use Rattle.std.specs.Option.{option_map}
 use Rattle.cache_ident.specs.declared.idents.Ident.{Ident}
 use Rattle.cache_ident.specs.declared.names.KernelNo.{KernelNo}
 use Rattle.cache_ident.specs.declared.names.Name.{Name}
 use Rattle.cache_ident.specs.contracts.names.NamePartialEq.TheImpl as names
 use Rattle.sorted_list.specs.Sorted.{IsAdded}
+use Rattle.slot_cache.specs.declared.loaded.Loaded.{Loaded}
 use Rattle.slot_cache.specs.Cells.{changed, filled, just_loaded, with_value, IsContent}
-use Rattle.owner_shelf.specs.Rows.{content_under, row_under, rows_without}
-use Rattle.kind_store.specs.Kept.{Kept, content_of}
+use Rattle.owner_shelf.specs.Rows.{content_under, row_under, rows_with, rows_without}
+use Rattle.kind_store.specs.Kept.{content_of, is_called, Kept}
 
 abbrev pub is_name : Name → Name → Bool
 is_name = (names.ghosts).eq
@@ -50,6 +52,27 @@ module _ {T : Type 0} (called : T → Name) where
     pub called_with : call value result left
     pub is : new ≡ record old { cells = changed old.cells ident.slot (with_value left) }
     pub contents : HasContent old new (called value) left
+
+  -- what is loaded, with that content if it has the name
+  abbrev pub loaded_with : Name → T → Loaded T → Loaded T
+  loaded_with name value loaded = if is_called called name loaded then with_value value loaded else loaded
+
+  -- the cells, with that content in the place of that of the name
+  abbrev pub cells_with : List (Option (Loaded T)) → Name → T → List (Option (Loaded T))
+  cells_with cells name value = map (option_map (loaded_with name value)) cells
+
+  -- what stands, with that content in the place of that of the name, wherever it is
+  abbrev pub with_content : Kept T → Name → T → Kept T
+  with_content kept name value = record kept { cells = cells_with kept.cells name value; rows = rows_with called kept.rows name value }
+
+  -- a call with the content of the name gave that result, and what it left of the content stands in its place
+  pub record IsUpdatingNamed {R : Type 0} (call : T → R → T → Type 0) (old new : Kept T) (name : Name) (result : R) : Type 0 where
+    pub value : T
+    pub was : content_of called old name ≡ Some value
+    pub left : T
+    pub called_with : call value result left
+    pub is : new ≡ with_content old name left
+    pub contents : HasContent old new name left
 
   -- a content on the shelf gave way to another one, under the same owner
   pub record IsExchanging (old new : Kept T) (value result : T) : Type 0 where

@@ -8,10 +8,10 @@ ghost use Rattle.cache_ident.specs.declared.names.KernelNo.{KernelNo};
 ghost use Rattle.cache_ident.specs.declared.names.Name.{Name};
 ghost use Rattle.sorted_list.specs.Sorted.{IsAdded};
 ghost use Rattle.slot_cache.specs.Cells.{changed, just_loaded, loaded_in, with_lock, with_value, HasExactlyLoaded, HasNoName, IsContent, IsFoundAs, IsFull, IsInOrderOfSlot, IsLoaded, IsLowestFree, IsVictim, KeepsName, LockIs, NameIs, NoneMayGo};
-ghost use Rattle.owner_shelf.specs.Rows.{content_under, row_under, rows_without};
+ghost use Rattle.owner_shelf.specs.Rows.{content_under, row_under, rows_without, LeavesName};
 ghost use Rattle.kind_store.specs.Kept.{content_of, AreOwned, IsExactlyOne};
 ghost use Rattle.kind_store.specs.Rolls.{all_but, in_order, AreEnrolled, ChangesOne, StaysEnrolled};
-ghost use Rattle.kind_store.specs.Changes.{HasContent, HasNoContent, IsExchanging, IsLeaving, IsLoading, IsUpdating, KeepsContents};
+ghost use Rattle.kind_store.specs.Changes.{HasContent, HasNoContent, IsExchanging, IsLeaving, IsLoading, IsUpdating, IsUpdatingNamed, KeepsContents};
 
 use cache_ident::{Ident, KernelNo, Name, NoMemory, Roll};
 use owner_shelf::Shelf;
@@ -52,8 +52,9 @@ impl<T: Descriptor + Drop> KindStore<T> {
         })
     }
 
-    /// Makes `room` at least one more than it was. Where memory is wanted nothing changes. Its time, which grows with
-    /// what is there, is constant for each descriptor that it makes room for, but for a logarithm.
+    /// Makes `room` at least one more than it was. Where memory is wanted nothing changes. It doubles the room of the shelf,
+    /// so that its time, which grows with what is there, is constant for each descriptor that it makes room for, but for a
+    /// logarithm: call it only where `room` is too small.
     pub fn make_room(&mut self) -> Result<(), NoMemory>
         ensures cells { self.new.cells ≡ self.old.cells }
         ensures rows { self.new.rows ≡ self.old.rows }
@@ -249,6 +250,22 @@ impl<T: Descriptor + Drop> KindStore<T> {
         ensures enrolled { StaysEnrolled T.KIND self.old.cells self.new.cells }
     {
         self.cache.update(ident, change)
+    }
+
+    /// Changes the content of a name where it stands, in its slot or on the shelf, but for its name, and gives what the
+    /// change gives. The record isn't moved.
+    pub fn update_named<R, F: FnOnce(&mut T) -> R>(&mut self, name: Name, change: F) -> R
+        requires there { IsSome (content_of T.called self.old name) }
+        requires callable { F.IsAlwaysCallable change }
+        requires named { LeavesName T.called (FnOnceReturnsAtMut F.FnOnce change) (content_of T.called self.old name) }
+        ensures updated { IsUpdatingNamed T.called (FnOnceReturnsAtMut F.FnOnce change) self.old self.new name result }
+        ensures owned { (owner_of : Name → Option KernelNo) → AreOwned T.called owner_of self.old.rows → AreOwned T.called owner_of self.new.rows }
+        ensures enrolled { StaysEnrolled T.KIND self.old.cells self.new.cells }
+    {
+        match self.cache.find(name) {
+            Some(ident) => self.cache.update(ident, change),
+            None => self.shelf.update(name, change),
+        }
     }
 
     /// Puts a content in the place of the one of its name on the shelf, under the same owner, and gives the old one back.

@@ -135,6 +135,19 @@ fn set_mark(store: &mut Store, ident: Ident, mark: u32)
     store.update(ident, |record| record.mark = mark);
 }
 
+fn is_there(store: &Store, name: Name) -> bool
+    ensures { IsTrue result → IsSome (content_of (λ (r : Record). r.name) store.now name) }
+{
+    store.item(name).is_some()
+}
+
+// Gives a record another mark, wherever it stands.
+fn set_mark_of(rt: &impl Abort, store: &mut Store, no: u32, mark: u32) {
+    let name = thread(no);
+    assert!(rt; is_there(store, name));
+    store.update_named(name, |record| record.mark = mark);
+}
+
 // Puts another record in the place of a loaded one, and gives the old one's mark.
 fn change(rt: &impl Abort, store: &mut Store, ident: Ident, no: u32, mark: u32) -> u32 {
     let name = thread(no);
@@ -207,6 +220,20 @@ fn a_content_changes_in_its_slot(rt: HostRuntime) -> Result<(), Fail> {
     assert!(rt; is_loaded(&store, ident));
     set_mark(&mut store, ident, 5);
     assert!(rt; store.loaded().map(|loaded| loaded.value.mark).max() == Some(5));
+    Ok(())
+}
+
+#[test]
+fn a_content_changes_by_its_name(rt: HostRuntime) -> Result<(), Fail> {
+    let (mut store, mut roll) = start(rt.alloc(), 1)?;
+    roll.reserve(1)?;
+    declare(&rt, &mut store, 4, 9, 1)?;
+    declare(&rt, &mut store, 2, 8, 1)?;
+    let ident = load(&rt, &mut store, &mut roll, 9);
+    set_mark_of(&rt, &mut store, 9, 5);
+    set_mark_of(&rt, &mut store, 8, 6);
+    assert!(rt; stands(&store, 9, 5, None) && is_loaded(&store, ident));
+    assert!(rt; stands(&store, 8, 6, Some(2)));
     Ok(())
 }
 

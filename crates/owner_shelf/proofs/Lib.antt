@@ -2,3 +2,4 @@ pub mod NameLemmas
 pub mod ShelfLemmas
 pub mod SoundLemmas
 pub mod RowLaws
+pub mod UpdateLemmas

@@ -1,5 +1,5 @@
 -- What a contract sees of a shelf.
-use Rattle.std.specs.Prelude.{◌≢◌, ℕ, ◌≤◌, ◌^◌, ◌<◌, Bool, not, List, length, filter, All, AllPairs, Option}
+use Rattle.std.specs.Prelude.{◌≡◌, ◌≢◌, ℕ, ◌≤◌, ◌^◌, ◌<◌, Bool, not, if◌then◌else◌, List, length, map, filter, All, AllPairs, Option, Some}
 use Rattle.std.specs.List.{find}
 use Rattle.std.specs.Option.{option_map}
 use Rattle.cache_ident.specs.declared.names.Name.{Name}
@@ -28,6 +28,14 @@ module _ {R : Type 0} (called : R → Name) where
   abbrev pub rows_without : List (Shelved R) → Name → List (Shelved R)
   rows_without rows name = filter (λ row. not (is_named name row)) rows
 
+  -- the row, with that content if it has the name
+  abbrev pub row_with : Name → R → Shelved R → Shelved R
+  row_with name content row = if is_named name row then record row { content = content } else row
+
+  -- the rows, with that content in the place of that of the name
+  abbrev pub rows_with : List (Shelved R) → Name → R → List (Shelved R)
+  rows_with rows name content = map (row_with name content) rows
+
   -- no row has the name
   abbrev pub HasNoRow : List (Shelved R) → Name → Type 0
   HasNoRow rows name = All (λ row. called row.content ≢ name) rows
@@ -37,3 +45,15 @@ module _ {R : Type 0} (called : R → Name) where
     pub once : AllPairs (λ a b. called a.content ≢ called b.content) shelf.rows
     pub few : length shelf.rows ≤ shelf.room
     pub small : shelf.room < 2 ^ 32
+
+  -- a call with that content, if there is one, leaves its name
+  abbrev pub LeavesName : {S : Type 0} → (R → S → R → Type 0) → Option R → Type 0
+  LeavesName {S} call content = (value : R) (result : S) (left : R) → content ≡ Some value → call value result left → called left ≡ called value
+
+  -- a call with the content of the name gave that result, and what it left of the content stands in its place
+  pub record IsUpdated {S : Type 0} (call : R → S → R → Type 0) (old new : OnShelf R) (name : Name) (result : S) : Type 0 where
+    pub value : R
+    pub was : content_under old.rows name ≡ Some value
+    pub left : R
+    pub called_with : call value result left
+    pub is : new ≡ record old { rows = rows_with old.rows name left }

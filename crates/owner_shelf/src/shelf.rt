@@ -1,9 +1,10 @@
 //! The rows that owners hold.
 
-ghost use Rattle.std.specs.Prelude.{◌≡◌, ◌<◌, [], length, option_copied, OnErr, OnOk};
+ghost use Rattle.std.specs.Prelude.{◌≡◌, ◌<◌, [], length, option_copied, IsSome, OnErr, OnOk};
+ghost use Rattle.std.specs.Fn.{FnOnceReturnsAtMut};
 ghost use Rattle.std.specs.Option.{option_map};
 ghost use Rattle.sorted_list.specs.Sorted.{IsAdded};
-ghost use Rattle.owner_shelf.specs.Rows.{content_under, row_under, rows_without, HasNoRow, IsProper};
+ghost use Rattle.owner_shelf.specs.Rows.{content_under, row_under, rows_without, HasNoRow, IsProper, IsUpdated, LeavesName};
 
 use super::shelved::Shelved;
 use cache_ident::{KernelNo, Name, NoMemory};
@@ -104,6 +105,22 @@ impl<R: Descriptor + Drop> Shelf<R> {
         self.by_name.remove(name, key);
         let row = self.records.remove(key);
         Some(row.content)
+    }
+
+    /// Changes the descriptor of that name where it lies, but for its name, and gives what the change gives. The record
+    /// isn't moved.
+    pub fn update<S, F: FnOnce(&mut R) -> S>(&mut self, name: Name, change: F) -> S
+        requires there { IsSome (content_under R.called self.old.rows name) }
+        requires callable { F.IsAlwaysCallable change }
+        requires named { LeavesName R.called (FnOnceReturnsAtMut F.FnOnce change) (content_under R.called self.old.rows name) }
+        ensures updated { IsUpdated R.called (FnOnceReturnsAtMut F.FnOnce change) self.old self.new name result }
+        ensures proper { IsProper R.called self.new }
+    {
+        let Some(key) = self.by_name.find(&name) else {
+            unreachable!()
+        };
+        let row = &mut self.records[key];
+        change(&mut row.content)
     }
 
     /// The descriptor of that name; `None` where it isn't here.

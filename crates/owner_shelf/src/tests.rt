@@ -1,9 +1,9 @@
 //! Rows that are put back, found and taken.
 
-ghost use Rattle.std.specs.Prelude.{◌≡◌, IsTrue};
+ghost use Rattle.std.specs.Prelude.{◌≡◌, IsSome, IsTrue};
 ghost use Rattle.cache_ident.specs.declared.idents.Kind.TheVariants.{Thread};
 ghost use Rattle.cache_ident.specs.declared.names.Name.{Name};
-ghost use Rattle.owner_shelf.specs.Rows.{HasNoRow};
+ghost use Rattle.owner_shelf.specs.Rows.{content_under, HasNoRow};
 
 use crate::Shelf;
 use cache_ident::{KernelNo, Kind, Name, ThreadNo};
@@ -88,6 +88,34 @@ fn a_row_stands_under_its_owner_until_it_is_taken(rt: HostRuntime) -> Result<(),
         [Some((2, 11)), Some((0, 20)), Some((2, 30))]
     );
     assert_eq!(rt; (shelf.room(), shelf.len()), (3, 3));
+    Ok(())
+}
+
+fn is_there(shelf: &Shelf<Record>, name: Name) -> bool
+    ensures { IsTrue result → IsSome (content_under (λ (r : Record). r.name) shelf.now.rows name) }
+{
+    shelf.lookup(name).is_some()
+}
+
+// Gives a record another mark, where it lies.
+fn set_mark(rt: &impl Abort, shelf: &mut Shelf<Record>, name: Name, mark: u32) {
+    assert!(rt; is_there(shelf, name));
+    shelf.update(name, |record| record.mark = mark);
+}
+
+#[test]
+fn a_row_changes_where_it_lies(rt: HostRuntime) -> Result<(), Fail> {
+    let mut shelf = Shelf::new(rt.alloc());
+    let [a, b] = [5, 3].map(thread);
+    shelf.make_room()?;
+    shelf.make_room()?;
+    put(&rt, &mut shelf, 1, a, 10);
+    put(&rt, &mut shelf, 0, b, 20);
+    set_mark(&rt, &mut shelf, a, 11);
+    assert_eq!(rt;
+        [a, b].map(|name| find(&shelf, name)),
+        [Some((1, 11)), Some((0, 20))]
+    );
     Ok(())
 }
 

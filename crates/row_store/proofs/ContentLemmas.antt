@@ -1,6 +1,6 @@
 -- What a change of one row's content leaves of what names and signals tell.
-use Rattle.std.proofs.Common.{◌≡◌, ◌≢◌, ◌⊎◌, ℕ, ◌<◌, Bool, true, false, List, [], length, replicate, Option, Some, None, is_some, sym, ◌∙◌, ap, subst, inl, inr, refl}
-use Rattle.std.specs.Option.{option_map, option_or, IfNone, IfSome, IsSome}
+use Rattle.std.proofs.Common.{◌≡◌, ◌≢◌, ℕ, ◌<◌, List, [], length, replicate, Option, Some, None, is_some, sym, ◌∙◌, ap, subst, inl, inr, refl}
+use Rattle.std.specs.Option.{option_or, IsSome}
 use Rattle.std.specs.Prelude.{if◌then◌else◌}
 use Rattle.std.proofs.lemmas.Bool.{false≢true}
 use Rattle.cache_ident.specs.declared.idents.Ident.{Ident}
@@ -16,7 +16,7 @@ use Rattle.owner_shelf.specs.declared.shelved.Shelved.{Shelved}
 use Rattle.owner_shelf.specs.Rows.{content_under, row_under}
 use Rattle.owner_shelf.proofs.NameLemmas.{eq_apart, eq_itself}
 use Rattle.kind_store.specs.Kept.{content_of, loaded_under, IsExactlyOne, Kept}
-use Rattle.kind_store.specs.Changes.{is_name, HasContent, HasNoContent, KeepsContents}
+use Rattle.kind_store.specs.Changes.{HasContent, HasNoContent, KeepsContents}
 use Rattle.kind_store.proofs.CellLemmas.{found, found-absent, found-there}
 use Rattle.kind_store.proofs.ContentLemmas.{cases_name, content-loaded, content-same, content-shelved}
 use Rattle.row_store.specs.Kept.{is_signal, is_signal_of}

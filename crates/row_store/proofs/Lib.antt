@@ -2,3 +2,4 @@ pub mod ListLemmas
 pub mod SignalLemmas
 pub mod ContentLemmas
 pub mod SoundLemmas
+pub mod NamedLemmas

@@ -1,5 +1,5 @@
 -- The lists beside the rows stay true when a row comes, changes or goes.
-use Rattle.std.proofs.Common.{◌≡◌, ◌≢◌, ◌↔◌, ◌⊎◌, ℕ, zero, ◌+◌, ◌<◌, ◌≤◌, Bool, true, false, not, List, [], ◌∷◌, ◌++◌, length, map, filter, replicate, All, AllPairs, Contains, get_or, Option, Some, None, is_some, sym, ◌∙◌, ap, subst, inl, inr, refl, arith, lit<}
+use Rattle.std.proofs.Common.{◌≡◌, ◌≢◌, ◌↔◌, ◌⊎◌, ℕ, ◌+◌, ◌≤◌, Bool, true, not, List, [], ◌∷◌, ◌++◌, length, map, filter, replicate, All, Contains, get_or, Some, None, is_some, sym, ◌∙◌, ap, subst, inl, inr, refl, arith, lit<}
 use Rattle.std.specs.Option.{IsSome}
 use Rattle.std.specs.declared.cmp.Ordering.TheVariants.{Less}
 use Rattle.std.proofs.lemmas.Bool.{false≢true}
@@ -17,7 +17,7 @@ use Rattle.cache_ident.specs.declared.names.Frame.{Frame}
 use Rattle.cache_ident.specs.declared.names.Name.{Name}
 use Rattle.phys_groups.specs.declared.rows.Row.{Row}
 use Rattle.signal_pages.specs.Signals.{is_signal_row_of}
-use Rattle.sorted_list.specs.Sorted.{by_parts, values_under, IsRising, Sorted}
+use Rattle.sorted_list.specs.Sorted.{values_under, IsRising, Sorted}
 use Rattle.sorted_list.specs.Sorted.{IsProper as IsProperList}
 use Rattle.sorted_list.proofs.ListLemmas.{Contains-cons_cases, Contains-filter, Contains-first, Contains-from_filter, Contains-from_map, Contains-map}
 use Rattle.sorted_list.proofs.RisingLemmas.{by_parts_total}

@@ -13,11 +13,11 @@ ghost use Rattle.sorted_list.specs.Sorted.{IsAdded};
 ghost use Rattle.slot_cache.specs.Cells.{changed, just_loaded, loaded_in, with_lock, with_value, HasExactlyLoaded, HasNoName, IsContent, IsFoundAs, IsFull, IsInOrderOfSlot, IsLoaded, IsLowestFree, IsVictim, KeepsName, LockIs, NameIs, NoneMayGo};
 ghost use Rattle.slot_cache.specs.Rows.{row_name};
 ghost use Rattle.mapping_cache.specs.Frames.{FrameIs, IsRowOf, KeepsFrame};
-ghost use Rattle.owner_shelf.specs.Rows.{content_under, row_under, rows_without};
+ghost use Rattle.owner_shelf.specs.Rows.{content_under, row_under, rows_without, LeavesName};
 ghost use Rattle.kind_store.specs.Kept.{content_of, AreOwned, IsExactlyOne};
 ghost use Rattle.kind_store.specs.Rolls.{all_but, in_order, AreEnrolled, ChangesOne, StaysEnrolled};
-ghost use Rattle.kind_store.specs.Changes.{is_name, HasContent, HasNoContent, IsLeaving, IsLoading, IsUpdating, KeepsContents};
-ghost use Rattle.row_store.specs.Kept.{signal_names, AreNamed, KeepsReceiver, ReceiverIs};
+ghost use Rattle.kind_store.specs.Changes.{is_name, HasContent, HasNoContent, IsLeaving, IsLoading, IsUpdating, IsUpdatingNamed, KeepsContents};
+ghost use Rattle.row_store.specs.Kept.{signal_names, AreNamed, KeepsReceiver, LeavesFrame, LeavesReceiver, ReceiverIs};
 
 use super::iter::SignalRows;
 use super::signals::{self, Signals};
@@ -74,8 +74,9 @@ impl RowStore {
         })
     }
 
-    /// Makes `room` at least one more than it was. Where memory is wanted nothing changes. Its time, which grows with the
-    /// rows that stand, is constant for each row that it makes room for, but for a logarithm.
+    /// Makes `room` at least one more than it was. Where memory is wanted nothing changes. It doubles the room of each list
+    /// that has no more than `room`, so that its time, which grows with the rows that stand, is constant for each row that
+    /// it makes room for, but for a logarithm: call it only where `room` is too small.
     pub fn make_room(&mut self) -> Result<(), NoMemory>
         ensures cells { self.new.kept.cells ≡ self.old.kept.cells }
         ensures rows { self.new.kept.rows ≡ self.old.kept.rows }
@@ -332,6 +333,25 @@ impl RowStore {
         let room = self.rows.room();
         prove!(self.room <= room);
         self.rows.update(ident, change)
+    }
+
+    /// Changes the row of a name where it stands, in its slot or on the shelf, but for its name, frame and receiver, and
+    /// gives what the change gives. The row isn't moved.
+    pub fn update_named<R, F: FnOnce(&mut Row) -> R>(&mut self, name: Name, change: F) -> R
+        requires there { IsSome (content_of row_name self.old.kept name) }
+        requires callable { F.IsAlwaysCallable change }
+        requires named { LeavesName row_name (FnOnceReturnsAtMut F.FnOnce change) (content_of row_name self.old.kept name) }
+        requires frame { LeavesFrame (FnOnceReturnsAtMut F.FnOnce change) (content_of row_name self.old.kept name) }
+        requires receiver { LeavesReceiver (FnOnceReturnsAtMut F.FnOnce change) (content_of row_name self.old.kept name) }
+        ensures updated { IsUpdatingNamed row_name (FnOnceReturnsAtMut F.FnOnce change) self.old.kept self.new.kept name result }
+        ensures names { self.new.names ≡ self.old.names }
+        ensures room { self.new.room ≡ self.old.room }
+        ensures owned { (owner_of : Name → Option KernelNo) → AreOwned row_name owner_of self.old.kept.rows → AreOwned row_name owner_of self.new.kept.rows }
+        ensures enrolled { StaysEnrolled Mapping self.old.kept.cells self.new.kept.cells }
+    {
+        let room = self.rows.room();
+        prove!(self.room <= room);
+        self.rows.update_named(name, change)
     }
 
     /// Takes a row off the shelf for good, with its name, and gives it. There is room for one more then, unless the

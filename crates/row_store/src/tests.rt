@@ -231,6 +231,43 @@ fn change(rt: &impl Abort, store: &mut RowStore, roll: &mut Roll) -> Result<(), 
     Ok(())
 }
 
+fn is_there(store: &RowStore, name: Name) -> bool
+    ensures { IsTrue result → IsSome (content_of row_name store.now.kept name) }
+{
+    store.item(name).is_some()
+}
+
+// Marks a row by its name, wherever it stands, and says whether it is marked then.
+fn mark_named(rt: &impl Abort, store: &mut RowStore, no: u32) -> bool {
+    let name = page(no);
+    assert!(rt; is_there(store, name));
+    store.update_named(name, |row| row.modified = true);
+    match store.item(name) {
+        Some(row) => row.modified,
+        None => false,
+    }
+}
+
+fn change_by_name(rt: &impl Abort, store: &mut RowStore, roll: &mut Roll) -> Result<(), Fail>
+    requires { AreEnrolled Mapping roll.old.issued store.old.kept.cells }
+{
+    roll.reserve(1)?;
+    declare(rt, store, row(7, 3, Some(0)))?;
+    declare(rt, store, row(5, 3, Some(0)))?;
+    let ident = load(rt, store, roll, 7);
+    assert!(rt; mark_named(rt, store, 7));
+    assert!(rt; mark_named(rt, store, 5));
+    assert!(rt; store.of_frame(Frame(3)).next() == Some(ident));
+    assert!(rt; are_signal_rows(store, 3, &[7, 5]));
+    Ok(())
+}
+
+#[test]
+fn a_row_changes_by_its_name(rt: HostRuntime) -> Result<(), Fail> {
+    let (mut store, mut roll) = start(rt.alloc(), 1)?;
+    change_by_name(&rt, &mut store, &mut roll)
+}
+
 #[test]
 fn a_row_changes_in_its_slot(rt: HostRuntime) -> Result<(), Fail> {
     let (mut store, mut roll) = start(rt.alloc(), 1)?;

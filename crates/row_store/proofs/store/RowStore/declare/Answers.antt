@@ -1,10 +1,9 @@
-use Rattle.std.proofs.Common.{◌≡◌, ◌-◌, ◌<◌, None, ap, length, subst, sym, ◌∙◌, arith}
-use Rattle.std.proofs.lemmas.List.{map-append}
+use Rattle.std.proofs.Common.{◌≡◌, ◌-◌, None, subst, sym, arith}
 use Rattle.cache_ident.specs.declared.names.Name.{Name}
 use Rattle.kind_store.specs.Changes.{HasContent}
-use Rattle.kind_store.specs.Kept.{content_of, Kept}
+use Rattle.kind_store.specs.Kept.{content_of}
 use Rattle.slot_cache.specs.Rows.{row_name}
-use Rattle.row_store.proofs.SoundLemmas.{name_of, names_declaring, new_name, new_signal, sound-declaring}
+use Rattle.row_store.proofs.SoundLemmas.{names_declaring, new_name, new_signal, sound-declaring}
 use Rattle.row_store.proofs.store.RowStore.declare.Goals as goal
 
 pub push-stamp-requires-clause-absent : goal.push-stamp-requires-clause-absent

@@ -1,5 +1,4 @@
-use Rattle.std.proofs.Common.{ap, subst, sym, ◌∙◌}
-use Rattle.cache_ident.specs.declared.names.Frame.{Frame}
+use Rattle.std.proofs.Common.{subst}
 use Rattle.phys_groups.specs.declared.rows.Row.{Row}
 use Rattle.sorted_list.specs.Sorted.{IsAdded}
 use Rattle.slot_cache.specs.Cells.{just_loaded}

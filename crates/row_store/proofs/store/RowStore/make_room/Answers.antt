@@ -1,5 +1,4 @@
-use Rattle.std.proofs.Common.{◌+◌, suc, ap, length, refl, arith}
-use Rattle.kind_store.specs.Kept.{Kept}
+use Rattle.std.proofs.Common.{suc, ap, length, refl, arith}
 use Rattle.row_store.proofs.ContentLemmas.{alike-kept, alike-same}
 use Rattle.row_store.proofs.SoundLemmas.{sound-roomier}
 use Rattle.row_store.proofs.store.RowStore.make_room.Goals as goal

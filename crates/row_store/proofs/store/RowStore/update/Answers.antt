@@ -1,6 +1,5 @@
 use Rattle.std.proofs.Common.{◌≡◌, Some, ap, refl, subst, sym}
 use Rattle.std.specs.Fn.{FnOnceReturnsAtMut}
-use Rattle.cache_ident.specs.declared.names.Name.{Name}
 use Rattle.phys_groups.specs.declared.rows.Row.{Row}
 use Rattle.slot_cache.specs.Rows.{row_name}
 use Rattle.kind_store.specs.Kept.{content_of, Kept}
