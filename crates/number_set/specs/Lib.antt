@@ -1,0 +1,4 @@
+pub mod First
+pub mod Bits
+pub mod Members
+pub mod Layout
