@@ -1,0 +1,10 @@
+pub mod ListLemmas
+pub mod ContentLemmas
+pub mod AlikeLemmas
+pub mod LookupLemmas
+pub mod MoveLemmas
+pub mod ChangeLemmas
+pub mod DeclareLemmas
+pub mod DependenceLemmas
+pub mod UpdateLemmas
+pub mod OwnerLemmas

@@ -1,0 +1,4 @@
+pub mod Shown
+pub mod Found
+pub mod Edits
+pub mod Owning
