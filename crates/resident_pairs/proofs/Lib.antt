@@ -1,3 +1,3 @@
-mod Staying
-mod Loading
-mod Room
+pub mod Staying
+pub mod Loading
+pub mod Room

@@ -1,0 +1,10 @@
+pub mod RollLemmas
+pub mod SlotLemmas
+pub mod CellLemmas
+pub mod KindLemmas
+pub mod ResidentLemmas
+pub mod SlotLaws
+pub mod VictimLemmas
+pub mod ContentLemmas
+pub mod FrameLemmas
+pub mod StayLemmas
