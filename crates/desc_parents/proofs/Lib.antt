@@ -1,0 +1,5 @@
+pub mod IdentLemmas
+pub mod FitLemmas
+pub mod RowLemmas
+pub mod ParentLemmas
+mod PlainLemmas

@@ -1,0 +1,2 @@
+pub mod Idents
+pub mod Seen

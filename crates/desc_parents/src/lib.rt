@@ -1,0 +1,10 @@
+//! What a descriptor depends on, by the identifiers of what is loaded, and whether a row is fit.
+#![tactic(auto)]
+
+mod fits;
+mod found;
+#[cfg(test)]
+mod tests;
+
+pub use fits::{is_fit, kernel_of};
+pub use found::{Parents, parents_of};
