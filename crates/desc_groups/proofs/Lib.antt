@@ -1,0 +1,9 @@
+pub mod ShowLemmas
+pub mod OwnerLemmas
+pub mod OwnedLemmas
+pub mod CountLemmas
+pub mod LockLemmas
+pub mod DepartLemmas
+pub mod LeaveLemmas
+pub mod EnterLemmas
+pub mod PlaceLemmas
