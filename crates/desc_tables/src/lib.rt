@@ -1,0 +1,13 @@
+//! The tables: every descriptor that stands, in its cache or with its owner, and its moves between the two.
+//!
+//! Above them nobody sees a slot, an index or a pair.
+#![tactic(auto)]
+
+mod admits;
+mod tables;
+#[cfg(test)]
+mod tests;
+
+pub use desc_groups::Gone;
+pub use desc_stores::{Item, ItemRef};
+pub use tables::Tables;
