@@ -1,7 +1,6 @@
 -- Declarations in the journal.
-use Rattle.std.proofs.Common.{◌≡◌, ℕ, ◌+◌, ◌*◌, ◌<◌, Bool, true, false, List, [], ◌∷◌, ◌++◌, length, replicate, Option, Some, None, refl, ap, sym, ◌∙◌, subst, arith}
+use Rattle.std.proofs.Common.{◌≡◌, ℕ, ◌+◌, ◌*◌, false, List, [], ◌∷◌, ◌++◌, length, replicate, Option, Some, None, refl, ap, sym, ◌∙◌, arith}
 use Rattle.std.specs.Prelude.{filter_map, unwrap_or}
-use Rattle.cache_ident.specs.declared.idents.Ident.{Ident}
 use Rattle.cache_ident.specs.declared.names.Frame.{Frame}
 use Rattle.cache_ident.specs.declared.names.KernelNo.{KernelNo}
 use Rattle.cache_ident.specs.declared.rolls.Issued.{Issued}
@@ -48,7 +47,7 @@ module _ (m : Machine) (memory after : List ℕ) (old new : Contents) (j : List 
   declared_told is =
       entry_told m memory after old new false false j as_told (Declared d) (refl, none) (omega arith) tt
       (same_told (applied (shown (Some m) memory old) (Declare d)) (shown (Some m) after new) false false (length old.issued) (length new.issued) (residents_of old) (residents_of new)
-          (fits (shown (Some m) memory old) d none ∙ is) refl (ap length (sym keeps.issued)) (sym keeps.residents))
+      (fits (shown (Some m) memory old) d none ∙ is) refl (ap length (sym keeps.issued)) (sym keeps.residents))
       (λ x. ap (λ (issued : List Issued). standing_in issued x) (sym keeps.issued))
 
   pub descriptor_told : (it : Item) → Declares d it → shown (Some m) after new ≡ with_new (shown (Some m) memory old) it → AreAsTold m after new false (j ++ Declared d ∷ [])

@@ -1,9 +1,9 @@
 -- A group that leaves, in the journal.
-use Rattle.std.proofs.Common.{◌≡◌, ◌≢◌, ℕ, ◌<◌, Bool, true, List, [], ◌∷◌, ◌++◌, length, map, Contains, Some, refl, ap, sym, ◌∙◌, subst}
+use Rattle.std.proofs.Common.{◌≡◌, ◌≢◌, ℕ, ◌<◌, true, List, [], ◌∷◌, ◌++◌, length, map, Contains, Some, refl, ap, sym, ◌∙◌, subst}
 use Rattle.cache_ident.specs.declared.idents.Cause.{Cause}
 use Rattle.cache_ident.specs.declared.idents.Cause.TheVariants as causes
 use Rattle.cache_ident.specs.declared.idents.Ident.{Ident}
-use Rattle.cache_ident.specs.declared.idents.Standing.TheVariants.{Live, Never}
+use Rattle.cache_ident.specs.declared.idents.Standing.TheVariants.{Live}
 use Rattle.cache_ident.specs.declared.names.Caps.{Caps}
 use Rattle.cache_ident.specs.declared.rolls.Issued.{Issued}
 use Rattle.cache_ident.specs.Residents.{Resident, without}
@@ -23,7 +23,7 @@ use Rattle.shown_state.specs.Shown.{shown}
 use Rattle.store_residents.proofs.ResidentLemmas.{live_iff}
 use Rattle.desc_parents.specs.Seen.{seen}
 use Rattle.desc_groups.specs.declared.departures.Gone.{Gone}
-use Rattle.desc_groups.specs.Moves.{departed_all, idents_of}
+use Rattle.desc_groups.specs.Moves.{idents_of}
 use Rattle.desc_groups.specs.Whole.{AreWhole}
 use Rattle.desc_groups.proofs.LeaveLemmas.{ident_of}
 use Rattle.board_laws.specs.Moves.{written_back, IsUnload}
@@ -56,11 +56,11 @@ module _ (m : Machine) (memory : List ℕ) (caps : Caps) (c : Contents) (pairs :
         let is = tells_is m memory c true j as_told in
         subst (λ (k : Told). AreLegal k (departures cpu group.order.dependents root.ident cause)) {x = told j} {y = tells m memory c true} is
         (departures_legal j root group.pairs group.nodes cpu cause as_told.legal as_told.seal few
-            (subst (λ (rs : List Resident). Contains rs root) (sym as_told.residents) there)
-            other
-            (subst (λ (k : Told). ArePairsOf k.state k.residents group.pairs) {x = tells m memory c true} {y = told j} (sym is) (pairs_shown m memory c (residents_of c) group.pairs group.are))
-            order_told
-            (subst (λ (k : Told). MayGo k root cause) {x = tells m memory c true} {y = told j} (sym is) may))
+        (subst (λ (rs : List Resident). Contains rs root) (sym as_told.residents) there)
+        other
+        (subst (λ (k : Told). ArePairsOf k.state k.residents group.pairs) {x = tells m memory c true} {y = told j} (sym is) (pairs_shown m memory c (residents_of c) group.pairs group.are))
+        order_told
+        (subst (λ (k : Told). MayGo k root cause) {x = tells m memory c true} {y = told j} (sym is) may))
 
 module _ (m : Machine) (memory : List ℕ) (caps : Caps) (old new : Contents) (pairs : List (Ident × Node)) (j : List Entry) (ident : Ident) (gone : List Gone) (cpu : ℕ)
     (as_told : AreAsTold m memory old true j) (whole : AreWhole caps old pairs) (few : cpu < 8) where
@@ -73,8 +73,8 @@ module _ (m : Machine) (memory : List ℕ) (caps : Caps) (old new : Contents) (p
       let loads : length old.issued ≡ length new.issued = sym (length_all old.issued (idents_of gone) (length j)) ∙ ap length (sym is.issued) in
       grown_told m memory memory old new true true j as_told (written_back cpu gone) legal
       (ap (told_from (tells m memory old true)) entries
-          ∙ told_unloaded cpu group.order.dependents root.ident (tells m memory old true)
-          ∙ same_told (shown (Some m) memory old) (shown (Some m) memory new) true true (length old.issued) (length new.issued) (without root.ident (without_all (map ident_of group.order.dependents) (residents_of old))) (residents_of new) (sym (is.contents.shows (Some m) memory)) refl loads residents)
+      ∙ told_unloaded cpu group.order.dependents root.ident (tells m memory old true)
+      ∙ same_told (shown (Some m) memory old) (shown (Some m) memory new) true true (length old.issued) (length new.issued) (without root.ident (without_all (map ident_of group.order.dependents) (residents_of old))) (residents_of new) (sym (is.contents.shows (Some m) memory)) refl loads residents)
       (λ x. all_stand gone cpu old.issued (length j) x (group_issued m memory caps old pairs whole root there (idents_of gone) group) ∙ ap (λ (issued : List Issued). standing_in issued x) (sym is.issued))
 
   pub unloaded_told : standing_in old.issued ident ≡ Live → ident ≢ first_ident → IsUnload old new ident (length j) gone → AreAsTold m memory new true (j ++ written_back cpu gone)

@@ -1,5 +1,5 @@
 -- Loads, and the seal, in the journal.
-use Rattle.std.proofs.Common.{◌≡◌, ◌≢◌, ℕ, zero, suc, ◌+◌, ◌<◌, Bool, true, false, cond, eqb, List, [], ◌∷◌, ◌++◌, length, map, Contains, Some, None, refl, ap, sym, ◌∙◌, subst, inl, inr, arith}
+use Rattle.std.proofs.Common.{◌≡◌, ◌≢◌, ℕ, zero, suc, ◌+◌, ◌<◌, true, false, cond, eqb, List, [], ◌∷◌, ◌++◌, length, Contains, Some, None, refl, ap, sym, ◌∙◌, subst, inl, inr, arith}
 use Rattle.std.proofs.lemmas.Bool.{cases_Bool, eqb-false, eqb-true}
 use Rattle.std.proofs.lemmas.List.Elements.{Contains-append_left, Contains-push, Contains-push_cases}
 use Rattle.cache_ident.specs.declared.idents.Cause.TheVariants as causes
@@ -12,8 +12,8 @@ use Rattle.cache_ident.specs.declared.names.Caps.{Caps}
 use Rattle.cache_ident.specs.declared.names.Name.{Name}
 use Rattle.cache_ident.specs.declared.rolls.Issued.{Issued}
 use Rattle.cache_ident.specs.Names.{amount_of, first_name, kind_of}
-use Rattle.cache_ident.specs.Residents.{Resident, IsNameResident, with_loaded, with_lock, without}
-use Rattle.cache_ident.specs.Rolls.{is_same, just_issued, standing_in}
+use Rattle.cache_ident.specs.Residents.{Resident, IsNameResident, with_loaded, with_lock}
+use Rattle.cache_ident.specs.Rolls.{is_same, standing_in}
 use Rattle.depend_lists.specs.declared.nodes.Node.{Node}
 use Rattle.writeback_order.specs.Order.{rank_of}
 use Rattle.flat_state.specs.declared.events.Machine.{Machine}
@@ -24,8 +24,8 @@ use Rattle.flat_laws.proofs.Members.{contains_nothing}
 use Rattle.run_journal.specs.declared.entries.Entry.{Entry}
 use Rattle.run_journal.specs.declared.entries.Entry.TheVariants.{Loaded, Locked, Sealed}
 use Rattle.run_journal.specs.Groups.{HasParents, IsGroup, departures}
-use Rattle.run_journal.specs.Legal.{cap_of, count_of, first_ident, AreLegal, Comes, IsFullBefore, IsTaken, MayCome, MayLoad, MayLock, StaysGood}
-use Rattle.run_journal.specs.Told.{due_after_load, Anything, Due, FirstLoad, FirstLock, Load, Told, told, told_from, told_of}
+use Rattle.run_journal.specs.Legal.{cap_of, count_of, first_ident, AreLegal, Comes, IsTaken, MayCome, MayLoad, MayLock, StaysGood}
+use Rattle.run_journal.specs.Told.{due_after_load, Anything, Due, FirstLoad, FirstLock, Load, Told, told_from, told_of}
 use Rattle.run_journal.proofs.Growth.{legal-append, standing_from-append, told_from-append}
 use Rattle.run_journal.proofs.LegalGrowth.{not_first_load}
 use Rattle.run_journal.proofs.Whole.{nothing_loaded}
@@ -44,7 +44,6 @@ use Rattle.desc_parents.specs.Seen.{seen}
 use Rattle.desc_groups.specs.declared.departures.Gone.{Gone}
 use Rattle.desc_groups.specs.Moves.{departed_all, idents_of, MayBeLocked}
 use Rattle.desc_groups.specs.Whole.{AreWhole}
-use Rattle.desc_groups.proofs.LeaveLemmas.{ident_of}
 use Rattle.board_laws.specs.Moves.{written_back, IsLoad, IsLock}
 use Rattle.board_laws.specs.Telling.{AreAsTold}
 use Rattle.board_laws.proofs.Departing.{group_entries, group_leaves_behind, told_displaced}
@@ -146,13 +145,13 @@ module _ (m : Machine) (memory : List ℕ) (caps : Caps) (old new : Contents) (b
       grown_told m memory memory old new true true j as_told (backs ++ Loaded ident name cpu ∷ [])
       (legal-append k backs (Loaded ident name cpu ∷ []) legal (subst (λ (t : Told). AreLegal t (Loaded ident name cpu ∷ [])) {x = behind due} {y = told_from k backs} (sym then) (last, tt)))
       (told_from-append k backs (Loaded ident name cpu ∷ [])
-          ∙ ap (λ (t : Told). told_from t (Loaded ident name cpu ∷ [])) then
-          ∙ ap (λ (d : Due). told_of (shown (Some m) memory old) true (length old.issued + 1) (with_loaded ident name (behind due).residents) d) next
-          ∙ same_told (shown (Some m) memory old) (shown (Some m) memory new) true true (length old.issued + 1) (length new.issued) (with_loaded ident name (behind due).residents) (residents_of new)
-              (sym (is.shows (Some m) memory)) refl (one_more m memory caps old new before after name keep (length j) gone ident whole whole_new is) all_residents)
+      ∙ ap (λ (t : Told). told_from t (Loaded ident name cpu ∷ [])) then
+      ∙ ap (λ (d : Due). told_of (shown (Some m) memory old) true (length old.issued + 1) (with_loaded ident name (behind due).residents) d) next
+      ∙ same_told (shown (Some m) memory old) (shown (Some m) memory new) true true (length old.issued + 1) (length new.issued) (with_loaded ident name (behind due).residents) (residents_of new)
+      (sym (is.shows (Some m) memory)) refl (one_more m memory caps old new before after name keep (length j) gone ident whole whole_new is) all_residents)
       (λ x. standing_from-append (length j) x (standing_in old.issued x) backs (Loaded ident name cpu ∷ [])
-          ∙ ap (λ (standing : Standing). cond (is_same ident x) Live standing) (all_stand gone cpu old.issued (length j) x were)
-          ∙ stands_then m memory caps old new before after name keep (length j) gone ident whole whole_new is x)
+      ∙ ap (λ (standing : Standing). cond (is_same ident x) Live standing) (all_stand gone cpu old.issued (length j) x were)
+      ∙ stands_then m memory caps old new before after name keep (length j) gone ident whole whole_new is x)
 
   -- nothing left
   none_left : gone ≡ [] → AreAsTold m memory new true (j ++ (backs ++ Loaded ident name cpu ∷ []))
@@ -170,20 +169,20 @@ module _ (m : Machine) (memory : List ℕ) (caps : Caps) (old new : Contents) (b
       let entries : backs ≡ departures cpu group.order.dependents root.ident causes.Displaced = group_entries (seen old) (residents_of old) root (idents_of gone) group cpu causes.Displaced gone is.causes in
       let its_kind : root.ident.kind ≡ kind_of name = oldest.may_go.of_kind in
       let other : root.ident ≢ first_ident = λ same.
-          let first_in = subst (λ (rs : List Resident). Contains rs (first true)) as_told.residents (first_there j as_told.legal as_told.seal).1 in
-          let is_first : root ≡ first true = (one_each old whole.one).idents root (first true) there first_in same in
-          let locked : root.locked ≡ true = ap (λ (r : Resident). r.locked) is_first in
-          let unlocked = oldest.may_go.unlocked in
-          absurd (cc)
+      let first_in = subst (λ (rs : List Resident). Contains rs (first true)) as_told.residents (first_there j as_told.legal as_told.seal).1 in
+      let is_first : root ≡ first true = (one_each old whole.one).idents root (first true) there first_in same in
+      let locked : root.locked ≡ true = ap (λ (r : Resident). r.locked) is_first in
+      let unlocked = oldest.may_go.unlocked in
+      absurd (cc)
       in
       let full_before : count_of (residents_of old) root.ident.kind ≡ cap_of (shown (Some m) memory old) root.ident.kind =
-          (full_iff old whole.one.sound root.ident.kind).0 (subst (λ (of : Kind). IsFullOf old of) (sym its_kind) full)
-          ∙ whole.sized root.ident.kind ∙ ap (λ (c : Caps). amount_of c root.ident.kind) machine ∙ sym (cap_shown m memory old root.ident.kind) in
+      (full_iff old whole.one.sound root.ident.kind).0 (subst (λ (of : Kind). IsFullOf old of) (sym its_kind) full)
+      ∙ whole.sized root.ident.kind ∙ ap (λ (c : Caps). amount_of c root.ident.kind) machine ∙ sym (cap_shown m memory old root.ident.kind) in
       let legal : AreLegal k backs = subst (λ (es : List Entry). AreLegal k es) (sym entries) (group_legal m memory caps old before whole root there (idents_of gone) group j as_told cpu few other causes.Displaced (oldest.may_go.unlocked, full_before)) in
       finish (Load root.ident.kind cpu) legal
       (ap (told_from k) entries
-          ∙ told_displaced cpu group.order.dependents root.ident k
-          ∙ ap (λ (rs : List Resident). told_of (shown (Some m) memory old) true (length old.issued) rs (Load root.ident.kind cpu)) (group_leaves_behind (seen old) (residents_of old) root (idents_of gone) group))
+      ∙ told_displaced cpu group.order.dependents root.ident k
+      ∙ ap (λ (rs : List Resident). told_of (shown (Some m) memory old) true (length old.issued) rs (Load root.ident.kind cpu)) (group_leaves_behind (seen old) (residents_of old) root (idents_of gone) group))
       (of_kind m memory caps old new before after name keep (length j) gone ident whole whole_new is ∙ sym its_kind, refl)
       (group_issued m memory caps old before whole root there (idents_of gone) group)
 
@@ -269,15 +268,14 @@ module _ (m : Machine) (memory : List ℕ) (caps : Caps) (old mid new : Contents
       let live = (live_iff mid whole_mid.one.sound first_ident).1 (first false, kernel_there, refl) in
       subst (λ (s : FlatState). MayLock (told_of s true (length old.issued + 1) kernel_in due) first_ident) shows_mid
       (subst (λ (rs : List Resident). MayLock (told_of (shown (Some m) memory mid) true (length old.issued + 1) rs due) first_ident) residents_mid
-          (may_lock m memory caps mid after whole_mid first_ident live true (length old.issued + 1) due unlocked may))
+      (may_lock m memory caps mid after whole_mid first_ident live true (length old.issued + 1) due unlocked may))
 
   abbrev entries : List Entry
   entries = Sealed ∷ Loaded first_ident first_name 0 ∷ Locked first_ident 0 ∷ []
 
   entries_legal : AreLegal base entries
   entries_legal =
-      let due : due_after_load (length old.issued) ≡ FirstLock = ap due_after_load nothing_issued in
-      (
+      let due : due_after_load (length old.issued) ≡ FirstLock = ap due_after_load nothing_issued in (
         record { comes = tt; place = refl; processor = omega arith; happens = tt },
         (
           record { comes = refl; place = refl; processor = omega arith; happens = load_first },
@@ -299,7 +297,7 @@ module _ (m : Machine) (memory : List ℕ) (caps : Caps) (old mid new : Contents
       let residents : with_lock first_ident true kernel_in ≡ residents_of new = ap (with_lock first_ident true) (sym residents_mid) ∙ sym lock.residents in
       grown_told m memory memory old new false true j as_told entries entries_legal
       (same_told (shown (Some m) memory old) (shown (Some m) memory new) true true (length old.issued + 1) (length new.issued) (with_lock first_ident true kernel_in) (residents_of new)
-          (sym shows_mid ∙ sym (lock.contents.shows (Some m) memory)) refl loads residents)
+      (sym shows_mid ∙ sym (lock.contents.shows (Some m) memory)) refl loads residents)
       (λ x. ap (λ (g : List Gone). cond (is_same first_ident x) Live (standing_in (departed_all old.issued (idents_of g) at) x)) (sym none)
-          ∙ stands_then m memory caps old mid before after first_name keep at gone first_ident whole whole_mid is x
-          ∙ ap (λ (issued : List Issued). standing_in issued x) (sym lock.issued))
+      ∙ stands_then m memory caps old mid before after first_name keep at gone first_ident whole whole_mid is x
+      ∙ ap (λ (issued : List Issued). standing_in issued x) (sym lock.issued))

@@ -18,7 +18,6 @@ use Rattle.shown_state.specs.Shown.{shown}
 use Rattle.shown_state.proofs.DependenceLemmas.{same_owner}
 use Rattle.store_residents.proofs.ResidentLemmas.{live_iff, lock_iff, resident_loaded}
 use Rattle.store_residents.proofs.SlotLaws.{what_is_there}
-
 use Rattle.desc_parents.specs.Seen.{seen}
 use Rattle.desc_groups.specs.Moves.{MayBeLocked}
 use Rattle.desc_groups.specs.Whole.{AreWhole}

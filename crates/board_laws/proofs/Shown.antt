@@ -9,7 +9,6 @@ use Rattle.cache_ident.specs.Names.{amount_of}
 use Rattle.cache_ident.specs.Residents.{Resident}
 use Rattle.depend_lists.specs.declared.nodes.Node.{Node}
 use Rattle.flat_state.specs.declared.events.Machine.{Machine}
-use Rattle.flat_state.specs.Dependence.{parents}
 use Rattle.flat_state.specs.Names.{stands}
 use Rattle.run_journal.specs.Groups.{node_of, ArePairsOf, HasParents}
 use Rattle.run_journal.specs.Legal.{cap_of, limit_of, locked_by, AreGood}

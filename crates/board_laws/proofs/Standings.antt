@@ -1,5 +1,5 @@
 -- Where identifiers stand once some have left, or one was issued.
-use Rattle.std.proofs.Common.{◌≡◌, ℕ, suc, ◌+◌, ◌≤◌, Bool, true, false, cond, List, [], ◌∷◌, ◌++◌, length, Contains, Option, Some, None, refl, ap, sym, ◌∙◌, subst, inl, inr, arith}
+use Rattle.std.proofs.Common.{◌≡◌, ℕ, ◌+◌, Bool, true, false, cond, List, [], ◌∷◌, ◌++◌, length, Contains, Option, Some, None, refl, ap, sym, ◌∙◌, subst, inl, inr, arith}
 use Rattle.std.proofs.lemmas.Bool.{cases_Bool}
 use Rattle.std.proofs.lemmas.List.{length-map, length-append}
 use Rattle.cache_ident.specs.declared.idents.Cause.{Cause}
@@ -8,7 +8,7 @@ use Rattle.cache_ident.specs.declared.idents.Standing.{Standing}
 use Rattle.cache_ident.specs.declared.idents.Standing.TheVariants.{Live, Left, Never}
 use Rattle.cache_ident.specs.declared.rolls.Issued.{Issued}
 use Rattle.cache_ident.specs.Rolls.{departed, departed_if, is_same, just_issued, standing_in, standing_since, IsNumberedFrom}
-use Rattle.cache_ident.proofs.RollLemmas.{is_same-refl, never_above, numbered-departed, same_ident, standing_in-departed_other}
+use Rattle.cache_ident.proofs.RollLemmas.{never_above, numbered-departed, same_ident, standing_in-departed_other}
 use Rattle.flat_laws.proofs.Members.{Contains-behind, Contains-here}
 use Rattle.run_journal.specs.declared.entries.Entry.TheVariants.{WrittenBack}
 use Rattle.run_journal.specs.Standing.{standing_after, standing_from}
