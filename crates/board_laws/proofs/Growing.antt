@@ -6,13 +6,18 @@ use Rattle.cache_ident.specs.declared.idents.Standing.TheVariants.{Never}
 use Rattle.cache_ident.specs.Residents.{Resident}
 use Rattle.cache_ident.specs.Rolls.{standing_in}
 use Rattle.flat_state.specs.declared.events.Machine.{Machine}
+use Rattle.flat_state.specs.Events.{flat}
 use Rattle.flat_state.specs.State.{FlatState}
+use Rattle.flat_state.specs.WellFormed.{IsWellFormed}
+use Rattle.flat_state.proofs.FormedEvents.{flat_formed}
 use Rattle.run_journal.specs.declared.entries.Entry.{Entry}
+use Rattle.run_journal.specs.Entries.{erase}
 use Rattle.run_journal.specs.Legal.{AreLegal, IsByProcessor, IsInPlace, MayHappen}
-use Rattle.run_journal.specs.Standing.{standing_after, standing_from, standing_of}
+use Rattle.run_journal.specs.Standing.{standing_after, standing_from, standing_of, StandsAs}
 use Rattle.run_journal.specs.Told.{Anything, Told, nothing_told, told, told_after, told_from, told_of}
 use Rattle.run_journal.proofs.Growth.{standing_from-append, told_from-append}
-use Rattle.run_journal.proofs.LegalGrowth.{grows, settled}
+use Rattle.run_journal.proofs.LegalGrowth.{grows, settled, state_told}
+use Rattle.run_journal.proofs.Standings.{stands_as}
 use Rattle.desc_stores.specs.Contents.{residents_of, Contents}
 use Rattle.shown_state.specs.Shown.{shown}
 use Rattle.board_laws.specs.Telling.{AreAsTold}
@@ -58,3 +63,15 @@ module _ (m : Machine) (memory after : List ℕ) (old new : Contents) (on onto :
   pub entry_told : (e : Entry) → IsInPlace (tells m memory old on) e → IsByProcessor e → MayHappen (tells m memory old on) e → told_after (tells m memory old on) e ≡ tells m after new onto
       → ((ident : Ident) → standing_after (length j) ident (standing_in old.issued ident) e ≡ standing_in new.issued ident) → AreAsTold m after new onto (j ++ e ∷ [])
   entry_told e place by may then stands = grown_told (e ∷ []) (record { comes = tt; place = place; processor = by; happens = may }, tt) then stands
+
+-- ---- what follows
+
+module _ (m : Machine) (memory : List ℕ) (c : Contents) (sealed : Bool) (j : List Entry) (as_told : AreAsTold m memory c sealed j) where
+  pub state_is_flat : shown (Some m) memory c ≡ flat (erase j)
+  state_is_flat = sym as_told.state ∙ state_told j
+
+  pub formed_told : IsWellFormed (shown (Some m) memory c)
+  formed_told = subst IsWellFormed (sym state_is_flat) (flat_formed (erase j))
+
+  pub stands_told : (ident : Ident) → StandsAs j ident (standing_in c.issued ident)
+  stands_told ident = subst (λ (standing : Standing). StandsAs j ident standing) (as_told.standings ident) (stands_as j ident)

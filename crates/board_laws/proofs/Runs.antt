@@ -1,6 +1,6 @@
 -- Steps and completed calls in the journal.
-use Rattle.std.proofs.Common.{◌≡◌, ℕ, ◌<◌, true, false, List, [], ◌∷◌, ◌++◌, length, Option, Some, refl, ap, sym, subst}
-use Rattle.std.specs.Prelude.{IsSome, unwrap_or}
+use Rattle.std.proofs.Common.{◌≡◌, ℕ, ◌<◌, true, false, List, [], ◌∷◌, ◌++◌, length, Some, refl, ap, sym, subst}
+use Rattle.std.specs.Prelude.{IsSome}
 use Rattle.cache_ident.specs.declared.idents.Ident.{Ident}
 use Rattle.cache_ident.specs.declared.names.Caps.{Caps}
 use Rattle.cache_ident.specs.declared.names.Name.TheVariants.{Thread}
@@ -42,14 +42,14 @@ module _ (m : Machine) (before after : List ℕ) (old new : Contents) (j : List 
       (same_told (after_steps (shown (Some m) before old) thread 1) (shown (Some m) after new) true true (length old.issued) (length new.issued) (residents_of old) (residents_of new) (sym shows) refl (ap length (sym keeps.issued)) (sym keeps.residents))
       stands
 
-  pub completed_told : (caps : Caps) (pairs : List (Ident × Node)) → AreWhole caps new pairs → after_event (shown (Some m) before old) (Complete thread) ≡ Some (shown (Some m) after new) → AreAsTold m after new true (j ++ Completed thread cpu ∷ [])
-  completed_told caps pairs whole is =
-      let then : applied (shown (Some m) before old) (Complete thread) ≡ shown (Some m) after new = ap (λ (o : Option FlatState). unwrap_or o (shown (Some m) before old)) is in
+  pub completed_told : (caps : Caps) (pairs : List (Ident × Node)) → AreWhole caps new pairs → IsSome (after_event (shown (Some m) before old) (Complete thread)) → shown (Some m) after new ≡ applied (shown (Some m) before old) (Complete thread) → AreAsTold m after new true (j ++ Completed thread cpu ∷ [])
+  completed_told caps pairs whole fits shows =
+      let then : applied (shown (Some m) before old) (Complete thread) ≡ shown (Some m) after new = sym shows in
       let good : AreGood (shown (Some m) after new) (residents_of old) = subst (λ (rs : List Resident). AreGood (shown (Some m) after new) rs) keeps.residents (good_shown m after new whole.one (residents_of new) whole.good) in
       entry_told m before after old new true true j as_told (Completed thread cpu) refl few
       (record {
         resident = there;
-        fits = subst (λ (o : Option FlatState). IsSome o) (sym is) refl;
+        fits = fits;
         good = subst (λ (s : FlatState). AreGood s (residents_of old)) (sym then) good;
       })
       (same_told (applied (shown (Some m) before old) (Complete thread)) (shown (Some m) after new) true true (length old.issued) (length new.issued) (residents_of old) (residents_of new) then refl (ap length (sym keeps.issued)) (sym keeps.residents))

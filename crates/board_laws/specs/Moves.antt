@@ -25,9 +25,9 @@ use Rattle.desc_parents.specs.Seen.{seen}
 use Rattle.desc_groups.specs.declared.departures.Gone.{Gone}
 use Rattle.desc_groups.specs.Moves.{departed_all, gone_as, idents_of, KeepsButCounts}
 
--- the item is what the declaration declares
+-- the item is what the declaration declares, and a kernel has locked nothing
 abbrev pub Declares : Decl → Item → Type 0
-Declares (decls.Kernel number limits) (item.Kernel kernel) = (kernel.no ≡ number) × (flat_kernel kernel ≡ new_kernel limits)
+Declares (decls.Kernel number limits) (item.Kernel kernel) = (kernel.no ≡ number) × (flat_kernel kernel ≡ new_kernel limits) × (kernel.locked ≡ record { kernels = 0; spaces = 0; threads = 0; mappings = 0 })
 Declares (decls.Space number kernel) (item.Space space) = (space.no ≡ number) × (space.kernel ≡ kernel)
 Declares (decls.Thread number space pc priority a0 a1) (item.Thread thread) = flat_thread thread ≡ new_thread number space pc priority a0 a1
 Declares (decls.Map space vpn frame flags receiver) (item.Mapping row) = row ≡ new_row space vpn frame flags receiver

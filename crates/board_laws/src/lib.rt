@@ -10,6 +10,7 @@ mod loading;
 mod locking;
 mod opening;
 mod running;
+mod telling;
 
 pub use declaring::a_declaration_is_told;
 pub use leaving::a_group_that_leaves_is_told;
@@ -17,3 +18,4 @@ pub use loading::{a_load_is_told, the_seal_is_told};
 pub use locking::a_lock_is_told;
 pub use opening::the_first_kernel_stays;
 pub use running::{a_call_is_told, steps_are_told};
+pub use telling::what_is_told_is_so;

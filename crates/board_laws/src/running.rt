@@ -9,7 +9,7 @@ ghost use Rattle.cache_ident.specs.declared.names.ThreadNo.{ThreadNo};
 ghost use Rattle.depend_lists.specs.declared.nodes.Node.{Node};
 ghost use Rattle.flat_state.specs.declared.events.Event.TheVariants.{Complete};
 ghost use Rattle.flat_state.specs.declared.events.Machine.{Machine};
-ghost use Rattle.flat_state.specs.Events.{after_event};
+ghost use Rattle.flat_state.specs.Events.{after_event, applied};
 ghost use Rattle.run_journal.specs.Legal.{after_steps, MayStep};
 ghost use Rattle.run_journal.specs.declared.entries.Entry.{Entry};
 ghost use Rattle.run_journal.specs.declared.entries.Entry.TheVariants.{Completed, Ended, Ran};
@@ -39,6 +39,6 @@ pub fn steps_are_told()
 pub fn a_call_is_told()
     ensures { (m : Machine) (before after : List ℕ) (caps : Caps) (old new : Contents) (pairs : List (Ident × Node)) (j : List Entry) (thread : ThreadNo) (cpu : ℕ)
         → AreAsTold m before old true j → AreWhole caps new pairs → cpu < 8 → IsNameResident (residents_of old) (Thread thread)
-        → after_event (shown (Some m) before old) (Complete thread) ≡ Some (shown (Some m) after new) → KeepsLoaded old new
+        → IsSome (after_event (shown (Some m) before old) (Complete thread)) → shown (Some m) after new ≡ applied (shown (Some m) before old) (Complete thread) → KeepsLoaded old new
         → AreAsTold m after new true (j ++ Completed thread cpu ∷ []) }
 {}
