@@ -1,0 +1,10 @@
+pub mod First
+pub mod Departing
+pub mod Standings
+pub mod Shown
+pub mod Growing
+pub mod Locks
+pub mod Declarations
+pub mod Groups
+pub mod Loads
+pub mod Runs
