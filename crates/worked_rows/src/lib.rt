@@ -7,4 +7,6 @@ mod desc_stores_tests;
 #[cfg(test)]
 mod machines;
 #[cfg(test)]
+mod rv32_asm_tests;
+#[cfg(test)]
 mod tests;
