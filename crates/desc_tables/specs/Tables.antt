@@ -24,13 +24,6 @@ pub record Held : Type 0 where
   pub contents : Contents
   pub gone : List Gone
 
--- of each kind so many are wanted at most by one step of a thread, a new one among them
-abbrev pub wanted_of : Kind → ℕ
-wanted_of kind.Kernel = 5
-wanted_of kind.Space = 5
-wanted_of kind.Thread = 5
-wanted_of kind.Mapping = 6
-
 -- beside all that kernels may lock, each cache has room for what is wanted
 abbrev pub LeavesRoom : Caps → Contents → Type 0
 LeavesRoom caps c = 0 < length (seen c).kernels → (of : Kind) → amount_of (locks_granted (seen c).kernels) of + wanted_of of ≤ amount_of caps of
