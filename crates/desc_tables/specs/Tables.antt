@@ -2,7 +2,6 @@
 use Rattle.std.specs.Prelude.{◌≡◌, ℕ, ◌+◌, ◌<◌, ◌≤◌, List, length, Contains, Some}
 use Rattle.cache_ident.specs.declared.idents.Ident.{Ident}
 use Rattle.cache_ident.specs.declared.idents.Kind.{Kind}
-use Rattle.cache_ident.specs.declared.idents.Kind.TheVariants as kind
 use Rattle.cache_ident.specs.declared.names.Caps.{Caps}
 use Rattle.cache_ident.specs.declared.names.KernelNo.{KernelNo}
 use Rattle.cache_ident.specs.declared.names.Name.{Name}
@@ -17,6 +16,7 @@ use Rattle.desc_stores.specs.Contents.{content_of, Contents}
 use Rattle.desc_parents.specs.Seen.{seen}
 use Rattle.desc_groups.specs.declared.departures.Gone.{Gone}
 use Rattle.desc_groups.specs.Whole.{AreWhole}
+use Rattle.desc_admits.specs.May.{wanted_of}
 
 -- the capacities, where each descriptor stands and with which content, and what left at the last load or unload
 pub record Held : Type 0 where
