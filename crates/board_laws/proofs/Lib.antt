@@ -9,3 +9,4 @@ pub mod Groups
 pub mod Loads
 pub mod Runs
 pub mod Quanta
+pub mod Admitted

@@ -4,6 +4,7 @@
 //! Each is the contract of a function with an empty body.
 #![tactic(auto)]
 
+mod admitting;
 mod declaring;
 mod leaving;
 mod loading;
@@ -12,6 +13,7 @@ mod opening;
 mod running;
 mod telling;
 
+pub use admitting::{the_first_kernel_may_come, what_breaks_no_rule_may_be_declared};
 pub use declaring::a_declaration_is_told;
 pub use leaving::a_group_that_leaves_is_told;
 pub use loading::{a_load_is_told, the_seal_is_told};
