@@ -54,8 +54,7 @@ use Rattle.desc_parents.specs.Seen.{seen}
 use Rattle.desc_groups.specs.declared.departures.Gone.{Gone}
 use Rattle.desc_groups.specs.Moves.{idents_of, MayBeLocked}
 use Rattle.desc_groups.specs.Whole.{AreWhole}
-use Rattle.desc_tables.specs.Calls.{MayBeDeclared, MayBeLoaded}
-use Rattle.desc_tables.specs.Tables.{wanted_of}
+use Rattle.desc_admits.specs.May.{wanted_of, MayBeDeclared, MayBeLoaded}
 use Rattle.board_laws.specs.Moves.{Declares, IsLoad}
 use Rattle.board_laws.proofs.First.{first}
 use Rattle.board_laws.proofs.Shown.{limit_shown}

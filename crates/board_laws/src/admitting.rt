@@ -16,7 +16,8 @@ ghost use Rattle.shown_state.specs.Shown.{shown};
 ghost use Rattle.desc_groups.specs.declared.departures.Gone.{Gone};
 ghost use Rattle.desc_groups.specs.Moves.{MayBeLocked};
 ghost use Rattle.desc_groups.specs.Whole.{AreWhole};
-ghost use Rattle.desc_tables.specs.Calls.{HasPlacesFor, MayBeDeclared, MayBeLoaded};
+ghost use Rattle.desc_admits.specs.May.{MayBeDeclared, MayBeLoaded};
+ghost use Rattle.desc_tables.specs.Calls.{HasPlacesFor};
 ghost use Rattle.board_laws.specs.Moves.{Declares, IsLoad};
 ghost use Rattle.board_laws.specs.Telling.{AreAsTold};
 
