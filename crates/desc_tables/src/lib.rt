@@ -9,6 +9,7 @@ mod tables;
 mod tests;
 
 pub use desc_groups::Gone;
+pub use desc_parents::Parents;
 pub use desc_stores::{Item, ItemRef};
 pub use names::Names;
 pub use tables::Tables;

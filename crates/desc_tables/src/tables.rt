@@ -33,6 +33,7 @@ ghost use Rattle.store_residents.specs.Frames.{IsResidentOn};
 ghost use Rattle.store_residents.specs.Victims.{IsOldest};
 ghost use Rattle.group_laws.specs.Leaving.{without_all};
 ghost use Rattle.desc_parents.specs.Seen.{seen};
+ghost use Rattle.resident_pairs.specs.Among.{AreParents};
 ghost use Rattle.desc_groups.specs.Moves.{HasPlaces, but_for_counts, KeepsButCounts, MayBeLocked, gone_as, departed_all, idents_of};
 ghost use Rattle.desc_admits.specs.May.{MayBeDeclared, MayBeLoaded};
 ghost use Rattle.desc_tables.specs.Calls.{HasPlacesFor, IsReady, IsLike, IsUpdated, with_right, with_rights, IsOfWhatStands, OwnsNew};
@@ -43,7 +44,7 @@ use crate::names::Names;
 use cache_ident::{Caps, Cause, Frame, Ident, KernelNo, Kind, Name, NoMemory, SpaceNo, Standing};
 use depend_lists::most_loaded;
 use desc_groups::{Gone, enter, leave, lock, unlock};
-use desc_parents::{kernel_of, parents_of};
+use desc_parents::{Parents, kernel_of, parents_of};
 use desc_stores::{Item, ItemRef, Stores};
 use growing_list::Values;
 use kernel_cache::KernelRec;
@@ -353,6 +354,15 @@ impl Tables {
         ensures { option_map items.shown result ≡ item_as self.now.contents ident }
     {
         self.stores.get(ident)
+    }
+
+    /// The identifiers of all that a descriptor depends on, as far as it is loaded, each once. A search for the descriptor, one
+    /// for each that it depends on, and for a message row four more for each signal row of its frame.
+    pub fn parents(&self, name: Name) -> Parents
+        ensures parents { AreParents (seen self.now.contents) (residents_of self.now.contents) name result.items }
+        ensures apart { AllPairs ◌≢◌ result.items }
+    {
+        parents_of(&self.stores, name)
     }
 
     /// Puts a content in the place of the one that is loaded with an identifier, and gives the old one back. The two may

@@ -1,0 +1,4 @@
+pub mod Identifiers
+pub mod Refusals
+pub mod Facts
+pub mod Keeps
