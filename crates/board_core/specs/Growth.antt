@@ -1,0 +1,73 @@
+-- What a move leaves of a machine with its journal.
+use Rattle.std.specs.Prelude.{◌≡◌, ℕ, ◌+◌, ◌-◌, ◌<◌, ◌≤◌, ◌^◌, Bool, true, if◌then◌else◌, min, List, [], ◌∷◌, ◌++◌, length, Contains, zero, suc}
+use Rattle.cache_ident.specs.declared.names.Name.TheVariants as name
+use Rattle.cache_ident.specs.declared.names.ThreadNo.{ThreadNo}
+use Rattle.cache_ident.specs.Residents.{IsNameResident}
+use Rattle.flat_state.specs.declared.records.FlatThread.{FlatThread}
+use Rattle.flat_state.specs.Events.{after_events}
+use Rattle.run_journal.specs.declared.entries.Entry.{Entry}
+use Rattle.run_journal.specs.declared.entries.Entry.TheVariants.{Ended, Ran}
+use Rattle.run_journal.specs.Entries.{erase}
+use Rattle.desc_stores.specs.Changes.{room_of}
+use Rattle.desc_stores.specs.Contents.{residents_of}
+use Rattle.page_views.specs.Views.{View}
+use Rattle.board_laws.specs.Moves.{KeepsLoaded}
+use Rattle.cached_machine.specs.Cached.{state_of}
+use Rattle.cached_machine.specs.Posts.{HasSameMarks}
+use Rattle.board_core.specs.Core.{contents_of, Recorded}
+
+-- The journal grew by exactly these entries, and the flat reading by their events. The step limit stays, and so does which
+-- machine it is.
+pub record GrowsBy (es : List Entry) (old new : Recorded) : Type 0 where
+  pub entries : new.journal.entries ≡ old.journal.entries ++ es
+  pub state : state_of new.machine ≡ after_events (state_of old.machine) (erase es)
+  pub limit : new.limit ≡ old.limit
+  pub machine : new.machine.machine ≡ old.machine.machine
+  pub spare : old.journal.spare ≤ new.journal.spare + length es
+
+-- what is loaded, and which thread is on which processor and was checked out when, is as it was
+pub record KeepsPlaces (old new : Recorded) : Type 0 where
+  pub loaded : KeepsLoaded (contents_of old) (contents_of new)
+  pub marks : HasSameMarks (contents_of old) (contents_of new)
+  pub sealed : new.sealed ≡ old.sealed
+  pub checkouts : new.checkouts ≡ old.checkouts
+  pub spare : new.machine.held.contents.spare ≡ old.machine.held.contents.spare
+
+-- nothing changed but room, and none fell
+pub record OnlyMakesRoom (old new : Recorded) : Type 0 where
+  pub rest : new ≡ record old { machine = new.machine; journal = record old.journal { spare = new.journal.spare } }
+  pub state : state_of new.machine ≡ state_of old.machine
+  pub machine : new.machine.machine ≡ old.machine.machine
+  pub loaded : KeepsLoaded (contents_of old) (contents_of new)
+  pub marks : HasSameMarks (contents_of old) (contents_of new)
+  pub room : room_of (contents_of old) ≤ room_of (contents_of new)
+  pub sets_room : old.machine.sets.room ≤ new.machine.sets.room
+  pub issues : (contents_of old).spare ≤ (contents_of new).spare
+  pub spare : old.journal.spare ≤ new.journal.spare
+
+-- one of eight processors does it, behind the seal, and there is room for so many entries
+pub record MayWrite (b : Recorded) (cpu entries : ℕ) : Type 0 where
+  pub sealed : b.sealed ≡ true
+  pub processor : cpu < 8
+  pub room : entries ≤ b.journal.spare
+
+-- how many descriptors are loaded
+abbrev pub count_loaded : Recorded → ℕ
+count_loaded b = length (residents_of (contents_of b))
+
+-- the count of checkouts, once one more gave a thread: it stays at its last value
+abbrev pub one_more : ℕ → ℕ
+one_more checkouts = min (checkouts + 1) (2 ^ 64 - 1)
+
+-- the entry of one step
+abbrev pub entry_of_step : ThreadNo → Bool → ℕ → Entry
+entry_of_step no faults cpu = if faults then Ended no cpu else Ran no 1 cpu
+
+-- the entries of so many steps that don't fault
+abbrev pub entries_of_run : ThreadNo → ℕ → ℕ → List Entry
+entries_of_run no zero cpu = []
+entries_of_run no (suc steps) cpu = Ran no (suc steps) cpu ∷ []
+
+-- each view is that of a page of the space whose row is loaded
+abbrev pub AreOfLoaded : Recorded → FlatThread → List View → Type 0
+AreOfLoaded b t views = (v : View) → Contains views v → IsNameResident (residents_of (contents_of b)) (name.Mapping t.space v.vpn)
