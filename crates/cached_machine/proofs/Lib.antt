@@ -5,3 +5,4 @@ pub mod SentLaws
 pub mod LeaveLaws
 pub mod MoveLaws
 pub mod AlikeLaws
+pub mod RoomLaws
