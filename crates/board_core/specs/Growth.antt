@@ -1,8 +1,11 @@
 -- What a move leaves of a machine with its journal.
-use Rattle.std.specs.Prelude.{◌≡◌, ℕ, ◌+◌, ◌-◌, ◌<◌, ◌≤◌, ◌^◌, Bool, true, if◌then◌else◌, min, List, [], ◌∷◌, ◌++◌, length, Contains, zero, suc}
+use Rattle.std.specs.Prelude.{◌≡◌, ℕ, ◌+◌, ◌-◌, ◌<◌, ◌≤◌, ◌^◌, Bool, true, if◌then◌else◌, min, List, [], ◌∷◌, ◌++◌, length, not, count_by, Contains, zero, suc}
+use Rattle.std.specs.List.{list_any}
+use Rattle.cache_ident.specs.declared.idents.Ident.{Ident}
 use Rattle.cache_ident.specs.declared.names.Name.TheVariants as name
 use Rattle.cache_ident.specs.declared.names.ThreadNo.{ThreadNo}
 use Rattle.cache_ident.specs.Residents.{IsNameResident}
+use Rattle.cache_ident.specs.Rolls.{is_same}
 use Rattle.flat_state.specs.declared.records.FlatThread.{FlatThread}
 use Rattle.flat_state.specs.Events.{after_events}
 use Rattle.run_journal.specs.declared.entries.Entry.{Entry}
@@ -54,6 +57,10 @@ pub record MayWrite (b : Recorded) (cpu entries : ℕ) : Type 0 where
 -- how many descriptors are loaded
 abbrev pub count_loaded : Recorded → ℕ
 count_loaded b = length (residents_of (contents_of b))
+
+-- how many of them are not among these, and so may leave while these are kept
+abbrev pub count_unkept : Recorded → List Ident → ℕ
+count_unkept b keep = count_by (λ r. not (list_any (λ ident. is_same r.ident ident) keep)) (residents_of (contents_of b))
 
 -- the count of checkouts, once one more gave a thread: it stays at its last value
 abbrev pub one_more : ℕ → ℕ

@@ -13,7 +13,7 @@ ghost use Rattle.board_laws.specs.Moves.{written_back, IsLoad, IsLock};
 ghost use Rattle.cached_machine.specs.Moved.{IsDeparture};
 ghost use Rattle.cached_machine.specs.Posts.{mark_of, HasLoadedMarks, HasSameMarks};
 ghost use Rattle.board_core.specs.Core.{contents_of};
-ghost use Rattle.board_core.specs.Growth.{count_loaded, GrowsBy, MayWrite};
+ghost use Rattle.board_core.specs.Growth.{count_loaded, count_unkept, GrowsBy, MayWrite};
 
 use crate::core_record::{Core, note};
 use cache_ident::{Ident, Name};
@@ -22,10 +22,10 @@ use run_journal::{Entry, Journal};
 
 impl Core {
     /// Loads a descriptor from its shelf, while what is in `keep` stays. Where its cache is full another one leaves first, with
-    /// all that depends on it.
+    /// all that depends on it. There is room for an entry for each that isn't kept, and one more.
     pub fn load(&mut self, cpu: u32, name: Name, keep: &[Ident]) -> Ident
         requires may { MayBeLoaded (contents_of self.old) name keep.now }
-        requires write { MayWrite self.old cpu (count_loaded self.old + 1) }
+        requires write { MayWrite self.old cpu (count_unkept self.old keep.now + 1) }
         requires spare { 0 < (contents_of self.old).spare }
         ensures entries { GrowsBy (written_back cpu self.new.machine.held.gone ++ Loaded result name cpu ∷ []) self.old self.new }
         ensures load { IsLoad self.old.machine.held.caps (contents_of self.old) (contents_of self.new) name keep.now (length self.old.journal.entries) self.new.machine.held.gone result }

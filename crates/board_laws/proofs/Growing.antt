@@ -3,6 +3,7 @@ use Rattle.std.proofs.Common.{◌≡◌, ℕ, ◌+◌, Bool, List, [], ◌∷◌
 use Rattle.cache_ident.specs.declared.idents.Ident.{Ident}
 use Rattle.cache_ident.specs.declared.idents.Standing.{Standing}
 use Rattle.cache_ident.specs.declared.idents.Standing.TheVariants.{Never}
+use Rattle.cache_ident.specs.declared.rolls.Issued.{Issued}
 use Rattle.cache_ident.specs.Residents.{Resident}
 use Rattle.cache_ident.specs.Rolls.{standing_in}
 use Rattle.flat_state.specs.declared.events.Machine.{Machine}
@@ -20,6 +21,7 @@ use Rattle.run_journal.proofs.LegalGrowth.{grows, settled, state_told}
 use Rattle.run_journal.proofs.Standings.{stands_as}
 use Rattle.desc_stores.specs.Contents.{residents_of, Contents}
 use Rattle.shown_state.specs.Shown.{shown}
+use Rattle.board_laws.specs.Moves.{KeepsLoaded, ShowsTheSame}
 use Rattle.board_laws.specs.Telling.{AreAsTold}
 
 -- what a journal tells that tells what the tables do
@@ -75,3 +77,14 @@ module _ (m : Machine) (memory : List ℕ) (c : Contents) (sealed : Bool) (j : L
 
   pub stands_told : (ident : Ident) → StandsAs j ident (standing_in c.issued ident)
   stands_told ident = subst (λ (standing : Standing). StandsAs j ident standing) (as_told.standings ident) (stands_as j ident)
+
+-- where nothing is shown anew, and the same is loaded, the journal tells the same
+pub still_told : (m : Machine) (memory : List ℕ) (old new : Contents) (sealed : Bool) (j : List Entry) → AreAsTold m memory old sealed j → ShowsTheSame old new → KeepsLoaded old new → AreAsTold m memory new sealed j
+still_told m memory old new sealed j as_told shows keeps = record {
+  legal = as_told.legal;
+  state = as_told.state ∙ sym (shows (Some m) memory);
+  residents = as_told.residents ∙ sym keeps.residents;
+  standings = λ ident. as_told.standings ident ∙ ap (λ (issued : List Issued). standing_in issued ident) (sym keeps.issued);
+  loads = as_told.loads ∙ ap length (sym keeps.issued);
+  seal = as_told.seal;
+}

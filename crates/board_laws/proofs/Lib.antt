@@ -8,3 +8,4 @@ pub mod Declarations
 pub mod Groups
 pub mod Loads
 pub mod Runs
+pub mod Quanta

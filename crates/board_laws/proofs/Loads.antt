@@ -203,10 +203,14 @@ zero_if_none : (n : ℕ) → ((lower : ℕ) → lower < n → ⊥) → n ≡ 0
 zero_if_none zero none = refl
 zero_if_none (suc n) none = absurd (none 0 (omega arith))
 
+-- before the seal nothing is loaded
+pub nothing_resident : (m : Machine) (memory : List ℕ) (c : Contents) (j : List Entry) → AreAsTold m memory c false j → residents_of c ≡ []
+nothing_resident m memory c j as_told = sym as_told.residents ∙ (nothing_loaded j as_told.legal.each as_told.seal).1
+
 module _ (m : Machine) (memory : List ℕ) (caps : Caps) (old new : Contents) (before : List (Ident × Node)) (j : List Entry) (keep : List Ident) (at : ℕ) (gone : List Gone) (ident : Ident)
     (as_told : AreAsTold m memory old false j) (whole : AreWhole caps old before) (is : IsLoad caps old new first_name keep at gone ident) where
-  pub none_before : residents_of old ≡ []
-  none_before = sym as_told.residents ∙ (nothing_loaded j as_told.legal.each as_told.seal).1
+  none_before : residents_of old ≡ []
+  none_before = nothing_resident m memory old j as_told
 
   pub none_issued : length old.issued ≡ 0
   none_issued = sym as_told.loads ∙ (nothing_loaded j as_told.legal.each as_told.seal).0

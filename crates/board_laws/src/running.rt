@@ -1,15 +1,19 @@
 //! Steps and completed calls.
 
-ghost use Rattle.std.specs.Prelude.{◌≡◌, ℕ, ◌<◌, ◌∷◌, ◌++◌, [], false, true, List, Some, IsSome};
+ghost use Rattle.std.specs.Prelude.{◌≡◌, ℕ, ◌<◌, ◌∷◌, ◌++◌, [], false, true, List, Contains, Some, IsSome, slice_get};
 ghost use Rattle.cache_ident.specs.Residents.{IsNameResident};
 ghost use Rattle.cache_ident.specs.declared.idents.Ident.{Ident};
 ghost use Rattle.cache_ident.specs.declared.names.Caps.{Caps};
-ghost use Rattle.cache_ident.specs.declared.names.Name.TheVariants.{Thread};
+ghost use Rattle.cache_ident.specs.declared.names.Name.TheVariants.{Mapping, Thread};
 ghost use Rattle.cache_ident.specs.declared.names.ThreadNo.{ThreadNo};
 ghost use Rattle.depend_lists.specs.declared.nodes.Node.{Node};
 ghost use Rattle.flat_state.specs.declared.events.Event.TheVariants.{Complete};
 ghost use Rattle.flat_state.specs.declared.events.Machine.{Machine};
+ghost use Rattle.flat_state.specs.declared.records.FlatThread.{FlatThread};
 ghost use Rattle.flat_state.specs.Events.{after_event, applied};
+ghost use Rattle.page_views.specs.Views.{View};
+ghost use Rattle.quantum.specs.Ahead.{Ahead};
+ghost use Rattle.quantum.specs.LocalRun.{committed, touched_views, CouldRun, IsLocalRun};
 ghost use Rattle.run_journal.specs.Legal.{after_steps, MayStep};
 ghost use Rattle.run_journal.specs.declared.entries.Entry.{Entry};
 ghost use Rattle.run_journal.specs.declared.entries.Entry.TheVariants.{Completed, Ended, Ran};
@@ -32,6 +36,17 @@ pub fn steps_are_told()
         → MayStep (shown (Some m) before old) (residents_of old) thread true
         → shown (Some m) after new ≡ after_steps (shown (Some m) before old) thread 1 → KeepsLoaded old new
         → AreAsTold m after new true (j ++ Ended thread cpu ∷ []) }
+{}
+
+/// Steps that were taken ahead of the machine are one entry as well, where they are a local run, the thread could have taken them in
+/// the machine, and the row of each view that they touched is loaded.
+pub fn a_quantum_is_told()
+    ensures { (m : Machine) (before after : List ℕ) (old new : Contents) (j : List Entry) (thread : ThreadNo) (found : FlatThread) (ahead : Ahead) (cpu : ℕ)
+        → AreAsTold m before old true j → cpu < 8 → 0 < ahead.steps → IsNameResident (residents_of old) (Thread thread)
+        → IsLocalRun ahead → slice_get (shown (Some m) before old).threads thread.0 ≡ Some found → CouldRun (shown (Some m) before old) found ahead
+        → ((view : View) → Contains (touched_views ahead.views) view → IsNameResident (residents_of old) (Mapping found.space view.vpn))
+        → shown (Some m) after new ≡ committed (shown (Some m) before old) thread.0 found ahead → KeepsLoaded old new
+        → AreAsTold m after new true (j ++ Ran thread ahead.steps cpu ∷ []) }
 {}
 
 /// A completed call of a thread that is loaded is one entry, where all that is loaded has what it depends on afterwards too, as it

@@ -11,6 +11,7 @@ ghost use Rattle.run_journal.specs.Entries.{erase};
 ghost use Rattle.run_journal.specs.Standing.{StandsAs};
 ghost use Rattle.desc_stores.specs.Contents.{Contents};
 ghost use Rattle.shown_state.specs.Shown.{shown};
+ghost use Rattle.board_laws.specs.Moves.{KeepsLoaded, ShowsTheSame};
 ghost use Rattle.board_laws.specs.Telling.{AreAsTold};
 
 /// The machine that the contents show is the one that the journal's events make, and so is one that events can reach. An identifier
@@ -19,4 +20,10 @@ pub fn what_is_told_is_so()
     ensures state { (m : Machine) (memory : List ℕ) (c : Contents) (sealed : Bool) (j : List Entry) → AreAsTold m memory c sealed j → shown (Some m) memory c ≡ flat (erase j) }
     ensures formed { (m : Machine) (memory : List ℕ) (c : Contents) (sealed : Bool) (j : List Entry) → AreAsTold m memory c sealed j → IsWellFormed (shown (Some m) memory c) }
     ensures standing { (m : Machine) (memory : List ℕ) (c : Contents) (sealed : Bool) (j : List Entry) (ident : Ident) → AreAsTold m memory c sealed j → StandsAs j ident (standing_in c.issued ident) }
+{}
+
+/// Where contents show what they showed, and the same is loaded, nothing is to be written: so where room was made, where a
+/// processor took a thread or gave it back, and where only a count of locks changed.
+pub fn what_shows_nothing_new_is_told()
+    ensures { (m : Machine) (memory : List ℕ) (old new : Contents) (sealed : Bool) (j : List Entry) → AreAsTold m memory old sealed j → ShowsTheSame old new → KeepsLoaded old new → AreAsTold m memory new sealed j }
 {}

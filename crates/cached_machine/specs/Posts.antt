@@ -127,6 +127,7 @@ pub record AreSeenOff (threads : List ThreadNo) (old new : Held) (was are : Sets
   pub only : OnlyContents old new
   pub contents : (n : Name) → content_of new.contents n ≡ (if is_of threads n then option_map unmarked (content_of old.contents n) else content_of old.contents n)
   pub sets_room : are.room ≡ was.room
+  pub as_long : length are.completable ≡ length was.completable
   pub sets : (all : List FlatThread) (free : ℕ → Bool) → ((no : ThreadNo) → slice_get all no.0 ≡ thread_of (content_of old.contents (name.Thread no)))
       → AreSetsOf all free was → AreSetsOf all (free_but threads free) are
 
@@ -160,5 +161,6 @@ pub record AreSentIn (seats : List ThreadNo) (old new : Held) (was are : Sets) :
   pub kept : (no : ThreadNo) → mark_of old.contents no ≡ None → mark_of new.contents no ≡ None
   pub sent : (no : ThreadNo) → Contains seats no → mark_of new.contents no ≡ None
   pub sets_room : are.room ≡ was.room
+  pub as_long : length are.completable ≡ length was.completable
   pub sets : (all : List FlatThread) → ((no : ThreadNo) → slice_get all no.0 ≡ thread_of (content_of old.contents (name.Thread no)))
       → AreSetsOf all (is_free_in old.contents) was → AreSetsOf all (is_free_in new.contents) are

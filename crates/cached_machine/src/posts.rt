@@ -43,7 +43,10 @@ pub(crate) fn send(tables: &mut Tables, sets: &mut ThreadSets, no: ThreadNo, pos
 {
     let name = Name::Thread(no);
     tables.update_thread_named(name, |thread| post_thread(thread, post));
-    note(tables, sets, no);
+    let loaded = is_loaded(tables, name);
+    if let Some(ItemRef::Thread(thread)) = tables.item(name) {
+        sets.note(thread, loaded);
+    }
 }
 
 // The threads among what has just left are on no processor, and can't be checked out.

@@ -1,0 +1,131 @@
+-- What is left of a machine with caches where a thread goes to a processor or comes away from it.
+use Rattle.std.proofs.Common.{◌≡◌, ◌≢◌, ℕ, ◌<◌, Bool, true, false, cond, List, length, Option, Some, None, IsSome, slice_get, refl, sym, ◌∙◌, ap, ap₂, set, subst, ◌⊎◌, inl, inr, arith}
+use Rattle.std.specs.List.{list_any}
+use Rattle.std.specs.Option.{option_map}
+use Rattle.std.specs.Prelude.{◌==◌, ◌&&◌, is_some, if◌then◌else◌}
+use Rattle.std.proofs.lemmas.Bool.{cases_Bool, eqb-true}
+use Rattle.std.proofs.lemmas.Option.{slice_get_within}
+use Rattle.cache_ident.specs.declared.names.Name.{Name}
+use Rattle.cache_ident.specs.declared.names.Name.TheVariants as name
+use Rattle.cache_ident.specs.declared.names.ThreadNo.{ThreadNo}
+use Rattle.flat_state.specs.declared.events.Machine.{Machine}
+use Rattle.flat_state.specs.declared.records.FlatThread.{FlatThread}
+use Rattle.flat_state.specs.State.{FlatState}
+use Rattle.thread_cache.specs.declared.ThreadRec.{ThreadRec}
+use Rattle.kind_store.proofs.ContentLemmas.{cases_name}
+use Rattle.desc_stores.specs.declared.items.Item.{Item}
+use Rattle.desc_stores.specs.declared.items.Item.TheVariants as item
+use Rattle.desc_stores.specs.Changes.{HasContent}
+use Rattle.desc_stores.specs.Contents.{content_of, residents_of, Contents}
+use Rattle.desc_stores.specs.Sound.{thread_named, IsExactlyOne}
+use Rattle.shown_state.specs.Shown.{flat_thread, kernel_of, row_of_item, shown, space_of, thread_of, ShowsAlike}
+use Rattle.shown_state.proofs.AlikeLemmas.{shown_alike}
+use Rattle.shown_state.proofs.ChangeLemmas.{at_name, elsewhere, unseen}
+use Rattle.shown_state.proofs.ContentLemmas.{item_has_name, one_thread}
+use Rattle.shown_state.proofs.LookupLemmas.{all_found}
+use Rattle.thread_sets.specs.Sets.{noted, Sets}
+use Rattle.thread_sets.specs.SetsOf.{AreFreeAfter, AreSetsOf}
+use Rattle.thread_sets.proofs.SetsLemmas.{sets_noted_same}
+use Rattle.desc_tables.specs.Tables.{Held}
+use Rattle.cached_machine.specs.declared.posts.Post.{Post}
+use Rattle.cached_machine.specs.declared.posts.Post.TheVariants.{Out, In}
+use Rattle.cached_machine.specs.Cached.{is_free_in, is_free_thread, is_loaded}
+use Rattle.cached_machine.specs.Posts.{but_at, last_in, last_of, mark_in, mark_of, posted, IsPosted}
+use Rattle.cached_machine.proofs.StepLaws.{free_after}
+
+-- what the move leaves of the thread
+pub posted_no : (post : Post) (thread : ThreadRec) → (posted post thread).no ≡ thread.no
+posted_no (Out cpu number) thread = refl
+posted_no In thread = refl
+
+pub posted_shows : (post : Post) (thread : ThreadRec) → flat_thread (posted post thread) ≡ flat_thread thread
+posted_shows (Out cpu number) thread = refl
+posted_shows In thread = refl
+
+module _ (post : Post) (h h' : Held) (sets sets' : Sets) (no : ThreadNo) (is : IsPosted post h h' sets sets' no) where
+  abbrev old : Contents
+  old = h.contents
+
+  abbrev new : Contents
+  new = h'.contents
+
+  abbrev left : ThreadRec
+  left = posted post is.value
+
+  value_no : is.value.no ≡ no
+  value_no = by (item_has_name old (name.Thread no) (item.Thread is.value) is.there)
+    where
+      by : name.Thread is.value.no ≡ name.Thread no → is.value.no ≡ no
+      by e = cc e
+
+  pub left_no : left.no ≡ no
+  left_no = posted_no post is.value ∙ value_no
+
+  its_name : name.Thread left.no ≡ name.Thread no
+  its_name = ap name.Thread left_no
+
+  -- at its name stands what was left of it, and elsewhere what was there
+  pub here : content_of new (name.Thread no) ≡ Some (item.Thread left)
+  here = subst (λ (m : Name). content_of new m ≡ Some (item.Thread left)) its_name (at_name old new (item.Thread left) is.contents)
+
+  pub others : (n : Name) → name.Thread no ≢ n → content_of new n ≡ content_of old n
+  others n apart = elsewhere old new (item.Thread left) is.contents n (λ e. apart (sym its_name ∙ e))
+
+  -- a view that sees the same of both sees what it saw
+  sees : {Y : Type 0} (view : Option Item → Option Y) → view (Some (item.Thread left)) ≡ view (Some (item.Thread is.value)) → (n : Name) → view (content_of new n) ≡ view (content_of old n)
+  sees view same n = elim (cases_name (name.Thread no) n) [
+    | inl is_it ↦ subst (λ (m : Name). view (content_of new m) ≡ view (content_of old m)) is_it (ap view here ∙ same ∙ sym (ap view is.there))
+    | inr apart ↦ ap view (others n apart)
+  ]
+
+  alike : ShowsAlike old new
+  alike = record {
+    names = is.only.names;
+    kernels = sees kernel_of refl;
+    spaces = sees space_of refl;
+    threads = sees thread_of (ap Some (posted_shows post is.value));
+    rows = sees row_of_item refl;
+  }
+
+  pub post_shows : (machine : Option Machine) (memory : List ℕ) → shown machine memory new ≡ shown machine memory old
+  post_shows machine memory = shown_alike machine memory old new alike
+
+  -- the sets are those of the same threads
+  pub post_sets : (threads : List FlatThread) (free after : ℕ → Bool) → slice_get threads no.0 ≡ thread_of (content_of old (name.Thread no)) → AreFreeAfter free after left (is_loaded new (name.Thread no)) → AreSetsOf threads free sets → AreSetsOf threads after sets'
+  post_sets threads free after found frees of =
+      let stands : slice_get threads left.no.0 ≡ Some (flat_thread left) = ap (λ (n : ThreadNo). slice_get threads n.0) left_no ∙ found ∙ ap thread_of is.there ∙ ap Some (sym (posted_shows post is.value)) in
+      subst (λ (s : Sets). AreSetsOf threads after s) (sym is.sets) (sets_noted_same threads free after sets left (is_loaded new (name.Thread no)) stands frees of)
+
+  -- who is free is, but for the thread itself, as before
+  pub post_free : AreFreeAfter (is_free_in old) (is_free_in new) left (is_loaded new (name.Thread no))
+  post_free = subst (λ (m : Name). AreFreeAfter (is_free_in old) (is_free_in new) left (is_loaded new m)) its_name (free_after old new left is.contents is.only.residents)
+
+  -- marks and last checkouts
+  at : {T : Type 0} (read : Option Item → T) (said : T) → read (Some (item.Thread left)) ≡ said → (other : ThreadNo) → read (content_of new (name.Thread other)) ≡ but_at no said (λ (n : ThreadNo). read (content_of old (name.Thread n))) other
+  at read said reads other = by (other.0 == no.0) refl
+    where
+      same_no : other.0 ≡ no.0 → other ≡ no
+      same_no e = cc e
+
+      by : (b : Bool) → (other.0 == no.0) ≡ b → read (content_of new (name.Thread other)) ≡ cond b said (read (content_of old (name.Thread other)))
+      by true test = ap (λ (n : ThreadNo). read (content_of new (name.Thread n))) (same_no (eqb-true other.0 no.0 test)) ∙ ap read here ∙ reads
+      by false test = ap read (others (name.Thread other) (λ e. differs e))
+        where
+          differs : name.Thread no ≡ name.Thread other → ⊥
+          differs e = let same : other.0 ≡ no.0 = cc e in absurd (cc)
+
+pub out_marks : (cpu number : ℕ) (h h' : Held) (sets sets' : Sets) (no : ThreadNo) → IsPosted (Out cpu number) h h' sets sets' no → (other : ThreadNo) → mark_of h'.contents other ≡ but_at no (Some cpu) (mark_of h.contents) other
+out_marks cpu number h h' sets sets' no is = at (Out cpu number) h h' sets sets' no is mark_in (Some cpu) refl
+
+pub out_lasts : (cpu number : ℕ) (h h' : Held) (sets sets' : Sets) (no : ThreadNo) → IsPosted (Out cpu number) h h' sets sets' no → (other : ThreadNo) → last_of h'.contents other ≡ but_at no number (last_of h.contents) other
+out_lasts cpu number h h' sets sets' no is = at (Out cpu number) h h' sets sets' no is last_in number refl
+
+pub in_marks : (h h' : Held) (sets sets' : Sets) (no : ThreadNo) → IsPosted In h h' sets sets' no → (other : ThreadNo) → mark_of h'.contents other ≡ but_at no None (mark_of h.contents) other
+in_marks h h' sets sets' no is = at In h h' sets sets' no is mark_in None refl
+
+-- who comes away keeps its last checkout
+pub in_lasts : (h h' : Held) (sets sets' : Sets) (no : ThreadNo) → IsPosted In h h' sets sets' no → (other : ThreadNo) → last_of h'.contents other ≡ last_of h.contents other
+in_lasts h h' sets sets' no is other = elim (cases_name (name.Thread no) (name.Thread other)) [
+  | inl same ↦ subst (λ (m : Name). last_in (content_of h'.contents m) ≡ last_in (content_of h.contents m)) same (ap last_in (here In h h' sets sets' no is) ∙ sym (ap last_in is.there))
+  | inr apart ↦ ap last_in (others In h h' sets sets' no is (name.Thread other) apart)
+]
