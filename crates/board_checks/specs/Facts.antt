@@ -1,0 +1,19 @@
+-- What is so where a call isn't refused.
+use Rattle.std.specs.Prelude.{◌≡◌, Bool, true, ◌&&◌, is_none}
+use Rattle.cache_ident.specs.declared.names.Name.{Name}
+use Rattle.flat_state.specs.Names.{is_fit_found, is_fit_name}
+use Rattle.run_journal.specs.Groups.{HasParents}
+use Rattle.desc_stores.specs.Contents.{content_of, residents_of, Contents, IsShelved}
+use Rattle.shown_state.specs.Shown.{row_of_item}
+use Rattle.desc_parents.specs.Idents.{ident_of}
+use Rattle.desc_parents.specs.Seen.{seen}
+
+-- a name may be loaded, but for what is kept: it stands on the shelf, is fit, and all that it depends on is loaded
+pub record IsLoadable (c : Contents) (name : Name) : Type 0 where
+  pub shelved : IsShelved c name
+  pub fit : is_fit_name (seen c) name ≡ true
+  pub has : HasParents (seen c) (residents_of c) name
+
+-- the name is that of a fit row, and isn't loaded
+abbrev pub is_missing : Contents → Name → Bool
+is_missing c name = is_fit_found (seen c) (row_of_item (content_of c name)) && is_none (ident_of (residents_of c) name)

@@ -1,0 +1,59 @@
+//! What is tested before a thread's call is completed.
+
+ghost use Rattle.std.specs.Prelude.{◌≡◌, true, Some, IfOk};
+ghost use Rattle.std.specs.Option.{option_or};
+ghost use Rattle.std.specs.Result.{result_err};
+ghost use Rattle.flat_state.specs.Call.{is_completable};
+ghost use Rattle.desc_stores.specs.Contents.{item_as};
+ghost use Rattle.desc_stores.specs.declared.items.Item.{Item};
+ghost use Rattle.shown_state.specs.Shown.{flat_thread};
+ghost use Rattle.board_checks.specs.Refusals.{not_trapped, refusal_of_complete, refusal_of_thread, wait_empty};
+
+use crate::idents::{kernel_as, thread_as};
+use crate::owners::check_owner;
+use board_ops::Refused;
+use cache_ident::{Ident, Name};
+use desc_tables::Tables;
+use rv32_exec::Status;
+use thread_cache::ThreadRec;
+
+// The number of the thread call that takes a signal.
+const WAIT: u32 = 3;
+
+/// The thread that is loaded with an identifier, where it is one of the kernel `caller`.
+pub fn check_thread(tables: &Tables, caller: Ident, thread: Ident) -> Result<&ThreadRec, Refused>
+    ensures exact { result_err result ≡ refusal_of_thread tables.now.contents caller thread }
+    ensures found { IfOk result (λ record. item_as tables.now.contents thread ≡ Some (Item.Thread record.now)) }
+{
+    let given = kernel_as(tables, caller)?.no;
+    let record = thread_as(tables, thread)?;
+    check_owner(tables, given, Name::Thread(record.no))?;
+    Ok(record)
+}
+
+/// Whether the call of the thread that is loaded with an identifier may be completed for the kernel `caller`; the thread, if
+/// so.
+pub fn check_complete(tables: &Tables, caller: Ident, thread: Ident) -> Result<&ThreadRec, Refused>
+    ensures exact { result_err result ≡ refusal_of_complete tables.now.contents caller thread }
+    ensures found { IfOk result (λ record. item_as tables.now.contents thread ≡ Some (Item.Thread record.now)) }
+    ensures completable { IfOk result (λ record. is_completable (flat_thread record.now) ≡ true) }
+{
+    let record = check_thread(tables, caller, thread)?;
+    check_call(record)?;
+    Ok(record)
+}
+
+// Refuses the completion of a thread that is in no call (`NotTrapped`), or waits for a signal (`WaitEmpty`).
+fn check_call(record: &ThreadRec) -> Result<(), Refused>
+    ensures { result_err result ≡ option_or (not_trapped (flat_thread record.now)) (wait_empty (flat_thread record.now)) }
+{
+    if record.status != Status::Trapped {
+        return Err(Refused::NotTrapped {
+            status: record.status,
+        });
+    }
+    if record.context.regs[17] == WAIT && record.queue.is_empty() {
+        return Err(Refused::WaitEmpty { thread: record.no });
+    }
+    Ok(())
+}
