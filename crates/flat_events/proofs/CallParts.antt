@@ -1,4 +1,4 @@
--- What a completion's parts come to, and which rules its declaration may break.
+-- What a declaration leaves of a thread that makes it, and which rules it may break.
 use Rattle.std.proofs.Common.{◌≡◌, ℕ, ◌<◌, Bool, true, false, not, List, [], ◌∷◌, filter, length, Option, Some, None, slice_get, refl, ap, subst, ◌∙◌, arith}
 use Rattle.std.specs.Prelude.{◌&&◌, ◌||◌, ◌==◌, nat_lt, is_some, find, if◌then◌else◌}
 use Rattle.std.proofs.lemmas.Bool.{and_parts, ltb-true}
@@ -16,30 +16,6 @@ use Rattle.flat_state.specs.Declaration.{breaks, broken_rule, declared, has_no_f
 use Rattle.flat_state.specs.Call.{answered, made, mapped, mapping, refusal, unmapped}
 use Rattle.flat_state.proofs.Places.{get-append}
 use Rattle.flat_events.specs.Readings.{IsRule, rule_if_formed}
-
-not-not : (b : Bool) → not (not b) ≡ b
-not-not true = refl
-not-not false = refl
-
--- a declaration for a call, from its parts
-pub mapped_from : (s : FlatState) (n : ℕ) (t : FlatThread) (d : Decl) (formed : Bool) (vpn frame bits receiver : ℕ) → d ≡ mapping t vpn frame bits receiver → formed ≡ not ((bits == 0) || nat_lt 15 bits) → made s n t d 0 (rule_if_formed s d formed) ≡ mapped s n t (mapping t vpn frame bits receiver) bits
-mapped_from s n t d formed vpn frame bits receiver same_decl same_form = rw (same_decl, same_form, not-not ((bits == 0) || nat_lt 15 bits)) refl
-
--- where nothing passes a test, all pass its opposite
-all_kept : (p : Row → Bool) (xs : List Row) → is_some (find p xs) ≡ false → filter (λ x. not (p x)) xs ≡ xs
-all_kept p [] e = refl
-all_kept p (x ∷ xs) e = by (p x) (find p xs) (filter (λ y. not (p y)) xs) e (all_kept p xs)
-  where
-    by : (b : Bool) (later : Option Row) (kept : List Row) → is_some (if b then Some x else later) ≡ false → (is_some later ≡ false → kept ≡ xs) → (if not b then x ∷ kept else kept) ≡ x ∷ xs
-    by true later kept e rest = absurd (cc)
-    by false later kept e rest = ap (λ ys. x ∷ ys) (rest e)
-
--- where there is no row of the page nothing but the answer comes of the call
-pub unmapped_none : (s r : FlatState) (n : ℕ) (t : FlatThread) (space : SpaceNo) (vpn value : ℕ) → space ≡ t.space → slice_get s.threads n ≡ Some t → is_some (row_of s.rows space vpn) ≡ false → r ≡ record s { rows = without space vpn s.rows } → value ≡ refusal 1 → (u : FlatState) → ((x : FlatThread) → slice_get r.threads n ≡ Some x → u ≡ with_thread r n (answered x value)) → u ≡ unmapped s n t vpn
-unmapped_none s r n t space vpn value same here none rows same_value u answer =
-    let kept = all_kept (is_row_of space vpn) s.rows none in
-    let there : slice_get r.threads n ≡ Some t = rw rows here in
-    answer t there ∙ rw (← same, none, rows, kept, same_value) refl
 
 -- a declaration leaves each thread in its place
 pub thread_stays : (s : FlatState) (d : Decl) (n : ℕ) (t : FlatThread) → slice_get s.threads n ≡ Some t → slice_get (declared s d).threads n ≡ Some t

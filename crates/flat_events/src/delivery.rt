@@ -7,13 +7,13 @@ ghost use Rattle.flat_state.specs.NextSteps.{is_miss};
 ghost use Rattle.flat_events.specs.Readings.{delivered_unless};
 
 use cache_ident::{ThreadNo, Vpn};
-use flat_rules::{Changes, Records};
+use flat_rules::{Records, Steps};
 use flat_state::Signal;
 use rv32_exec::Stepped;
 use signal_pages::address;
 
 /// Sends the signal of a step that went on to its receivers, if there is one.
-pub(crate) fn deliver<T: Changes>(
+pub(crate) fn deliver<T: Steps>(
     tables: &mut T,
     stepped: Stepped,
     signal: Option<Signal>,
@@ -21,7 +21,8 @@ pub(crate) fn deliver<T: Changes>(
 )
     requires signal { IfSome signal (λ s. (s.offset < 4096) × (is_signalling s.offset ≡ true)) }
     requires room { HasRoom (T.state tables.old).threads receivers.now }
-    ensures { T.state tables.new ≡ record (T.state tables.old) { threads = delivered_unless (is_miss stepped) (T.state tables.old).threads signal receivers.now } }
+    ensures state { T.state tables.new ≡ record (T.state tables.old) { threads = delivered_unless (is_miss stepped) (T.state tables.old).threads signal receivers.now } }
+    ensures rest { T.rest tables.new ≡ T.rest tables.old }
 {
     match stepped {
         Stepped::Miss { .. } => {}
@@ -34,11 +35,12 @@ pub(crate) fn deliver<T: Changes>(
 }
 
 // Gives each receiver in turn the address of the message slot in its own page. There is room for all.
-fn send<T: Changes>(tables: &mut T, offset: u32, receivers: &[(ThreadNo, Vpn)])
+fn send<T: Steps>(tables: &mut T, offset: u32, receivers: &[(ThreadNo, Vpn)])
     requires page { offset < 4096 }
     requires signalling { is_signalling offset ≡ true }
     requires room { HasRoom (T.state tables.old).threads receivers.now }
-    ensures { T.state tables.new ≡ record (T.state tables.old) { threads = sent (T.state tables.old).threads offset receivers.now } }
+    ensures state { T.state tables.new ≡ record (T.state tables.old) { threads = sent (T.state tables.old).threads offset receivers.now } }
+    ensures rest { T.rest tables.new ≡ T.rest tables.old }
 {
     // What holds of the threads says that one that isn't full has room.
     tables.holds();

@@ -14,15 +14,16 @@ use crate::delivery::deliver;
 use cache_ident::{SpaceNo, ThreadNo};
 use flat_mmu::Mmu;
 use flat_rules::{
-    Changes, Records, full_among, is_ready, next_signal, reached, receivers_for, thread_at,
+    Records, Steps, full_among, is_ready, next_signal, reached, receivers_for, thread_at,
 };
 use rv32_exec::{Access, Context, FaultKind, Reason, Status, Stepped};
 
-/// Takes the next step of a thread, if it is runnable. It costs a look at the step, its accesses, and the signals that it
-/// sends.
+/// Takes the next step of a thread, if it is runnable. What the tables keep beside the flat state stays as it is. It costs
+/// a look at the step, its accesses, and the signals that it sends.
 #[tactic(auto, unfolding(flat_state::specs::Step::after_step))]
-pub fn step<T: Changes>(tables: &mut T, no: ThreadNo)
-    ensures { T.state tables.new ≡ unwrap_or (after_step (T.state tables.old) no.0) (T.state tables.old) }
+pub fn step<T: Steps>(tables: &mut T, no: ThreadNo)
+    ensures state { T.state tables.new ≡ unwrap_or (after_step (T.state tables.old) no.0) (T.state tables.old) }
+    ensures rest { T.rest tables.new ≡ T.rest tables.old }
 {
     if no.0 < tables.thread_count() {
         step_at(tables, no);
@@ -30,9 +31,10 @@ pub fn step<T: Changes>(tables: &mut T, no: ThreadNo)
 }
 
 // Takes the next step of a thread that there is, if it is runnable.
-fn step_at<T: Changes>(tables: &mut T, no: ThreadNo)
+fn step_at<T: Steps>(tables: &mut T, no: ThreadNo)
     requires { no.0 < length (T.state tables.old).threads }
-    ensures { OfThread (T.state tables.old) no.0 (λ t. T.state tables.new ≡ unwrap_or (step_if (is_runnable (T.state tables.old) t) (T.state tables.old) no.0 t) (T.state tables.old)) }
+    ensures state { OfThread (T.state tables.old) no.0 (λ t. T.state tables.new ≡ unwrap_or (step_if (is_runnable (T.state tables.old) t) (T.state tables.old) no.0 t) (T.state tables.old)) }
+    ensures rest { T.rest tables.new ≡ T.rest tables.old }
 {
     // What holds of the machine says that a receiver that isn't full has room for its addresses.
     tables.holds();
@@ -50,10 +52,11 @@ fn step_at<T: Changes>(tables: &mut T, no: ThreadNo)
 }
 
 // Takes the step of a thread, and leaves its signal to the caller.
-fn take_step<T: Changes>(tables: &mut T, no: ThreadNo) -> Stepped
+fn take_step<T: Steps>(tables: &mut T, no: ThreadNo) -> Stepped
     requires { no.0 < length (T.state tables.old).threads }
     ensures state { OfThread (T.state tables.old) no.0 (λ t. T.state tables.new ≡ unsignalled (T.state tables.old) no.0 t) }
     ensures answer { OfThread (T.state tables.old) no.0 (λ t. result ≡ (outcome (T.state tables.old) t).answer) }
+    ensures rest { T.rest tables.new ≡ T.rest tables.old }
 {
     let thread = thread_at(tables, no);
     let space = T::space_of(thread);
@@ -92,11 +95,12 @@ fn fault_kind<T: Records>(tables: &T, no: ThreadNo, access: Access, va: u32) -> 
 }
 
 // Takes one step in the pages of a space.
-fn run_in<T: Changes>(tables: &mut T, space: SpaceNo, context: &mut Context) -> Stepped
+fn run_in<T: Steps>(tables: &mut T, space: SpaceNo, context: &mut Context) -> Stepped
     requires { context.old.pc % 4 ≡ 0 }
     ensures ran { RanIn (T.state tables.old) space context.old (T.state tables.new) context.new result }
     ensures missed { OnMiss result ((context.new ≡ context.old) × (T.state tables.new ≡ T.state tables.old)) }
     ensures aligned { context.new.pc % 4 ≡ 0 }
+    ensures rest { T.rest tables.new ≡ T.rest tables.old }
 {
     // What holds of the machine before and after says that what stands in the pages is what stands in memory and rows.
     tables.holds();
@@ -106,12 +110,13 @@ fn run_in<T: Changes>(tables: &mut T, space: SpaceNo, context: &mut Context) -> 
 }
 
 // The same, by what it makes of the pages.
-fn run_through<T: Changes>(tables: &mut T, space: SpaceNo, context: &mut Context) -> Stepped
+fn run_through<T: Steps>(tables: &mut T, space: SpaceNo, context: &mut Context) -> Stepped
     requires { context.old.pc % 4 ≡ 0 }
     ensures aligned { context.new.pc % 4 ≡ 0 }
     ensures after { IsAfter context.new (pages_of (T.state tables.new) space) result (after_instruction context.old (pages_of (T.state tables.old) space)) }
     ensures kept { beside (T.state tables.new) space 0 ≡ beside (T.state tables.old) space 0 }
     ensures missed { OnMiss result ((context.new ≡ context.old) × (pages_of (T.state tables.new) space ≡ pages_of (T.state tables.old) space)) }
+    ensures rest { T.rest tables.new ≡ T.rest tables.old }
 {
     let mut mmu = Mmu::new(tables, space);
     rv32_exec::step(context, &mut mmu)

@@ -1,22 +1,25 @@
 //! How the rules change the machine's tables.
 
-ghost use Rattle.std.specs.Prelude.{◌≡◌, ◌%◌, ◌+◌, ◌<◌, ◌≤◌, true, false, IfOk, OnOk, OnErr, length};
+ghost use Rattle.std.specs.Prelude.{◌≡◌, ◌%◌, ◌+◌, ◌<◌, ◌≤◌, true, false, OnOk, OnErr, length};
 ghost use Rattle.rv32_exec.specs.Pages.{put_bytes, size_of};
 ghost use Rattle.flat_state.specs.State.{is_ended};
 ghost use Rattle.flat_state.specs.Signals.{with_address};
 ghost use Rattle.flat_state.specs.Call.{answered, is_completable};
-ghost use Rattle.flat_thread.specs.Calls.{call_of, own_part};
+ghost use Rattle.flat_thread.specs.Calls.{own_part};
 
 use crate::NoMemory;
 use crate::flat::Flat;
 use cache_ident::{SpaceNo, ThreadNo, Vpn};
-use fault_forward::Effect;
-use flat_rules::Changes;
+use flat_rules::{Changes, Steps};
 use flat_state::{Decl, FlatThread};
 use phys_groups::Memory;
 use rv32_exec::{Context, Status, Width};
 
-impl Changes for Flat {
+impl Steps for Flat {
+    ghost Rest = { Unit {0} };
+
+    ghost rest = { λ _. tt };
+
     fn store(&mut self, at: u32, width: Width, value: u32) {
         store_in(&mut self.memory, at, width, value);
     }
@@ -38,8 +41,10 @@ impl Changes for Flat {
     fn answer(&mut self, no: ThreadNo, value: u32) {
         answer_to(&mut self.threads[no.0 as usize], value);
     }
+}
 
-    fn carry_out(&mut self, no: ThreadNo) -> Result<Effect, NoMemory> {
+impl Changes for Flat {
+    fn carry_out(&mut self, no: ThreadNo) -> Result<(), NoMemory> {
         carry_out_of(&mut self.threads[no.0 as usize])
     }
 
@@ -80,10 +85,9 @@ pub(crate) fn answer_to(thread: &mut FlatThread, value: u32)
     flat_thread::answer(&mut thread.context, &mut thread.status, value);
 }
 
-// Does what a call does to its thread alone, and answers what the call brings about.
-pub(crate) fn carry_out_of(thread: &mut FlatThread) -> Result<Effect, NoMemory>
+// Does what a call does to its thread alone.
+pub(crate) fn carry_out_of(thread: &mut FlatThread) -> Result<(), NoMemory>
     requires { is_completable thread.old ≡ true }
-    ensures effect { IfOk result (λ effect. effect ≡ (call_of thread.old).effect) }
     ensures ok { OnOk result (thread.new ≡ own_part thread.old) }
     ensures err { OnErr result (thread.new ≡ thread.old) }
 {
@@ -93,5 +97,6 @@ pub(crate) fn carry_out_of(thread: &mut FlatThread) -> Result<Effect, NoMemory>
         &mut thread.status,
         &mut thread.queue,
         &mut thread.output,
-    )
+    )?;
+    Ok(())
 }

@@ -12,13 +12,16 @@ use crate::changes::{answer_to, carry_out_of, give_to, store_in};
 use crate::plain::{Plain, is_row, row_in};
 use arrayvec::ArrayVec;
 use cache_ident::{Caps, Frame, KernelNo, SpaceNo, ThreadNo, Vpn};
-use fault_forward::Effect;
-use flat_rules::Changes;
+use flat_rules::{Changes, Steps};
 use flat_state::{Decl, FlatKernel, FlatThread, Machine};
 use phys_groups::{Flags, Memory, Rights, Row};
 use rv32_exec::{Context, Output, Status, Width};
 
-impl Changes for Plain {
+impl Steps for Plain {
+    ghost Rest = { Unit {0} };
+
+    ghost rest = { λ _. tt };
+
     fn store(&mut self, at: u32, width: Width, value: u32) {
         store_in(&mut self.memory, at, width, value);
     }
@@ -40,8 +43,10 @@ impl Changes for Plain {
     fn answer(&mut self, no: ThreadNo, value: u32) {
         answer_to(&mut self.threads[no.0 as usize], value);
     }
+}
 
-    fn carry_out(&mut self, no: ThreadNo) -> Result<Effect, NoMemory> {
+impl Changes for Plain {
+    fn carry_out(&mut self, no: ThreadNo) -> Result<(), NoMemory> {
         carry_out_of(&mut self.threads[no.0 as usize])
     }
 

@@ -1,5 +1,5 @@
 -- What the memory unit reads, stores and marks, as its pages have it.
-use Rattle.std.proofs.Common.{◌≡◌, ℕ, ◌+◌, ◌/◌, ◌%◌, ◌≤◌, Bool, List, [], length, map, Some, None, sym, ◌∙◌, ap, arith}
+use Rattle.std.proofs.Common.{◌≡◌, ℕ, ◌+◌, ◌/◌, ◌%◌, ◌≤◌, Bool, List, [], length, map, Some, None, sym, ◌∙◌, ap, ap₂, arith}
 use Rattle.std.specs.Option.{is_some, option_map}
 use Rattle.cache_ident.specs.declared.names.SpaceNo.{SpaceNo}
 use Rattle.cache_ident.specs.declared.names.Frame.{Frame}
@@ -57,6 +57,10 @@ pub place_aligned : (frame : Frame) (va : ℕ) (width : Width) (at : ℕ) → va
 place_aligned frame va Byte at aligned place = omega arith
 place_aligned frame va Half at aligned place = omega (arith, place, aligned)
 place_aligned frame va Word at aligned place = omega (arith, place, aligned)
+
+-- two things stay where each of them stays
+pub both_stay : {X Y : Type 0} {x' x : X} {y' y : Y} → x' ≡ x → y' ≡ y → ◌≡◌ {A = X × Y} (x', y') (x, y)
+both_stay {X} {Y} first second = ap₂ (λ (a : X) (b : Y). (a, b)) first second
 
 -- ---- the same of a state
 

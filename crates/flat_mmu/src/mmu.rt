@@ -8,7 +8,7 @@ ghost use Rattle.flat_rules.specs.Readings.{IsInMemory};
 ghost use Rattle.flat_mmu.specs.Seen.{Beside, beside, seen, seen_row};
 
 use cache_ident::{Frame, SpaceNo, Vpn};
-use flat_rules::{Changes, Records, reached};
+use flat_rules::{Records, Steps, reached};
 use phys_groups::Row;
 use rv32_exec::{Access, Hole, Space, Width};
 use rv32_isa::{Instr, decode};
@@ -17,14 +17,15 @@ use rv32_isa::{Instr, decode};
 ///
 /// The pages of the space are its rows. An access goes through the row of its page, where that row has the flag of the
 /// access and is fit, to the row's frame; two rows of one frame see each other's stores. Every other access is a hole,
-/// and changes nothing. No call takes memory, and an access costs a look at its row.
+/// and changes nothing. What the tables keep beside memory and rows stays as it is. No call takes memory, and an access
+/// costs a look at its row.
 #[derive(Drop)]
 pub struct Mmu<'a, T> {
     tables: &'a mut T,
     space: SpaceNo,
 }
 
-impl<'a, T: Changes> Mmu<'a, T> {
+impl<'a, T: Steps> Mmu<'a, T> {
     /// The memory and the rows of these tables for the threads of a space.
     pub fn new(tables: &'a mut T, space: SpaceNo) -> Mmu<'a, T>
         ensures same_tables { result.tables.ghost_name ≡ tables.entry.ghost_name }
@@ -73,13 +74,14 @@ fn writes(access: Access) -> bool
     matches!(access, Access::Write)
 }
 
-impl<'a, T: Changes> Space for Mmu<'a, T> {
+impl<'a, T: Steps> Space for Mmu<'a, T> {
     ghost pages = { λ m. pages_of (T.state m.tables.now) m.space };
 
-    // The tables of before are those of after, and but for the pages they are as they were.
-    ghost Kept = { Beside };
+    // The tables of before are those of after, and but for the pages they are as they were, with what they keep beside
+    // memory and rows.
+    ghost Kept = { Beside × T.Rest };
 
-    ghost kept = { λ m. beside (T.state m.tables.now) m.space m.tables.ghost_name };
+    ghost kept = { λ m. (beside (T.state m.tables.now) m.space m.tables.ghost_name, T.rest m.tables.now) };
 
     fn fetch(&self, va: u32) -> Result<u32, Hole> {
         match self.translate(Access::Fetch, va) {

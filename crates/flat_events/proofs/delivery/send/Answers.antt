@@ -14,17 +14,17 @@ use Rattle.flat_events.proofs.delivery.send.Goals as goal
 pub loop-receiver-init : goal.loop-receiver-init
 loop-receiver-init g c =
     let s = g.T.Records.state c.args.tables.now in
-    (refl, sending_none s.spaces c.args.offset s.threads c.args.receivers.now c.holds.ensures.threads c.requires.room)
+    ((refl, sending_none s.spaces c.args.offset s.threads c.args.receivers.now c.holds.ensures.threads c.requires.room), refl)
 
 pub address-requires-clause-page : goal.address-requires-clause-page
 address-requires-clause-page g c =
     let i = c.loop-receiver.receiver-index in
-    (c.loop-receiver.invariant.1.each i _ (slice_get-get_or c.args.receivers.now i (record { 0 = 0 }, record { 0 = 0 }) c.loop-receiver-test.true)).1
+    (c.loop-receiver.invariant.0.1.each i _ (slice_get-get_or c.args.receivers.now i (record { 0 = 0 }, record { 0 = 0 }) c.loop-receiver-test.true)).1
 
 pub give-requires-clause-there : goal.give-requires-clause-there
 give-requires-clause-there g c =
     let i = c.loop-receiver.receiver-index in
-    (c.loop-receiver.invariant.1.each i _ (slice_get-get_or c.args.receivers.now i (record { 0 = 0 }, record { 0 = 0 }) c.loop-receiver-test.true)).0
+    (c.loop-receiver.invariant.0.1.each i _ (slice_get-get_or c.args.receivers.now i (record { 0 = 0 }, record { 0 = 0 }) c.loop-receiver-test.true)).0
 
 pub give-requires-clause-room : goal.give-requires-clause-room
 give-requires-clause-room g c =
@@ -33,7 +33,7 @@ give-requires-clause-room g c =
     let i = c.loop-receiver.receiver-index in
     let rs = c.args.receivers.now in
     let r : ThreadNo × Vpn = get_or rs i (record { 0 = 0 }, record { 0 = 0 }) in
-    sending_room before.spaces c.args.offset before.threads now.threads rs i r (slice_get-get_or rs i (record { 0 = 0 }, record { 0 = 0 }) c.loop-receiver-test.true) (drop_more rs i (record { 0 = 0 }, record { 0 = 0 }) c.loop-receiver-test.true) c.loop-receiver.invariant.1
+    sending_room before.spaces c.args.offset before.threads now.threads rs i r (slice_get-get_or rs i (record { 0 = 0 }, record { 0 = 0 }) c.loop-receiver-test.true) (drop_more rs i (record { 0 = 0 }, record { 0 = 0 }) c.loop-receiver-test.true) c.loop-receiver.invariant.0.1
 
 pub loop-receiver-preserved : goal.loop-receiver-preserved
 loop-receiver-preserved g c =
@@ -42,10 +42,13 @@ loop-receiver-preserved g c =
     let i = c.loop-receiver.receiver-index in
     let rs = c.args.receivers.now in
     let r : ThreadNo × Vpn = get_or rs i (record { 0 = 0 }, record { 0 = 0 }) in
-    let more = sending_more before.spaces c.args.offset before.threads now.threads rs i r (slice_get-get_or rs i (record { 0 = 0 }, record { 0 = 0 }) c.loop-receiver-test.true) (drop_more rs i (record { 0 = 0 }, record { 0 = 0 }) c.loop-receiver-test.true) c.loop-receiver.invariant.1 in
-    let sent_one : g.T.Records.state c.give.new.self ≡ record now { threads = sent_to now.threads r.0 c.address.result (slice_get now.threads r.0.0) } = c.give.ensures in
+    let more = sending_more before.spaces c.args.offset before.threads now.threads rs i r (slice_get-get_or rs i (record { 0 = 0 }, record { 0 = 0 }) c.loop-receiver-test.true) (drop_more rs i (record { 0 = 0 }, record { 0 = 0 }) c.loop-receiver-test.true) c.loop-receiver.invariant.0.1 in
+    let sent_one : g.T.Records.state c.give.new.self ≡ record now { threads = sent_to now.threads r.0 c.address.result (slice_get now.threads r.0.0) } = c.give.ensures.state in
     let threads : (g.T.Records.state c.give.new.self).threads ≡ sent_to now.threads r.0 (address_of r.1 c.args.offset) (slice_get now.threads r.0.0) =
     ap (λ (t : FlatState). t.threads) sent_one ∙ ap (λ (va : ℕ). sent_to now.threads r.0 va (slice_get now.threads r.0.0)) c.address.ensures in (
-      sent_one ∙ ap (λ (t : FlatState). record t { threads = sent_to now.threads r.0 c.address.result (slice_get now.threads r.0.0) }) c.loop-receiver.invariant.0 ∙ ap (λ (ts : List FlatThread). record before { threads = ts }) (sym (ap (λ (t : FlatState). t.threads) sent_one)),
-      subst (λ (ts : List FlatThread). IsSending before.spaces c.args.offset before.threads ts rs (i + 1)) (sym threads) more,
+      (
+        sent_one ∙ ap (λ (t : FlatState). record t { threads = sent_to now.threads r.0 c.address.result (slice_get now.threads r.0.0) }) c.loop-receiver.invariant.0.0 ∙ ap (λ (ts : List FlatThread). record before { threads = ts }) (sym (ap (λ (t : FlatState). t.threads) sent_one)),
+        subst (λ (ts : List FlatThread). IsSending before.spaces c.args.offset before.threads ts rs (i + 1)) (sym threads) more,
+      ),
+      c.give.ensures.rest ∙ c.loop-receiver.invariant.1,
     )

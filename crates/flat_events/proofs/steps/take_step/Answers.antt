@@ -21,7 +21,7 @@ returns-clause-state g c = λ t at.
     let there : slice_get now.threads n ≡ Some first = ap (λ (u : FlatState). slice_get u.threads n) c.run_in-stepped.ensures.ran.state ∙ c.thread_at-thread.ensures.thread in
     let ran : RanIn old first.space first.context now after c.run_in-stepped.result = subst₂ (λ (p : SpaceNo) (x : Context). RanIn old p x now after c.run_in-stepped.result) c.space_of-space.ensures c.context_of.ensures c.run_in-stepped.ensures.ran in
     let missed : OnMiss c.run_in-stepped.result ((after ≡ first.context) × (now ≡ old)) = rw c.context_of.ensures at c.run_in-stepped.ensures.missed in
-    c.put.ensures first there
+    c.put.ensures.state first there
     ∙ step_state old now n first after c.run_in-stepped.result c.status_after-status.result ran missed (c.status_after-status.ensures first there)
     ∙ ap (unsignalled old n) (same_Some first t (sym c.thread_at-thread.ensures.thread ∙ at))
 

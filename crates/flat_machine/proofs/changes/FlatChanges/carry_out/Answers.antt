@@ -2,11 +2,10 @@ use Rattle.std.proofs.Common.{◌≡◌, Some, ◌<◌, length, slice_get, refl,
 use Rattle.std.proofs.lemmas.Option.{same_Some, slice_get_read}
 use Rattle.flat_state.specs.State.{FlatState}
 use Rattle.flat_machine.specs.contracts.flat.Flat.{the_view}
-use Rattle.std.proofs.lemmas.Result.{on_ok_weaker, IfOk-weaker}
+use Rattle.std.proofs.lemmas.Result.{on_ok_weaker}
 use Rattle.flat_state.specs.declared.records.FlatThread.{FlatThread}
 use Rattle.flat_state.specs.State.{with_thread}
-use Rattle.flat_thread.specs.Calls.{call_of, own_part}
-use Rattle.flat_rules.specs.Readings.{OfThread}
+use Rattle.flat_thread.specs.Calls.{own_part}
 use Rattle.flat_machine.proofs.DeclareSound.{Sound, after_either}
 use Rattle.flat_machine.proofs.ChangeSound.{own_sound, in_place}
 use Rattle.flat_machine.proofs.changes.FlatChanges.carry_out.Goals as goal
@@ -19,17 +18,6 @@ invariant_of-self c =
     let within = subst (λ (s : FlatState). c.args.no.0 < length s.threads) (sym c.self.view_is) c.requires.there in
     let there = slice_get_read threads (length threads) c.args.no.0 t refl within c.index_mut.ensures.value in
     after_either (λ (u : FlatThread). Sound (with_thread s c.args.no.0 u) c.self.inside.granted) c.carry_out_of.result _ _ _ c.carry_out_of.ensures.ok c.carry_out_of.ensures.err (own_sound s _ c.self.invariant c.args.no.0 t there) (in_place s _ c.self.invariant c.args.no.0 t there t refl refl refl refl (omega arith))
-
-pub returns-clause-effect : goal.returns-clause-effect
-returns-clause-effect c =
-    let threads = c.self.inside.threads.items in
-    let within = subst (λ (s : FlatState). c.args.no.0 < length s.threads) (sym c.self.view_is) c.requires.there in
-    let there = slice_get_read threads (length threads) c.args.no.0 c.index_mut.result.now refl within c.index_mut.ensures.value in
-    IfOk-weaker c.carry_out_of.result (λ effect. effect ≡ (call_of c.index_mut.result.now).effect) (λ effect. OfThread c.args.self.now c.args.no.0 (λ t. effect ≡ (call_of t).effect))
-    (λ effect is t here.
-    let was = subst (λ (s : FlatState). slice_get s.threads c.args.no.0 ≡ Some t) (sym c.self.view_is) here in
-    is ∙ ap (λ (u : FlatThread). (call_of u).effect) (same_Some _ _ (sym there ∙ was)))
-    c.carry_out_of.ensures.effect
 
 pub returns-clause-ok : goal.returns-clause-ok
 returns-clause-ok c =

@@ -3,7 +3,7 @@ use Rattle.std.specs.Option.{is_some, option_map}
 use Rattle.rv32_exec.specs.declared.statuses.Access.TheVariants.{Write}
 use Rattle.flat_state.specs.Pages.{page_of}
 use Rattle.flat_mmu.specs.Seen.{seen, seen_row}
-use Rattle.flat_mmu.proofs.MmuLaws.{place_aligned, place_within, store_keeps, store_pages, translates_seen, unstored_seen}
+use Rattle.flat_mmu.proofs.MmuLaws.{both_stay, place_aligned, place_within, store_keeps, store_pages, translates_seen, unstored_seen}
 use Rattle.flat_mmu.proofs.mmu.MmuSpace.store.Goals as goal
 
 pub store-requires-clause-within : goal.store-requires-clause-within
@@ -27,7 +27,7 @@ returns-in-Some-clause-bytes g c =
     let space = c.args.self.now.space in
     let m = seen s space in
     let found : seen_row m Write c.args.va ≡ Some c.in-Some.row = sym c.translate.ensures.row ∙ c.in-Some.is in
-    store_pages s (g.T.Records.state c.store.new.self) space c.args.va c.args.width c.args.value c.in-Some.row c.place_in.result c.requires found c.place_in.ensures c.store.ensures
+    store_pages s (g.T.Records.state c.store.new.self) space c.args.va c.args.width c.args.value c.in-Some.row c.place_in.result c.requires found c.place_in.ensures c.store.ensures.state
 
 pub returns-in-Some-clause-kept : goal.returns-in-Some-clause-kept
 returns-in-Some-clause-kept g c =
@@ -35,7 +35,7 @@ returns-in-Some-clause-kept g c =
     let space = c.args.self.now.space in
     let m = seen s space in
     let found : seen_row m Write c.args.va ≡ Some c.in-Some.row = sym c.translate.ensures.row ∙ c.in-Some.is in
-    store_keeps s (g.T.Records.state c.store.new.self) space c.args.va c.args.width c.args.value c.in-Some.row c.place_in.result c.requires found c.place_in.ensures c.store.ensures _
+    both_stay (store_keeps s (g.T.Records.state c.store.new.self) space c.args.va c.args.width c.args.value c.in-Some.row c.place_in.result c.requires found c.place_in.ensures c.store.ensures.state _) c.store.ensures.rest
 
 pub returns-in-None-clause-found : goal.returns-in-None-clause-found
 returns-in-None-clause-found g c =

@@ -6,7 +6,7 @@ use Rattle.flat_state.specs.State.{FlatState, with_thread}
 use Rattle.flat_state.specs.Signals.{sent_to}
 use Rattle.flat_state.specs.WellFormed.{IsWellFormed}
 use Rattle.flat_machine.proofs.ChangeSound.{addressed_formed}
-use Rattle.flat_machine.proofs.changes.FlatChanges.give.Goals as goal
+use Rattle.flat_machine.proofs.changes.FlatSteps.give.Goals as goal
 
 module _ (c : goal.After-self-1) where
   -- the state before
@@ -22,8 +22,8 @@ invariant_of-self c = record {
   sums = c.self.invariant.sums;
 }
 
-pub returns : goal.returns
-returns c =
+pub returns-clause-state : goal.returns-clause-state
+returns-clause-state c =
     ap (λ (u : FlatThread). with_thread (s c) c.args.no.0 u) c.give_to.ensures
     ∙ sym (ap (λ (o : Option FlatThread). record (s c) { threads = sent_to (s c).threads c.args.no c.args.va o }) (here c))
     ∙ ap (λ (t : FlatState). record t { threads = sent_to t.threads c.args.no c.args.va (slice_get t.threads c.args.no.0) }) c.self.view_is

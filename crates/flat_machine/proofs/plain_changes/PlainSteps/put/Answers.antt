@@ -5,7 +5,7 @@ use Rattle.flat_state.specs.declared.records.FlatThread.{FlatThread}
 use Rattle.flat_state.specs.State.{FlatState, with_thread}
 use Rattle.flat_state.specs.WellFormed.{IsWellFormed}
 use Rattle.flat_state.proofs.FormedParts.{thread_formed}
-use Rattle.flat_machine.proofs.plain_changes.PlainChanges.put.Goals as goal
+use Rattle.flat_machine.proofs.plain_changes.PlainSteps.put.Goals as goal
 
 module _ (c : goal.After-self-1) where
   -- the state before
@@ -22,7 +22,7 @@ module _ (c : goal.After-self-1) where
 pub invariant_of-self : goal.invariant_of-self
 invariant_of-self c = record { formed = formed c; sums = c.self.invariant.sums }
 
-pub returns : goal.returns
-returns c = λ t at.
+pub returns-clause-state : goal.returns-clause-state
+returns-clause-state c = λ t at.
     let was : slice_get c.args.self.now.threads c.args.no.0 ≡ Some c.index_mut-thread.result.now = sym (ap (λ (u : FlatState). slice_get u.threads c.args.no.0) c.self.view_is) ∙ here c in
     ap₂ (λ (st : FlatState) (u : FlatThread). with_thread st c.args.no.0 (record u { context = c.args.context.now; status = c.args.status })) c.self.view_is (same_Some c.index_mut-thread.result.now t (sym was ∙ at))
