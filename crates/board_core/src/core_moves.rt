@@ -1,0 +1,205 @@
+//! The moves.
+
+use crate::core_record::Core;
+use cache_ident::{Cause, Frame, Ident, KernelNo, Name, NoMemory, ThreadNo};
+use flat_rules::{Changes, Records, next_step};
+use flat_state::{Decl, NextStep};
+use quantum::{PageView, Paused, Quantum};
+use run_journal::Entry;
+use rv32_exec::Status;
+
+// Declarations.
+impl Core {
+    /// Makes a declaration that breaks no rule, before the seal. Where memory is wanted nothing changes.
+    pub fn declare(&mut self, decl: &Decl) -> Result<(), NoMemory> {
+        self.journal.reserve(1)?;
+        self.machine.make_declaration(decl)?;
+        self.note(Entry::Declared { decl: *decl });
+        if let Decl::Word { frame, .. } = *decl {
+            self.put_stamp(frame);
+        }
+        Ok(())
+    }
+
+    /// Ends the declarations, and loads and locks the first kernel, which was declared. It asks for the room of one load and
+    /// two entries more.
+    pub fn seal(&mut self) -> Ident {
+        self.note(Entry::Sealed);
+        self.sealed = true;
+        let ident = self.load(0, Name::Kernel(KernelNo(0)), &[]);
+        self.lock(0, ident);
+        ident
+    }
+}
+
+// Loads, departures and locks. Each asks for room in the journal.
+impl Core {
+    /// Loads a descriptor from its shelf, while what is in `keep` stays. Where its cache is full another one leaves first,
+    /// with all that depends on it.
+    pub fn load(&mut self, cpu: u32, name: Name, keep: &[Ident]) -> Ident {
+        let at = self.journal.len();
+        let ident = self.machine.load(name, keep, at);
+        self.note_departures(cpu);
+        self.note(Entry::Loaded { ident, name, cpu });
+        ident
+    }
+
+    /// Unloads a loaded descriptor, and before it all that depends on it.
+    pub fn unload(&mut self, cpu: u32, ident: Ident) {
+        let at = self.journal.len();
+        self.machine.unload(ident, at);
+        self.note_departures(cpu);
+    }
+
+    // Notes what has just left, in the order in which it left.
+    fn note_departures(&mut self, cpu: u32) {
+        let count = self.machine.tables().gone().len();
+        for place in 0..count {
+            let gone = self.machine.tables().gone()[place];
+            self.note(Entry::WrittenBack {
+                ident: gone.ident,
+                cause: gone.cause,
+                cpu,
+            });
+        }
+    }
+
+    /// Locks a loaded descriptor, which is locked already or whose owner may lock one more of the kind. One that is locked
+    /// stays so, without an entry.
+    pub fn lock(&mut self, cpu: u32, ident: Ident) {
+        if !self.tables().is_locked(ident) {
+            self.machine.lock(ident);
+            self.note(Entry::Locked { ident, cpu });
+        }
+    }
+
+    /// Ends the lock of a loaded descriptor. One that isn't locked stays so, without an entry.
+    pub fn unlock(&mut self, cpu: u32, ident: Ident) {
+        if self.tables().is_locked(ident) {
+            self.machine.unlock(ident);
+            self.note(Entry::Unlocked { ident, cpu });
+        }
+    }
+}
+
+// Threads on processors. None writes an entry.
+impl Core {
+    /// A loaded thread goes to a processor.
+    pub fn check_out(&mut self, cpu: u32, no: ThreadNo) {
+        self.checkouts = self.checkouts.saturating_add(1);
+        self.machine.check_out(no, cpu, self.checkouts);
+    }
+
+    /// A thread that there is goes to no processor any more.
+    pub fn check_in(&mut self, no: ThreadNo) {
+        self.machine.check_in(no);
+    }
+
+    /// No thread is on a processor any more.
+    pub fn check_in_all(&mut self) {
+        self.machine.check_in_all();
+    }
+}
+
+// Steps and completions. Each asks for room for its entry, and for the steps that are left.
+impl Core {
+    /// Takes the next step of a loaded thread, which is runnable, and of which `next` is known. Each row that an access goes
+    /// through is loaded.
+    pub fn step(&mut self, cpu: u32, no: ThreadNo, next: &NextStep) {
+        let stored = self.frame_stored(next);
+        flat_events::step(&mut self.machine, no);
+        self.steps += 1;
+        if next.faults {
+            self.note(Entry::Ended { thread: no, cpu });
+        } else {
+            self.note(Entry::Ran {
+                thread: no,
+                steps: 1,
+                cpu,
+            });
+        }
+        if let Some(frame) = stored {
+            self.put_stamp(frame);
+        }
+    }
+
+    // The frame that a step may store to: that of its data, where the row lets stores through.
+    fn frame_stored(&self, next: &NextStep) -> Option<Frame> {
+        match next.data_row {
+            Some(Name::Mapping(space, vpn)) => match self.machine.row(space, vpn) {
+                Some(row) if row.flags.w => Some(row.frame),
+                _ => None,
+            },
+            _ => None,
+        }
+    }
+
+    /// Makes the steps of a quantum happen to a loaded thread, which has the quantum's first context, and whose touched views
+    /// are what memory holds. The thread goes to no processor any more. Without steps there is no entry.
+    pub fn run(&mut self, cpu: u32, no: ThreadNo, quantum: &Quantum) {
+        self.take_over(no, quantum);
+        self.machine.check_in(no);
+        let steps = quantum.steps();
+        if steps != 0 {
+            self.steps += u64::from(steps);
+            self.note(Entry::Ran {
+                thread: no,
+                steps,
+                cpu,
+            });
+            self.stamp_written(quantum.views());
+        }
+    }
+
+    // The thread, its rows and memory are as the quantum left them.
+    fn take_over(&mut self, no: ThreadNo, quantum: &Quantum) {
+        let Some(thread) = self.machine.thread(no) else {
+            unreachable!()
+        };
+        let space = thread.space;
+        for view in quantum.views() {
+            if view.touched() {
+                self.machine.mark(space, view.vpn(), view.written());
+            }
+            if view.written() {
+                self.machine.copy_in(view.frame(), view.present());
+            }
+        }
+        let status = status_at(quantum.paused());
+        self.machine.put(no, quantum.context(), status);
+    }
+
+    // The frames that were stored to changed, by the entry that was noted last.
+    fn stamp_written(&mut self, views: &[PageView]) {
+        for view in views {
+            if view.written() {
+                self.put_stamp(view.frame());
+            }
+        }
+    }
+
+    /// Completes the call of a loaded thread, which can be completed. Afterwards each loaded name stands, all that is loaded is
+    /// fit, and all that it depends on is loaded. Where memory is wanted nothing changes; after `make_declarable` only the
+    /// thread's output may want any.
+    pub fn complete(&mut self, cpu: u32, no: ThreadNo) -> Result<(), NoMemory> {
+        flat_events::complete(&mut self.machine, no)?;
+        self.note(Entry::Completed { thread: no, cpu });
+        Ok(())
+    }
+
+    /// What can be said of a thread's next step, and none where there is no such thread.
+    pub fn next_step(&self, no: ThreadNo) -> Option<NextStep> {
+        next_step(&self.machine, no)
+    }
+}
+
+// What a thread does where its quantum stands.
+fn status_at(paused: Option<Paused>) -> Status {
+    match paused {
+        Some(Paused::Call) => Status::Trapped,
+        Some(Paused::Stopped(reason)) => Status::Ended(reason),
+        Some(Paused::Limit) | Some(Paused::Miss { .. }) | Some(Paused::Signal) | None => {
+            Status::Ready
+        }
+    }
+}

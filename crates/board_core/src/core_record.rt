@@ -1,0 +1,147 @@
+//! The record, and what is read of it.
+
+use cache_ident::{Frame, NoMemory};
+use cached_machine::CachedMachine;
+use desc_tables::Tables;
+use flat_state::{Decl, Machine};
+use run_journal::{Entry, Journal};
+use std::alloc::Global;
+
+const GROUP_FRAMES: usize = 128;
+
+/// A machine with its journal: the machine that its journal's entries make, what is resident by them, and how many steps
+/// they have.
+#[derive(Drop)]
+pub struct Core {
+    pub(crate) machine: CachedMachine,
+    pub(crate) journal: Journal,
+    // Whether the journal has the seal.
+    pub(crate) sealed: bool,
+    // How many steps may be taken, and how many the journal has.
+    pub(crate) limit: u64,
+    pub(crate) steps: u64,
+    // How many checkouts gave a thread. The count stays at its last value.
+    pub(crate) checkouts: u64,
+    // For each frame a place of the journal from which on no entry changed it: its bytes are those that it has in the flat
+    // state of the entries before that place.
+    pub(crate) stamps: Vec<u64>,
+}
+
+impl Core {
+    /// The machine as it is declared, with a journal of that declaration alone. The machine breaks no rule.
+    pub fn new(alloc: Global, machine: Machine, limit: u64) -> Result<Core, NoMemory> {
+        let mut journal = Journal::new(alloc);
+        journal.push(Entry::Declared {
+            decl: Decl::Machine { machine },
+        })?;
+        let frames = machine.groups as usize * GROUP_FRAMES;
+        Ok(Core {
+            machine: CachedMachine::new(alloc, machine)?,
+            sealed: false,
+            limit,
+            steps: 0,
+            checkouts: 0,
+            // Memory is all zeros behind the first entry.
+            stamps: vec![in alloc; journal.len(); frames]?,
+            journal,
+        })
+    }
+
+    /// The machine.
+    pub fn machine(&self) -> &CachedMachine {
+        &self.machine
+    }
+
+    /// The tables of the machine's descriptors.
+    pub fn tables(&self) -> &Tables {
+        self.machine.tables()
+    }
+
+    /// All that happened.
+    pub fn journal(&self) -> &Journal {
+        &self.journal
+    }
+
+    /// The journal, without the rest.
+    pub fn into_journal(self) -> Journal {
+        let Core {
+            machine: _,
+            journal,
+            sealed: _,
+            limit: _,
+            steps: _,
+            checkouts: _,
+            stamps: _,
+        } = self;
+        journal
+    }
+
+    /// Whether the declarations have ended.
+    pub fn is_sealed(&self) -> bool {
+        self.sealed
+    }
+
+    /// How many steps the journal has.
+    pub fn steps(&self) -> u64 {
+        self.steps
+    }
+
+    /// How many steps may be taken in all.
+    pub fn limit(&self) -> u64 {
+        self.limit
+    }
+
+    /// How many steps may still be taken.
+    pub fn steps_left(&self) -> u64 {
+        // No more are ever taken than may be.
+        self.limit - self.steps
+    }
+
+    /// How many descriptors are loaded.
+    pub fn loaded(&self) -> usize {
+        self.machine.loaded()
+    }
+
+    /// A place of the journal from which on no entry changed a frame that there is.
+    pub fn stamp(&self, frame: Frame) -> u64 {
+        self.stamps[frame.0 as usize]
+    }
+
+    /// How many entries the journal can take, and how many identifiers can be issued, without memory: the fewer of both.
+    pub fn spare(&self) -> usize {
+        self.journal.spare().min(self.machine.spare())
+    }
+
+    /// Makes `spare` at least `n`. Where memory is wanted nothing that can be read changes but `spare`, which doesn't fall.
+    pub fn reserve(&mut self, n: usize) -> Result<(), NoMemory> {
+        self.machine.reserve(n)?;
+        self.journal.reserve(n)
+    }
+
+    /// Makes room for so many loads, with all that may leave for them or by an unload, and for so many entries beside. Where
+    /// `spare` is at least the loaded descriptors and the two numbers together, it takes no memory.
+    pub fn make_room(&mut self, loads: usize, entries: usize) -> Result<(), NoMemory> {
+        self.machine.reserve(loads)?;
+        self.journal.reserve(self.loaded() + loads + entries)
+    }
+
+    /// Makes room for so many entries, where nothing comes or leaves.
+    pub fn make_entries(&mut self, entries: usize) -> Result<(), NoMemory> {
+        self.journal.reserve(entries)
+    }
+
+    /// Makes room for a declaration, so that it takes no memory.
+    pub fn make_declarable(&mut self) -> Result<(), NoMemory> {
+        self.machine.make_room()
+    }
+
+    // Notes an entry, for which there is room.
+    pub(crate) fn note(&mut self, entry: Entry) {
+        let _ = self.journal.push(entry);
+    }
+
+    // A frame changed, by the entry that was noted last.
+    pub(crate) fn put_stamp(&mut self, frame: Frame) {
+        self.stamps[frame.0 as usize] = self.journal.len();
+    }
+}
