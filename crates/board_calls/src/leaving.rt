@@ -2,10 +2,10 @@
 //!
 //! Only rows are among it, beside the rows that depend on them.
 
-use crate::asked::Asked;
 use cache_ident::{Frame, Ident, KernelNo, Name, NoMemory, SpaceNo, Vpn};
 use cached_machine::CachedMachine;
 use desc_tables::ItemRef;
+use flat_events::Asked;
 use flat_rules::{Records, is_fit_row, rights_of};
 use flat_state::Decl;
 use phys_groups::{Flags, Rights, Row};
@@ -14,32 +14,38 @@ const GROUP_FRAMES: u32 = 128;
 
 /// The loaded rows that leave for what a call asks for, by serial. It takes memory for them, and looks at the loaded rows of
 /// the frame that a row is asked for, or of the group that rights are asked on.
-pub(crate) fn leaving(machine: &CachedMachine, asked: Asked) -> Result<Vec<Ident>, NoMemory> {
+pub(crate) fn leaving(machine: &CachedMachine, asked: Asked) -> Result<Vec<Ident>, NoMemory>
+// requires asked: asks state t ≡ asked, t the thread that completes
+// ensures exact: Ok idents has exactly the residents whose name isn't in s', that aren't fit in s', or that are message rows and depend
+//   in s' on what isn't resident; in order of serial; s' the state after the completion
+{
     let mut idents = Vec::new(machine.alloc());
     match asked {
-        Asked::Nothing => {}
-        Asked::Removal(space, vpn) => add_row(machine, space, vpn, &mut idents)?,
-        Asked::Declaration(
-            Decl::Map {
+        Asked::Nothing | Asked::Refused { .. } => {}
+        Asked::Unmaps { space, vpn } => add_row(machine, space, vpn, &mut idents)?,
+        Asked::Declares {
+            decl: Decl::Map {
                 space,
                 frame,
                 flags,
                 receiver: Some(_),
                 ..
             },
-        ) => add_messages_for(machine, space, frame, flags, &mut idents)?,
-        Asked::Declaration(
-            Decl::Right {
+            ..
+        } => add_messages_for(machine, space, frame, flags, &mut idents)?,
+        Asked::Declares {
+            decl: Decl::Right {
                 kernel,
                 group,
                 read,
                 write,
             },
-        ) => {
+            ..
+        } => {
             let granted = Granted::new(machine, kernel, group, read, write);
             add_unfit(machine, &granted, group, &mut idents)?;
         }
-        Asked::Declaration(_) => {}
+        Asked::Declares { .. } => {}
     }
     idents.sort_unstable_by_key(|ident: &Ident| ident.serial);
     Ok(idents)

@@ -1,7 +1,6 @@
 //! Declarations, the seal, and the completion of thread calls on the board's core.
 #![tactic(auto)]
 
-mod asked;
 mod completions;
 mod declarations;
 mod leaving;

@@ -17,7 +17,10 @@ pub type Keep = ArrayVec<Ident, MOST_CHAINED>;
 
 /// These names and all that they depend on, over any number of steps, each once. They are names of the chain of one step, so
 /// there are few. It costs a look at each.
-pub fn all_above(machine: &CachedMachine, names: &[Name]) -> Chain {
+pub fn all_above(machine: &CachedMachine, names: &[Name]) -> Chain
+// requires chain: names ⊆ the chain of one step (so at most 21 names come together: 5 kernels, spaces, threads, 6 rows)
+// ensures exact: result has exactly names and all that they depend on by any number of `parents`, each once
+{
     let mut all = Chain::new();
     for name in names {
         add(&mut all, *name);
@@ -51,7 +54,10 @@ pub fn loaded_among(machine: &CachedMachine, names: &[Name]) -> Keep {
 }
 
 /// What stays while a descriptor is loaded: all that it depends on, over any number of steps.
-pub fn kept_for(machine: &CachedMachine, name: Name) -> Keep {
+pub fn kept_for(machine: &CachedMachine, name: Name) -> Keep
+// requires stands: the name stands, and all that it depends on is resident
+// ensures may: if its name isn't loaded and it is fit, MayBeLoaded contents name result
+{
     let above = all_above(machine, &parents(machine, name));
     loaded_among(machine, &above)
 }
@@ -59,7 +65,11 @@ pub fn kept_for(machine: &CachedMachine, name: Name) -> Keep {
 /// The chain of a thread's next step, of which `next` is known, in the order of loading: kernels, spaces and threads, each by
 /// their numbers; the signal rows that the data row depends on, in declared order; the row of the fetch; and the row of the
 /// data.
-pub fn chain_of(machine: &CachedMachine, no: ThreadNo, next: &NextStep) -> Chain {
+pub fn chain_of(machine: &CachedMachine, no: ThreadNo, next: &NextStep) -> Chain
+// requires next: next_step state no ≡ Some next
+// ensures exact: the chain of the thread's next step as flat_state has it, each name once; few: at most 5, 5, 5 and 6
+// ensures order: parents come before what depends on them; kernels, spaces, threads by number, then rows as said
+{
     let mut chain = numbered_above(machine, no, next);
     if let Some(data) = next.data_row {
         for parent in &parents(machine, data) {

@@ -11,6 +11,18 @@ const GROUP_FRAMES: usize = 128;
 
 /// A machine with its journal: the machine that its journal's entries make, what is resident by them, and how many steps
 /// they have.
+//
+// To be proved. Meaning: cached, the machine's; entries and spare of the journal; sealed; limit; steps; checkouts. The stamps are in
+// the invariant and given out by `stamp`.
+// The ties to the journal are the core's invariant alone (methods may break them on fields in between):
+// - legal: IsLegal entries (before the seal: a journal of declarations that fit, as a_journal_grows_until_its_seal has it)
+// - shows: state of the machine ≡ flat (erase entries)
+// - residents: residents_of contents ≡ (told entries).residents, identifiers, names and locks, in order of loading
+// - issued: an identifier's standing by the roll is its standing in entries, Left at the place of its WrittenBack
+// - steps: steps ≡ steps_in entries, steps ≤ limit; sealed ↔ entries has Sealed; before the seal nothing is loaded
+// - lasts: no thread's last is above checkouts
+// - stamps: as many as frames; for each frame f and place n with stamp f ≤ n ≤ length entries, f's bytes in
+//   flat (erase (take n entries)) are f's bytes now; stamp f ≤ length entries
 #[derive(Drop)]
 pub struct Core {
     pub(crate) machine: CachedMachine,
@@ -29,7 +41,10 @@ pub struct Core {
 
 impl Core {
     /// The machine as it is declared, with a journal of that declaration alone. The machine breaks no rule.
-    pub fn new(alloc: Global, machine: Machine, limit: u64) -> Result<Core, NoMemory> {
+    pub fn new(alloc: Global, machine: Machine, limit: u64) -> Result<Core, NoMemory>
+    // requires rule_of_machine machine ≡ None
+    // ensures ok: entries ≡ Declared (Machine machine) ∷ []; limit; steps ≡ 0; not sealed; no thread
+    {
         let mut journal = Journal::new(alloc);
         journal.push(Entry::Declared {
             decl: Decl::Machine { machine },
@@ -92,7 +107,9 @@ impl Core {
     }
 
     /// How many steps may still be taken.
-    pub fn steps_left(&self) -> u64 {
+    pub fn steps_left(&self) -> u64
+    // ensures left: steps + result ≡ limit
+    {
         // No more are ever taken than may be.
         self.limit - self.steps
     }
@@ -103,7 +120,10 @@ impl Core {
     }
 
     /// A place of the journal from which on no entry changed a frame that there is.
-    pub fn stamp(&self, frame: Frame) -> u64 {
+    pub fn stamp(&self, frame: Frame) -> u64
+    // requires frame: it is in memory
+    // ensures since: what the invariant says of that frame's stamp
+    {
         self.stamps[frame.0 as usize]
     }
 
@@ -112,15 +132,26 @@ impl Core {
         self.journal.spare().min(self.machine.spare())
     }
 
-    /// Makes `spare` at least `n`. Where memory is wanted nothing that can be read changes but `spare`, which doesn't fall.
-    pub fn reserve(&mut self, n: usize) -> Result<(), NoMemory> {
-        self.machine.reserve(n)?;
-        self.journal.reserve(n)
+    /// Makes `spare` at least `n`. Where memory is wanted nothing changes.
+    pub fn reserve(&mut self, n: usize) -> Result<(), NoMemory>
+    // ensures only: nothing but the spares changes, and none falls; ok: n ≤ spare; err: spare as before
+    {
+        // The fewer of both comes last, so that `spare` stays where memory is wanted.
+        if self.machine.spare() < self.journal.spare() {
+            self.journal.reserve(n)?;
+            self.machine.reserve(n)
+        } else {
+            self.machine.reserve(n)?;
+            self.journal.reserve(n)
+        }
     }
 
     /// Makes room for so many loads, with all that may leave for them or by an unload, and for so many entries beside. Where
     /// `spare` is at least the loaded descriptors and the two numbers together, it takes no memory.
-    pub fn make_room(&mut self, loads: usize, entries: usize) -> Result<(), NoMemory> {
+    pub fn make_room(&mut self, loads: usize, entries: usize) -> Result<(), NoMemory>
+    // ensures only: as reserve; ok: loads ≤ the roll's spare, loaded + loads + entries ≤ the journal's
+    // ensures enough: loaded + loads + entries ≤ old spare → IsOk result
+    {
         self.machine.reserve(loads)?;
         self.journal.reserve(self.loaded() + loads + entries)
     }
@@ -141,7 +172,9 @@ impl Core {
     }
 
     // A frame changed, by the entry that was noted last.
-    pub(crate) fn put_stamp(&mut self, frame: Frame) {
+    pub(crate) fn put_stamp(&mut self, frame: Frame)
+    // requires frame: it is in memory
+    {
         self.stamps[frame.0 as usize] = self.journal.len();
     }
 }

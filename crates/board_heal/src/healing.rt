@@ -10,7 +10,14 @@ use thread_cache::ThreadRec;
 /// Loads what is missing of the chain of a thread's next step, and takes that step. Nothing of the chain leaves for it. The
 /// order of loading is kernels, spaces and threads, each by their numbers, the signal rows that the data row depends on in
 /// declared order, the row of the fetch, and the row of the data.
-pub fn heal_step(core: &mut Core, cpu: u32, no: ThreadNo) -> Result<(), Refused> {
+pub fn heal_step(core: &mut Core, cpu: u32, no: ThreadNo) -> Result<(), Refused>
+// requires cpu < 8
+// ensures refused: exactly the first of NotDeclared; NotRunnable; OnCpu; Over; Held; NotSealed; then all but the spares is as before
+// ensures memory: NoMemory only where spare < loaded + 22; then all but the spares is as before
+// ensures ok: entries grew by, for each name of the chain that wasn't resident, in order, what Core::load writes for it (at most 21
+//   Loaded), and then by Ran with 1 step, or Ended where the step faults; state by one Step of the thread
+// ensures chain: nothing of the chain that was resident has left; marks of what is loaded under the same identifier as before
+{
     core.make_room(MOST_CHAINED, 1)?;
     check_heal(core, no)?;
     let Some(next) = core.next_step(no) else {

@@ -13,7 +13,12 @@ pub fn load_kernel(
     cpu: u32,
     caller: Ident,
     kernel: KernelNo,
-) -> Result<Ident, Refused> {
+) -> Result<Ident, Refused>
+// requires cpu < 8
+// ensures refused: Err r with r ≢ NoMemory exactly where refusal_of_load_kernel contents caller kernel ≡ Some r; then all but the spares is as before
+// ensures memory: NoMemory only where spare < loaded + 22; then all but the spares is as before
+// ensures ok: all clauses of Core::load, for that name and kept_for it
+{
     core.make_room(1, 0)?;
     let name = check_load_kernel(core.tables(), caller, kernel)?;
     Ok(load(core, cpu, name))
@@ -25,7 +30,12 @@ pub fn load_space(
     cpu: u32,
     caller: Ident,
     space: SpaceNo,
-) -> Result<Ident, Refused> {
+) -> Result<Ident, Refused>
+// requires cpu < 8
+// ensures refused: Err r with r ≢ NoMemory exactly where refusal_of_load_space contents caller space ≡ Some r; then all but the spares is as before
+// ensures memory: NoMemory only where spare < loaded + 22; then all but the spares is as before
+// ensures ok: all clauses of Core::load, for that name and kept_for it
+{
     core.make_room(1, 0)?;
     let name = check_load_space(core.tables(), caller, space)?;
     Ok(load(core, cpu, name))
@@ -38,7 +48,12 @@ pub fn load_thread(
     caller: Ident,
     parent: Ident,
     thread: ThreadNo,
-) -> Result<Ident, Refused> {
+) -> Result<Ident, Refused>
+// requires cpu < 8
+// ensures refused: Err r with r ≢ NoMemory exactly where refusal_of_load_thread contents caller parent thread ≡ Some r; then all but the spares is as before
+// ensures memory: NoMemory only where spare < loaded + 22; then all but the spares is as before
+// ensures ok: all clauses of Core::load, for that name and kept_for it
+{
     core.make_room(1, 0)?;
     let name = check_load_thread(core.tables(), caller, parent, thread)?;
     Ok(load(core, cpu, name))
@@ -52,7 +67,12 @@ pub fn load_mapping(
     parent: Ident,
     vpn: Vpn,
     receiver: Option<Ident>,
-) -> Result<Ident, Refused> {
+) -> Result<Ident, Refused>
+// requires cpu < 8
+// ensures refused: Err r with r ≢ NoMemory exactly where refusal_of_load_mapping contents caller parent vpn receiver ≡ Some r; then all but the spares is as before
+// ensures memory: NoMemory only where spare < loaded + 22; then all but the spares is as before
+// ensures ok: all clauses of Core::load, for that name and kept_for it
+{
     core.make_room(1, 0)?;
     let name = check_load_mapping(core.tables(), caller, parent, vpn, receiver)?;
     Ok(load(core, cpu, name))

@@ -15,7 +15,12 @@ const MOST_LOADED: usize = 256;
 ///
 /// It goes over the loaded threads, and looks at the next step of one after another, in order of choice, until one is
 /// runnable.
-pub fn checkout(core: &mut Core, cpu: u32) -> Option<Ticket> {
+pub fn checkout(core: &mut Core, cpu: u32) -> Option<Ticket>
+// requires cpu < 8
+// ensures none: None exactly where no loaded, unmarked thread is runnable; then all is as before
+// ensures some: the thread is IsChosen among those; the ticket has its identifier, number, cpu and context; all clauses of
+//   Core::check_out. Memory: none
+{
     let mut waiting = candidates(core);
     waiting.sort_unstable_by_key(place_in_order);
     let no = first_runnable(core, &waiting)?;
@@ -77,7 +82,9 @@ fn ticket_of(core: &Core, cpu: u32, no: ThreadNo) -> Option<Ticket> {
 
 /// Gives a thread back, where it is still loaded under the ticket's identifier and on the ticket's processor; else it does
 /// nothing.
-pub fn leave(core: &mut Core, ticket: &Ticket) {
+pub fn leave(core: &mut Core, ticket: &Ticket)
+// ensures mark: none for the thread that is loaded under the ticket's identifier and on its processor; all else as before
+{
     let Ok(thread) = board_checks::thread_as(core.tables(), ticket.thread) else {
         return;
     };
@@ -88,6 +95,8 @@ pub fn leave(core: &mut Core, ticket: &Ticket) {
 }
 
 /// No thread is on a processor any more. It takes a time for each thread that can be loaded.
-pub fn clear_marks(core: &mut Core) {
+pub fn clear_marks(core: &mut Core)
+// ensures marks: none; all else as before
+{
     core.check_in_all();
 }

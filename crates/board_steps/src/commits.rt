@@ -11,7 +11,13 @@ use quantum::{PageView, Quantum};
 use thread_cache::ThreadRec;
 
 /// Copies the page of a loaded row of the ticket's thread into a quantum that has room for it, whatever the row's flags.
-pub fn page(core: &Core, ticket: &Ticket, vpn: Vpn, quantum: &mut Quantum) -> Result<(), Refused> {
+pub fn page(core: &Core, ticket: &Ticket, vpn: Vpn, quantum: &mut Quantum) -> Result<(), Refused>
+// requires room: can_fill quantum.views vpn
+// ensures refused: gone_by of the ticket's identifier (Unknown, Stale), else NotLoaded vpn where no row of that page is resident; then
+//   the quantum is as before
+// ensures ok: the quantum has one more view, `filled` with the resident row's frame, flags, identifier and the frame's bytes now, so
+//   each view is of the ticket where each was
+{
     let space = thread_as(core.tables(), ticket.thread)?.space;
     let name = Name::Mapping(space, vpn);
     let Some(ident) = core.tables().resident(name) else {
@@ -29,7 +35,15 @@ pub fn page(core: &Core, ticket: &Ticket, vpn: Vpn, quantum: &mut Quantum) -> Re
 /// back. It answers how many they are. Each view was copied for this ticket by `page`.
 ///
 /// It costs a comparison for each page that was touched, and a copy for each that was written.
-pub fn commit(core: &mut Core, ticket: &Ticket, quantum: &Quantum) -> Result<u32, Refused> {
+pub fn commit(core: &mut Core, ticket: &Ticket, quantum: &Quantum) -> Result<u32, Refused>
+// requires views: each present view is of the ticket (a Loaded of its row's identifier for the thread's space and its page, and that
+//   row's frame and flags before that Loaded)
+// requires thread: the ticket's identifier is of kind Thread; its cpu is below 8
+// ensures refused: exactly the first of Unknown, Stale; Moved; NotLoaded by the first view that isn't live; Changed by the first touched
+//   view whose first contents differ; Over; then all but the spares is as before
+// ensures memory: NoMemory only where spare < loaded + 22; then all but the spares is as before
+// ensures ok: result ≡ n ≡ quantum.steps; all clauses of Core::run: n Steps of the thread on the state now
+{
     core.make_entries(1)?;
     let thread = thread_as(core.tables(), ticket.thread)?;
     let no = thread.no;

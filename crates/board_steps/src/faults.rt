@@ -10,12 +10,13 @@ use rv32_exec::Status;
 use thread_cache::ThreadRec;
 
 /// Takes the next step of a loaded thread, which faults and so ends it, for the kernel `caller`.
-pub fn confirm_fault(
-    core: &mut Core,
-    cpu: u32,
-    caller: Ident,
-    thread: Ident,
-) -> Result<(), Refused> {
+pub fn confirm_fault(core: &mut Core, cpu: u32, caller: Ident, thread: Ident) -> Result<(), Refused>
+// requires cpu < 8
+// ensures refused: exactly the first of refusal_of_thread (identifiers, NotOwner); NotRunnable; OnCpu; Mapped; NotLoaded; Over; then all but
+//   the spares is as before
+// ensures memory: NoMemory only where spare < loaded + 22; then all but the spares is as before
+// ensures ok: entries grew by Ended; state by one Step, which faults
+{
     core.make_entries(1)?;
     let record = check_thread(core.tables(), caller, thread)?;
     let no = record.no;

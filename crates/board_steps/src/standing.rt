@@ -9,7 +9,10 @@ use rv32_exec::Status;
 
 /// The lowest-numbered thread whose call can be completed; else the lowest-numbered runnable thread that isn't loaded; else
 /// none. It looks at no thread but those that are ready.
-pub fn want(core: &Core) -> Option<ThreadNo> {
+pub fn want(core: &Core) -> Option<ThreadNo>
+// ensures completable: Some n with n the lowest-numbered completable thread, where there is one
+// ensures absent: else the lowest-numbered runnable thread that isn't resident, None exactly where there is none of either
+{
     match core.machine().sets().next_completable(0) {
         Some(number) => Some(ThreadNo(number)),
         None => first_absent(core),
@@ -31,7 +34,9 @@ fn first_absent(core: &Core) -> Option<ThreadNo> {
 
 /// Whether the run is over. It looks at the threads that are ready until one is runnable, and only where none can go on at
 /// those that aren't, until one hasn't ended.
-pub fn settled(core: &Core) -> Settled {
+pub fn settled(core: &Core) -> Settled
+// ensures settled: result ≡ settled_of state steps limit
+{
     if core.machine().sets().next_completable(0).is_some() {
         return Settled::Running;
     }

@@ -200,7 +200,7 @@ impl Board {
         self.core.spare()
     }
 
-    /// Makes `spare` at least `n`. It doesn't fall, also where memory is wanted.
+    /// Makes `spare` at least `n`. Where memory is wanted nothing changes.
     pub fn reserve(&mut self, n: usize) -> Result<(), NoMemory> {
         self.core.reserve(n)
     }

@@ -15,7 +15,11 @@ pub fn drive(
     desk: &mut Desk,
     ops: &[Op],
     answers: &mut Vec<Answer>,
-) -> Result<(), NoMemory> {
+) -> Result<(), NoMemory>
+// requires views: for each processor with a ticket, each view is of that ticket on this board; the ticket's cpu is that processor
+// ensures ok: one answer an op, each that of the call on the board that the ops before it left (a fold over ops, in specs/)
+// ensures views: as before, on the board at the end; err: NoMemory, and board, desk and answers as before
+{
     answers.reserve(ops.len())?;
     for op in ops {
         let answer = answer_to(board, desk, op);

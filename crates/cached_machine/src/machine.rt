@@ -20,6 +20,18 @@ use thread_sets::ThreadSets;
 ///
 /// Only `new`, `make_declaration`, `make_room` and `reserve` take memory, and the completion of a thread's call. Unless it says
 /// otherwise, a call takes a time logarithmic in what is there.
+//
+// To be proved. Meaning (a record in specs/): machine : Machine; memory : List ℕ; tables : Held (caps, contents, gone); room : ℕ, the
+// least of the tables' and the sets'. Sets, seats, granted and loaded are in the invariant alone.
+// Invariant:
+// - caps: tables.caps ≡ machine.caps; groups: 1 ≤ machine.groups ≤ 16, length memory ≡ 524288 * machine.groups
+// - state: shown (Some machine) memory contents is well formed (`holds` of Records gives it out), and each row's frame is in memory
+// - sets: AreSetsOf (that state).threads free sets, free by number: the thread is loaded and on no processor
+// - seats: length seats ≡ caps.threads; for each resident r of kind thread with name Thread n, seats at r.ident.slot ≡ n
+// - marks: a thread with a mark is loaded and Ready, and its mark is below 8
+// - granted: granted ≡ locks_granted (that state).kernels; loaded: loaded ≡ length (residents_of contents)
+// Rest (of `Steps`), what no step changes: machine, caps, residents_of, issued, spare, room, gone, each thread's mark and last.
+// Nothing of it is changed by `carry_out`, `declare` and `remove_row` but room, which may only grow by want of it.
 #[derive(Drop)]
 pub struct CachedMachine {
     pub(crate) alloc: Global,
@@ -37,7 +49,10 @@ pub struct CachedMachine {
 
 impl CachedMachine {
     /// The machine as it is declared, with nothing else in it, all its memory zeros. Its groups are 1 to 16.
-    pub fn new(alloc: Global, machine: Machine) -> Result<CachedMachine, NoMemory> {
+    pub fn new(alloc: Global, machine: Machine) -> Result<CachedMachine, NoMemory>
+    // requires rule_of_machine machine ≡ None
+    // ensures ok: shown is the flat state behind the machine's declaration alone; no resident, nothing issued, no room
+    {
         Ok(CachedMachine {
             alloc,
             machine,
@@ -71,7 +86,9 @@ impl CachedMachine {
     }
 
     /// Makes room for one more descriptor of each kind. Where there is room it takes constant time.
-    pub fn make_room(&mut self) -> Result<(), NoMemory> {
+    pub fn make_room(&mut self) -> Result<(), NoMemory>
+    // ensures only: nothing but room changes, and it doesn't fall; ok: 0 < room; enough: 0 < old room → IsOk result
+    {
         self.sets.make_room()?;
         self.tables.make_room()
     }
@@ -92,7 +109,11 @@ impl CachedMachine {
     /// Makes a declaration that breaks no rule. A new descriptor goes to its owner's shelf. Rights may only be set, and a fit
     /// signal row be declared, where afterwards all that is loaded is fit and has all that it depends on loaded. Where
     /// memory is wanted nothing changes, and after `make_room` none is.
-    pub fn make_declaration(&mut self, decl: &Decl) -> Result<(), NoMemory> {
+    pub fn make_declaration(&mut self, decl: &Decl) -> Result<(), NoMemory>
+    // requires fits: broken_rule (state old) decl ≡ None
+    // requires good: AreGood (declared (state old) decl) (residents_of old contents)
+    // ensures ok: state new ≡ declared (state old) decl; rest; err: state and rest as before; enough: 0 < old room → IsOk result
+    {
         match *decl {
             // It is declared already.
             Decl::Machine { .. } => Ok(()),
@@ -205,7 +226,11 @@ fn new_context(pc: u32, a0: u32, a1: u32) -> Context {
 impl CachedMachine {
     /// Loads a descriptor from the shelf, as `Tables::load` does. What left is in `tables().gone()`; a thread that left is on
     /// no processor.
-    pub fn load(&mut self, name: Name, keep: &[Ident], at: u64) -> Ident {
+    pub fn load(&mut self, name: Name, keep: &[Ident], at: u64) -> Ident
+    // requires may, places, spare: those of Tables::load
+    // ensures all clauses of Tables::load; state: as before; marks: of those that stay as before, none of those that left and of
+    // the one that came; lasts: as before
+    {
         let ident = self.tables.load(name, keep, at);
         self.see_off();
         self.loaded += 1;
@@ -218,7 +243,10 @@ impl CachedMachine {
 
     /// Takes a loaded descriptor out of its cache, with all that depends on it, as `Tables::unload` does. What left is in
     /// `tables().gone()`; a thread that left is on no processor.
-    pub fn unload(&mut self, ident: Ident, at: u64) {
+    pub fn unload(&mut self, ident: Ident, at: u64)
+    // requires live, places: those of Tables::unload
+    // ensures all clauses of Tables::unload; state, marks and lasts as by load
+    {
         self.tables.unload(ident, at);
         self.see_off();
     }
@@ -247,7 +275,10 @@ impl CachedMachine {
     }
 
     /// A thread that there is goes to a processor, by the checkout of that number.
-    pub fn check_out(&mut self, no: ThreadNo, cpu: u32, number: u64) {
+    pub fn check_out(&mut self, no: ThreadNo, cpu: u32, number: u64)
+    // requires there: the thread stands, is loaded, Ready and unmarked; cpu < 8
+    // ensures mark: its mark is cpu and its last is number; others, state, contents but for that record, residents: as before
+    {
         self.tables.update_thread_named(Name::Thread(no), |thread| {
             thread.on_cpu = Some(cpu);
             thread.last = number;
@@ -256,14 +287,19 @@ impl CachedMachine {
     }
 
     /// A thread that there is goes to no processor any more.
-    pub fn check_in(&mut self, no: ThreadNo) {
+    pub fn check_in(&mut self, no: ThreadNo)
+    // requires there: the thread stands
+    // ensures mark: it has none, and its last is as before; all else as by check_out
+    {
         self.tables
             .update_thread_named(Name::Thread(no), |thread| thread.on_cpu = None);
         self.note(no);
     }
 
     /// No thread is on a processor any more. It takes a time for each slot of the cache of threads.
-    pub fn check_in_all(&mut self) {
+    pub fn check_in_all(&mut self)
+    // ensures marks: no thread has one; lasts, state, residents: as before
+    {
         let slots = self.seats.len();
         for slot in 0..slots {
             let no = self.seats.at(slot);
@@ -282,12 +318,17 @@ impl CachedMachine {
     }
 
     /// Puts 4,096 bytes over a frame.
-    pub fn copy_in(&mut self, frame: Frame, bytes: &[u8]) {
+    pub fn copy_in(&mut self, frame: Frame, bytes: &[u8])
+    // requires frame: it is in memory; page: length bytes ≡ 4096
+    // ensures memory: with_frame frame bytes; rest: all else as before
+    {
         self.memory.copy_in(frame, bytes);
     }
 
     // The sets have a thread as the tables have it.
-    pub(crate) fn note(&mut self, no: ThreadNo) {
+    pub(crate) fn note(&mut self, no: ThreadNo)
+    // requires but for that thread the sets are those of the threads; ensures they are (a_noted_thread_has_its_place)
+    {
         let name = Name::Thread(no);
         let is_loaded = self.tables.resident(name).is_some();
         if let Some(ItemRef::Thread(thread)) = self.tables.item(name) {

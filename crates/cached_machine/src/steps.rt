@@ -1,18 +1,26 @@
 //! How a step changes the machine. No descriptor comes or goes.
 
+ghost use Rattle.std.specs.Prelude.{ℕ, List};
+ghost use Rattle.cache_ident.specs.Residents.{Resident};
+ghost use Rattle.cache_ident.specs.declared.rolls.Issued.{Issued};
+ghost use Rattle.desc_stores.specs.Contents.{residents_of};
+
 use crate::machine::CachedMachine;
 use cache_ident::{Name, SpaceNo, ThreadNo, Vpn};
+use flat_rules::Steps;
 use phys_groups::Memory;
 use rv32_exec::{Context, Status, Width};
 
-impl CachedMachine {
-    // Puts the low bytes of a number at a place of memory.
-    pub(crate) fn store_at(&mut self, at: u32, width: Width, value: u32) {
+impl Steps for CachedMachine {
+    ghost Rest = { List Resident × List Issued × ℕ };
+
+    ghost rest = { λ m. (residents_of m.tables.contents, m.tables.contents.issued, m.tables.contents.spare) };
+
+    fn store(&mut self, at: u32, width: Width, value: u32) {
         store_in(&mut self.memory, at, width, value);
     }
 
-    // Marks the row of a page, if there is one, as used, and where `written` as stored to.
-    pub(crate) fn mark_row(&mut self, space: SpaceNo, vpn: Vpn, written: bool) {
+    fn mark(&mut self, space: SpaceNo, vpn: Vpn, written: bool) {
         let name = Name::Mapping(space, vpn);
         if self.tables.item(name).is_some() {
             self.tables.update_row_named(name, |row| {
@@ -22,8 +30,7 @@ impl CachedMachine {
         }
     }
 
-    // Gives a thread that there is its registers and its pc, and what it is doing.
-    pub(crate) fn put_thread(&mut self, no: ThreadNo, context: &Context, status: Status) {
+    fn put(&mut self, no: ThreadNo, context: &Context, status: Status) {
         self.tables.update_thread_named(Name::Thread(no), |thread| {
             thread.context = *context;
             thread.status = status;
@@ -31,16 +38,14 @@ impl CachedMachine {
         self.note(no);
     }
 
-    // Appends an address to the queue of a thread that there is, unless it has ended.
-    pub(crate) fn give_to(&mut self, no: ThreadNo, va: u32) {
+    fn give(&mut self, no: ThreadNo, va: u32) {
         self.tables.update_thread_named(Name::Thread(no), |thread| {
             flat_thread::give(thread.status, &mut thread.queue, va);
         });
         self.note(no);
     }
 
-    // A thread that there is goes on, with an answer in a0.
-    pub(crate) fn answer_to(&mut self, no: ThreadNo, value: u32) {
+    fn answer(&mut self, no: ThreadNo, value: u32) {
         self.tables.update_thread_named(Name::Thread(no), |thread| {
             flat_thread::answer(&mut thread.context, &mut thread.status, value);
         });
