@@ -1,7 +1,7 @@
 //! The moves.
 
 use crate::core_record::Core;
-use cache_ident::{Cause, Frame, Ident, KernelNo, Name, NoMemory, ThreadNo};
+use cache_ident::{Frame, Ident, KernelNo, Name, NoMemory, ThreadNo};
 use flat_rules::{Records, Steps, next_step};
 use flat_state::{Decl, NextStep};
 use quantum::{PageView, Paused, Quantum};
@@ -174,8 +174,8 @@ impl Core {
     // ensures entries: grew by Ran no n cpu ∷ [], n ≡ quantum.steps, or by nothing where n ≡ 0
     // ensures state: committed state no t quantum, which by IsLocalRun is after_steps state no n; mark: the thread has none
     {
+        self.check_in(no);
         self.take_over(no, quantum);
-        self.machine.check_in(no);
         let steps = quantum.steps();
         if steps != 0 {
             self.steps += u64::from(steps);

@@ -20,7 +20,7 @@ const GROUP_FRAMES: usize = 128;
 // - residents: residents_of contents ≡ (told entries).residents, identifiers, names and locks, in order of loading
 // - issued: an identifier's standing by the roll is its standing in entries, Left at the place of its WrittenBack
 // - steps: steps ≡ steps_in entries, steps ≤ limit; sealed ↔ entries has Sealed; before the seal nothing is loaded
-// - lasts: no thread's last is above checkouts
+// - marks: each thread with a mark is Ready; lasts: no thread's last is above checkouts
 // - stamps: as many as frames; for each frame f and place n with stamp f ≤ n ≤ length entries, f's bytes in
 //   flat (erase (take n entries)) are f's bytes now; stamp f ≤ length entries
 #[derive(Drop)]

@@ -1,5 +1,8 @@
 //! What a checkout gives.
 
+ghost use Rattle.std.specs.Prelude.{◌≡◌, ◌%◌, ◌<◌};
+ghost use Rattle.cache_ident.specs.declared.idents.Kind.TheVariants.{Thread};
+
 use cache_ident::{Ident, ThreadNo};
 use rv32_exec::Context;
 
@@ -12,4 +15,7 @@ pub struct Ticket {
     pub no: ThreadNo,
     pub cpu: u32,
     pub context: Context,
+    pub ghost kind: { thread.kind ≡ Thread },
+    pub ghost processor: { cpu < 8 },
+    pub ghost aligned: { context.pc % 4 ≡ 0 },
 }

@@ -28,7 +28,7 @@ use thread_sets::ThreadSets;
 // - state: shown (Some machine) memory contents is well formed (`holds` of Records gives it out), and each row's frame is in memory
 // - sets: AreSetsOf (that state).threads free sets, free by number: the thread is loaded and on no processor
 // - seats: length seats ≡ caps.threads; for each resident r of kind thread with name Thread n, seats at r.ident.slot ≡ n
-// - marks: a thread with a mark is loaded and Ready, and its mark is below 8
+// - marks: a thread with a mark is loaded, and its mark is below 8
 // - granted: granted ≡ locks_granted (that state).kernels; loaded: loaded ≡ length (residents_of contents)
 // Rest (of `Steps`), what no step changes: machine, caps, residents_of, issued, spare, room, gone, each thread's mark and last.
 // Nothing of it is changed by `carry_out`, `declare` and `remove_row` but room, which may only grow by want of it.

@@ -1,6 +1,6 @@
 //! Operations on a board by their lines, and the lines of their answers.
 
-use board_ops::{Answer, Op};
+use board_ops::Op;
 use cache_board::{Board, Desk, Refused, drive};
 use drive_text::{Line, put_answer, read_line};
 use flat_state::Decl;
