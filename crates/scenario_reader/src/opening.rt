@@ -28,7 +28,10 @@ impl Reader {
 
 /// The scenario that the text is, as `read` reads it, but that there needn't be a kernel: the declarations with which a machine
 /// begins.
-pub fn read_opening(alloc: Global, text: &[u8]) -> Result<Scenario, ScenarioFault> {
+pub fn read_opening(alloc: Global, text: &[u8]) -> Result<Scenario, ScenarioFault>
+// ensures found, within, fault: as `read`, over the same definitions without rule 25 at `end`; kernel: no such clause
+// ensures fit: AllFit nothing_declared decls, and there are some
+{
     let mut reader = Reader::new(alloc);
     let mut number = 1u64;
     let mut rest = text;

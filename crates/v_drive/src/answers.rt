@@ -18,11 +18,10 @@ pub(crate) struct Hand {
 impl Hand {
     /// The board of these declarations, none of which breaks a rule, and the first of which is the machine's. None where there
     /// is none, which no scenario has.
-    pub(crate) fn new(
-        alloc: Global,
-        decls: &[Decl],
-        steps: u64,
-    ) -> Result<Option<Hand>, AllocError> {
+    pub(crate) fn new(alloc: Global, decls: &[Decl], steps: u64) -> Result<Option<Hand>, AllocError>
+    // requires fit: AllFit nothing_declared decls, some: decls begins with the machine; so it answers Some
+    // ensures board: its entries are Declared of decls, in order; its limit is steps; nothing on its desk
+    {
         let Some((Decl::Machine { machine }, rest)) = decls.split_first() else {
             return Ok(None);
         };
@@ -44,7 +43,9 @@ impl Hand {
 
     /// Does what each line asks for, up to the end or to the first that is no operation, and answers whether it came to the
     /// end. `number` is the first line's.
-    pub(crate) fn take_lines(&mut self, lines: &[u8], number: u64) -> Result<bool, AllocError> {
+    pub(crate) fn take_lines(&mut self, lines: &[u8], number: u64) -> Result<bool, AllocError>
+    // ensures text: grew by what the lines are answered, up to the end or to the first that is none; ok ↔ there is none such
+    {
         let mut number = number;
         let mut rest = lines;
         while !rest.is_empty() {

@@ -138,7 +138,13 @@ pub(crate) fn run_lines<S: Source, W: Sink>(
     words: &Words,
     source: &mut S,
     sink: &mut W,
-) -> Ending {
+) -> Ending
+// ensures written: the bytes written are the text due: with `steps` by the words, `opening` and `lines` the two parts of the input and ds
+//   the opening's declarations, the lines of the answers to the operations that `lines` are read as, one after another, by `drive` on
+//   Board::new and declare of ds, and for a line `journal` the text of the journal then; up to the first line that is none, and then its line
+// ensures status: Done exactly where each line is an operation's or `journal`; BadLine by the opening's first fault or that line; the others as
+//   proc_run::run_machine has them (counts of faults, usage, too long, no memory), with a prefix of the text due after a WriteFault
+{
     match due(alloc, words, source) {
         Err(NoText::ReadFault) => Ending::ReadFault,
         Err(NoText::NoMemory) => Ending::NoMemory,
