@@ -2,10 +2,12 @@
 
 use crate::core_record::Core;
 use cache_ident::{Frame, Ident, KernelNo, Name, NoMemory, ThreadNo};
+use cached_machine::CachedMachine;
+use desc_tables::Gone;
 use flat_rules::{Records, Steps, next_step};
 use flat_state::{Decl, NextStep};
 use quantum::{PageView, Paused, Quantum};
-use run_journal::Entry;
+use run_journal::{Entry, Journal};
 use rv32_exec::Status;
 
 // Declarations.
@@ -17,9 +19,9 @@ impl Core {
     {
         self.journal.reserve(1)?;
         self.machine.make_declaration(decl)?;
-        self.note(Entry::Declared { decl: *decl });
+        note(&mut self.journal, Entry::Declared { decl: *decl });
         if let Decl::Word { frame, .. } = *decl {
-            self.put_stamp(frame);
+            put_stamp(&mut self.stamps, frame, self.journal.len());
         }
         Ok(())
     }
@@ -31,10 +33,21 @@ impl Core {
     // ensures ident: result ≡ first_ident (K0.0)
     // ensures entries: grew by Sealed ∷ Loaded first_ident (Kernel 0) 0 ∷ Locked first_ident 0 ∷ []
     {
-        self.note(Entry::Sealed);
+        note(&mut self.journal, Entry::Sealed);
         self.sealed = true;
-        let ident = self.load(0, Name::Kernel(KernelNo(0)), &[]);
-        self.lock(0, ident);
+        let name = Name::Kernel(KernelNo(0));
+        // Nothing is loaded yet, so nothing leaves.
+        let ident = self.machine.load(name, &[], self.journal.len());
+        note(
+            &mut self.journal,
+            Entry::Loaded {
+                ident,
+                name,
+                cpu: 0,
+            },
+        );
+        self.machine.lock(ident);
+        note(&mut self.journal, Entry::Locked { ident, cpu: 0 });
         ident
     }
 }
@@ -52,8 +65,8 @@ impl Core {
     {
         let at = self.journal.len();
         let ident = self.machine.load(name, keep, at);
-        self.note_departures(cpu);
-        self.note(Entry::Loaded { ident, name, cpu });
+        note_departures(&mut self.journal, self.machine.tables().gone(), cpu);
+        note(&mut self.journal, Entry::Loaded { ident, name, cpu });
         ident
     }
 
@@ -64,20 +77,7 @@ impl Core {
     {
         let at = self.journal.len();
         self.machine.unload(ident, at);
-        self.note_departures(cpu);
-    }
-
-    // Notes what has just left, in the order in which it left.
-    fn note_departures(&mut self, cpu: u32) {
-        let count = self.machine.tables().gone().len();
-        for place in 0..count {
-            let gone = self.machine.tables().gone()[place];
-            self.note(Entry::WrittenBack {
-                ident: gone.ident,
-                cause: gone.cause,
-                cpu,
-            });
-        }
+        note_departures(&mut self.journal, self.machine.tables().gone(), cpu);
     }
 
     /// Locks a loaded descriptor, which is locked already or whose owner may lock one more of the kind. One that is locked
@@ -88,7 +88,7 @@ impl Core {
     {
         if !self.tables().is_locked(ident) {
             self.machine.lock(ident);
-            self.note(Entry::Locked { ident, cpu });
+            note(&mut self.journal, Entry::Locked { ident, cpu });
         }
     }
 
@@ -99,7 +99,7 @@ impl Core {
     {
         if self.tables().is_locked(ident) {
             self.machine.unlock(ident);
-            self.note(Entry::Unlocked { ident, cpu });
+            note(&mut self.journal, Entry::Unlocked { ident, cpu });
         }
     }
 }
@@ -137,31 +137,21 @@ impl Core {
     // requires room: 1 ≤ the journal's spare
     // ensures entries: grew by (if next.faults then Ended no cpu else Ran no 1 cpu) ∷ []; residents, marks, lasts: as before
     {
-        let stored = self.frame_stored(next);
+        let stored = frame_stored(&self.machine, next);
         flat_events::step(&mut self.machine, no);
         self.steps += 1;
-        if next.faults {
-            self.note(Entry::Ended { thread: no, cpu });
+        let entry = if next.faults {
+            Entry::Ended { thread: no, cpu }
         } else {
-            self.note(Entry::Ran {
+            Entry::Ran {
                 thread: no,
                 steps: 1,
                 cpu,
-            });
-        }
+            }
+        };
+        note(&mut self.journal, entry);
         if let Some(frame) = stored {
-            self.put_stamp(frame);
-        }
-    }
-
-    // The frame that a step may store to: that of its data, where the row lets stores through.
-    fn frame_stored(&self, next: &NextStep) -> Option<Frame> {
-        match next.data_row {
-            Some(Name::Mapping(space, vpn)) => match self.machine.row(space, vpn) {
-                Some(row) if row.flags.w => Some(row.frame),
-                _ => None,
-            },
-            _ => None,
+            put_stamp(&mut self.stamps, frame, self.journal.len());
         }
     }
 
@@ -175,43 +165,19 @@ impl Core {
     // ensures state: committed state no t quantum, which by IsLocalRun is after_steps state no n; mark: the thread has none
     {
         self.check_in(no);
-        self.take_over(no, quantum);
+        take_over(&mut self.machine, no, quantum);
         let steps = quantum.steps();
         if steps != 0 {
             self.steps += u64::from(steps);
-            self.note(Entry::Ran {
-                thread: no,
-                steps,
-                cpu,
-            });
-            self.stamp_written(quantum.views());
-        }
-    }
-
-    // The thread, its rows and memory are as the quantum left them.
-    fn take_over(&mut self, no: ThreadNo, quantum: &Quantum) {
-        let Some(thread) = self.machine.thread(no) else {
-            unreachable!()
-        };
-        let space = thread.space;
-        for view in quantum.views() {
-            if view.touched() {
-                self.machine.mark(space, view.vpn(), view.written());
-            }
-            if view.written() {
-                self.machine.copy_in(view.frame(), view.present());
-            }
-        }
-        let status = status_at(quantum.paused());
-        self.machine.put(no, quantum.context(), status);
-    }
-
-    // The frames that were stored to changed, by the entry that was noted last.
-    fn stamp_written(&mut self, views: &[PageView]) {
-        for view in views {
-            if view.written() {
-                self.put_stamp(view.frame());
-            }
+            note(
+                &mut self.journal,
+                Entry::Ran {
+                    thread: no,
+                    steps,
+                    cpu,
+                },
+            );
+            stamp_written(&mut self.stamps, quantum.views(), self.journal.len());
         }
     }
 
@@ -225,13 +191,74 @@ impl Core {
     // ensures enough: 0 < room of the machine, and the call asks for something (not Nothing) → IsOk result
     {
         flat_events::complete(&mut self.machine, no)?;
-        self.note(Entry::Completed { thread: no, cpu });
+        note(&mut self.journal, Entry::Completed { thread: no, cpu });
         Ok(())
     }
 
     /// What can be said of a thread's next step, and none where there is no such thread.
     pub fn next_step(&self, no: ThreadNo) -> Option<NextStep> {
         next_step(&self.machine, no)
+    }
+}
+
+// Notes an entry, for which there is room.
+fn note(journal: &mut Journal, entry: Entry) {
+    let _ = journal.push(entry);
+}
+
+// Notes what has just left, in the order in which it left.
+fn note_departures(journal: &mut Journal, gone: &[Gone], cpu: u32) {
+    for one in gone {
+        note(
+            journal,
+            Entry::WrittenBack {
+                ident: one.ident,
+                cause: one.cause,
+                cpu,
+            },
+        );
+    }
+}
+
+// The frame that a step may store to: that of its data, where the row lets stores through.
+fn frame_stored(machine: &CachedMachine, next: &NextStep) -> Option<Frame> {
+    match next.data_row {
+        Some(Name::Mapping(space, vpn)) => match machine.row(space, vpn) {
+            Some(row) if row.flags.w => Some(row.frame),
+            _ => None,
+        },
+        _ => None,
+    }
+}
+
+// A thread, its rows and memory are as its quantum left them.
+fn take_over(machine: &mut CachedMachine, no: ThreadNo, quantum: &Quantum) {
+    let Some(thread) = machine.thread(no) else {
+        unreachable!()
+    };
+    let space = thread.space;
+    for view in quantum.views() {
+        if view.touched() {
+            machine.mark(space, view.vpn(), view.written());
+        }
+        if view.written() {
+            machine.copy_in(view.frame(), view.present());
+        }
+    }
+    machine.put(no, quantum.context(), status_at(quantum.paused()));
+}
+
+// A frame changed, by the entry before that place.
+fn put_stamp(stamps: &mut [u64], frame: Frame, at: u64) {
+    stamps[frame.0 as usize] = at;
+}
+
+// The frames that were stored to changed, by the entry before that place.
+fn stamp_written(stamps: &mut [u64], views: &[PageView], at: u64) {
+    for view in views {
+        if view.written() {
+            put_stamp(stamps, view.frame(), at);
+        }
     }
 }
 

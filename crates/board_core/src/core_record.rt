@@ -165,16 +165,4 @@ impl Core {
     pub fn make_declarable(&mut self) -> Result<(), NoMemory> {
         self.machine.make_room()
     }
-
-    // Notes an entry, for which there is room.
-    pub(crate) fn note(&mut self, entry: Entry) {
-        let _ = self.journal.push(entry);
-    }
-
-    // A frame changed, by the entry that was noted last.
-    pub(crate) fn put_stamp(&mut self, frame: Frame)
-    // requires frame: it is in memory
-    {
-        self.stamps[frame.0 as usize] = self.journal.len();
-    }
 }

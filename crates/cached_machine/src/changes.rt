@@ -1,6 +1,7 @@
 //! How events change the machine.
 
 use crate::machine::CachedMachine;
+use crate::marks::note;
 use cache_ident::{Name, NoMemory, SpaceNo, ThreadNo, Vpn};
 use flat_rules::Changes;
 use flat_state::Decl;
@@ -16,7 +17,7 @@ impl Changes for CachedMachine {
                 &mut thread.output,
             )
         });
-        self.note(no);
+        note(&self.tables, &mut self.sets, no);
         done?;
         Ok(())
     }

@@ -6,6 +6,7 @@
 
 mod changes;
 mod machine;
+mod marks;
 mod records;
 mod seats;
 mod steps;

@@ -1,8 +1,9 @@
 //! The machine, and what changes it beside the rules.
 
+use crate::marks::{check_in, note, see_off};
 use crate::seats::Seats;
 use arrayvec::ArrayVec;
-use cache_ident::{Caps, Frame, Ident, KernelNo, Kind, Name, NoMemory, SpaceNo, ThreadNo, Vpn};
+use cache_ident::{Caps, Frame, Ident, KernelNo, Name, NoMemory, SpaceNo, ThreadNo, Vpn};
 use desc_tables::{Item, ItemRef, Tables};
 use flat_state::{Decl, Machine};
 use kernel_cache::KernelRec;
@@ -232,12 +233,13 @@ impl CachedMachine {
     // the one that came; lasts: as before
     {
         let ident = self.tables.load(name, keep, at);
-        self.see_off();
-        self.loaded += 1;
+        see_off(&mut self.tables, &mut self.sets, &self.seats);
         if let Name::Thread(no) = name {
             self.seats.take(ident, no);
-            self.note(no);
+            note(&self.tables, &mut self.sets, no);
         }
+        // Only what was loaded has left.
+        self.loaded = self.loaded - self.tables.gone().len() + 1;
         ident
     }
 
@@ -248,7 +250,8 @@ impl CachedMachine {
     // ensures all clauses of Tables::unload; state, marks and lasts as by load
     {
         self.tables.unload(ident, at);
-        self.see_off();
+        see_off(&mut self.tables, &mut self.sets, &self.seats);
+        self.loaded -= self.tables.gone().len();
     }
 
     /// Locks a loaded descriptor, as `Tables::lock` does.
@@ -261,19 +264,6 @@ impl CachedMachine {
         self.tables.unlock(ident);
     }
 
-    // The threads among what has just left can't be checked out, and are on no processor.
-    fn see_off(&mut self) {
-        let count = self.tables.gone().len();
-        for place in 0..count {
-            let ident = self.tables.gone()[place].ident;
-            if ident.kind == Kind::Thread {
-                self.check_in(self.seats.thread_as(ident));
-            }
-        }
-        // Only what was loaded has left.
-        self.loaded -= count;
-    }
-
     /// A thread that there is goes to a processor, by the checkout of that number.
     pub fn check_out(&mut self, no: ThreadNo, cpu: u32, number: u64)
     // requires there: the thread stands, is loaded, Ready and unmarked; cpu < 8
@@ -283,7 +273,7 @@ impl CachedMachine {
             thread.on_cpu = Some(cpu);
             thread.last = number;
         });
-        self.note(no);
+        note(&self.tables, &mut self.sets, no);
     }
 
     /// A thread that there is goes to no processor any more.
@@ -291,9 +281,7 @@ impl CachedMachine {
     // requires there: the thread stands
     // ensures mark: it has none, and its last is as before; all else as by check_out
     {
-        self.tables
-            .update_thread_named(Name::Thread(no), |thread| thread.on_cpu = None);
-        self.note(no);
+        check_in(&mut self.tables, &mut self.sets, no);
     }
 
     /// No thread is on a processor any more. It takes a time for each slot of the cache of threads.
@@ -323,16 +311,5 @@ impl CachedMachine {
     // ensures memory: with_frame frame bytes; rest: all else as before
     {
         self.memory.copy_in(frame, bytes);
-    }
-
-    // The sets have a thread as the tables have it.
-    pub(crate) fn note(&mut self, no: ThreadNo)
-    // requires but for that thread the sets are those of the threads; ensures they are (a_noted_thread_has_its_place)
-    {
-        let name = Name::Thread(no);
-        let is_loaded = self.tables.resident(name).is_some();
-        if let Some(ItemRef::Thread(thread)) = self.tables.item(name) {
-            self.sets.note(thread, is_loaded);
-        }
     }
 }

@@ -6,6 +6,7 @@ ghost use Rattle.cache_ident.specs.declared.rolls.Issued.{Issued};
 ghost use Rattle.desc_stores.specs.Contents.{residents_of};
 
 use crate::machine::CachedMachine;
+use crate::marks::note;
 use cache_ident::{Name, SpaceNo, ThreadNo, Vpn};
 use flat_rules::Steps;
 use phys_groups::Memory;
@@ -35,21 +36,21 @@ impl Steps for CachedMachine {
             thread.context = *context;
             thread.status = status;
         });
-        self.note(no);
+        note(&self.tables, &mut self.sets, no);
     }
 
     fn give(&mut self, no: ThreadNo, va: u32) {
         self.tables.update_thread_named(Name::Thread(no), |thread| {
             flat_thread::give(thread.status, &mut thread.queue, va);
         });
-        self.note(no);
+        note(&self.tables, &mut self.sets, no);
     }
 
     fn answer(&mut self, no: ThreadNo, value: u32) {
         self.tables.update_thread_named(Name::Thread(no), |thread| {
             flat_thread::answer(&mut thread.context, &mut thread.status, value);
         });
-        self.note(no);
+        note(&self.tables, &mut self.sets, no);
     }
 }
 
