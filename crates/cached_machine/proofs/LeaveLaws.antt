@@ -46,8 +46,10 @@ use Rattle.desc_groups.specs.declared.departures.Gone.{Gone}
 use Rattle.desc_groups.specs.Moves.{idents_of}
 use Rattle.desc_groups.specs.Whole.{AreWhole}
 use Rattle.board_laws.proofs.Departing.{group_resident}
+use Rattle.thread_sets.specs.Sets.{Sets}
+use Rattle.desc_tables.specs.Tables.{Held}
 use Rattle.cached_machine.specs.Cached.{is_loaded}
-use Rattle.cached_machine.specs.Posts.{is_number_of, is_of, seat_of, threads_among, AreSeated}
+use Rattle.cached_machine.specs.Posts.{is_number_of, is_of, seat_of, threads_among, AreSeated, HaveLeft}
 
 -- ---- who is loaded
 
@@ -120,7 +122,7 @@ named_thread (name.Thread number) is = (number, refl)
 named_thread (name.Mapping space vpn) is = absurd (cc)
 
 -- a content under the name of a thread is one
-thread_content : (c : Contents) (no : ThreadNo) → IsSome (content_of c (name.Thread no)) → (thread : ThreadRec) × (content_of c (name.Thread no) ≡ Some (item.Thread thread))
+pub thread_content : (c : Contents) (no : ThreadNo) → IsSome (content_of c (name.Thread no)) → (thread : ThreadRec) × (content_of c (name.Thread no) ≡ Some (item.Thread thread))
 thread_content c no some = by _ refl some
   where
     by : (o : Option ThreadRec) → content_of c (name.Thread no) ≡ option_map item.Thread o → IsSome (content_of c (name.Thread no)) → (thread : ThreadRec) × (content_of c (name.Thread no) ≡ Some (item.Thread thread))
@@ -225,6 +227,24 @@ module _ (caps : Caps) (c : Contents) (pairs : List (Ident × Node)) (whole : Ar
       loaded_alike rs (without_all (idents_of gone) rs) (name.Thread no)
       (λ r here named. (r, stays_without_all (idents_of gone) rs r here (λ left. absurd (let one = in_found (λ (t : ThreadNo). is_name (name.Thread t) (name.Thread no)) (threads_among seats gone) no (is_among r no here named left) (eq_itself (name.Thread no)) in cc)), named))
       (λ r here named. (r, (without_all_cases (idents_of gone) rs r here).0, named))
+
+  -- so what has to be known of them before they are seen off
+  module _ (h : Held) (sets : Sets) (its : h.gone ≡ gone) (kept : (no : ThreadNo) → content_of h.contents (name.Thread no) ≡ content_of c (name.Thread no)) (away : (no : ThreadNo) → Contains (threads_among seats gone) no → is_loaded h.contents (name.Thread no) ≡ false) (numbered : (no : ThreadNo) → IsSome (content_of c (name.Thread no)) → no.0 < length sets.completable) where
+    pub have_left : HaveLeft h sets seats
+    have_left g within is =
+        let at : Contains gone g = subst (λ (gs : List Gone). Contains gs g) its within in
+        let left = left_thread g at is in
+        let no : ThreadNo = left.1 in
+        let some : IsSome (content_of c (name.Thread no)) = subst (λ (n : Name). IsSome (content_of c n)) left.4 (resident_content c whole.one left.0 left.2) in
+        let thread = thread_content c no some in
+        record {
+          no = no;
+          its = left.5;
+          thread = thread.0;
+          there = kept no ∙ thread.1;
+          absent = away no (is_among left.0 no left.2 left.4 (subst (λ (i : Ident). Contains (idents_of gone) i) (sym left.3) (Contains-map (λ (x : Gone). x.ident) gone g at)));
+          numbered = numbered no some;
+        }
 
 -- ---- what is loaded is counted
 

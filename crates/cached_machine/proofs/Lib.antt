@@ -6,3 +6,4 @@ pub mod LeaveLaws
 pub mod MoveLaws
 pub mod AlikeLaws
 pub mod RoomLaws
+pub mod UnloadLaws

@@ -3,6 +3,7 @@ use Rattle.std.proofs.Common.{◌≡◌, ◌≢◌, ℕ, ◌<◌, Bool, true, fa
 use Rattle.std.specs.List.{list_any}
 use Rattle.std.specs.Option.{option_map}
 use Rattle.std.specs.Prelude.{◌==◌, ◌&&◌, is_some, if◌then◌else◌}
+use Rattle.std.proofs.lemmas.List.{length-map}
 use Rattle.std.proofs.lemmas.Bool.{cases_Bool, eqb-true}
 use Rattle.std.proofs.lemmas.Option.{slice_get_within}
 use Rattle.cache_ident.specs.declared.names.Name.{Name}
@@ -10,7 +11,11 @@ use Rattle.cache_ident.specs.declared.names.Name.TheVariants as name
 use Rattle.cache_ident.specs.declared.names.ThreadNo.{ThreadNo}
 use Rattle.flat_state.specs.declared.events.Machine.{Machine}
 use Rattle.flat_state.specs.declared.records.FlatThread.{FlatThread}
+use Rattle.flat_state.specs.Declaration.{locks_granted}
 use Rattle.flat_state.specs.State.{FlatState}
+use Rattle.flat_state.specs.WellFormed.{IsWellFormed}
+use Rattle.cache_ident.specs.Residents.{Resident}
+use Rattle.cache_ident.specs.declared.names.Caps.{Caps}
 use Rattle.thread_cache.specs.declared.ThreadRec.{ThreadRec}
 use Rattle.kind_store.proofs.ContentLemmas.{cases_name}
 use Rattle.desc_stores.specs.declared.items.Item.{Item}
@@ -29,9 +34,11 @@ use Rattle.thread_sets.proofs.SetsLemmas.{sets_noted_same}
 use Rattle.desc_tables.specs.Tables.{Held}
 use Rattle.cached_machine.specs.declared.posts.Post.{Post}
 use Rattle.cached_machine.specs.declared.posts.Post.TheVariants.{Out, In}
-use Rattle.cached_machine.specs.Cached.{is_free_in, is_free_thread, is_loaded}
-use Rattle.cached_machine.specs.Posts.{but_at, last_in, last_of, mark_in, mark_of, posted, IsPosted}
-use Rattle.cached_machine.proofs.StepLaws.{free_after}
+use Rattle.cached_machine.specs.Cached.{is_free_in, is_free_thread, is_loaded, state_of, Cached, IsSound}
+use Rattle.cached_machine.specs.Posts.{but_at, last_in, last_of, mark_in, mark_of, posted, AreSeated, IsPosted, IsTended, OnlyPosts}
+use Rattle.store_residents.proofs.ContentLemmas.{resident_content}
+use Rattle.cached_machine.proofs.LeaveLaws.{loaded_by, thread_content}
+use Rattle.cached_machine.proofs.StepLaws.{free_after, loaded_same}
 
 -- what the move leaves of the thread
 pub posted_no : (post : Post) (thread : ThreadRec) → (posted post thread).no ≡ thread.no
@@ -113,6 +120,71 @@ module _ (post : Post) (h h' : Held) (sets sets' : Sets) (no : ThreadNo) (is : I
         where
           differs : name.Thread no ≡ name.Thread other → ⊥
           differs e = let same : other.0 ≡ no.0 = cc e in absurd (cc)
+
+-- ---- which threads stand
+
+-- a loaded thread stands
+pub loaded_content : (c : Contents) → IsExactlyOne c → (no : ThreadNo) → is_loaded c (name.Thread no) ≡ true → IsSome (content_of c (name.Thread no))
+loaded_content c one no any =
+    let r = loaded_by (residents_of c) (name.Thread no) any in
+    subst (λ (n : Name). IsSome (content_of c n)) r.2 (resident_content c one r.0 r.1)
+
+-- and the sets have each thread that stands
+pub numbered : (machine : Machine) (memory : List ℕ) (h : Held) (sets : Sets) (granted : Caps) → IsSound (record { machine = machine; memory = memory; held = h; sets = sets }) granted → IsExactlyOne h.contents → (no : ThreadNo) → IsSome (content_of h.contents (name.Thread no)) → no.0 < length sets.completable
+numbered machine memory h sets granted sound one no some =
+    let thread = thread_content h.contents no some in
+    let stands : slice_get (shown (Some machine) memory h.contents).threads no.0 ≡ Some (flat_thread thread.0) = (all_found (Some machine) memory h.contents one).threads no.0 ∙ ap thread_of thread.1 in
+    rw (sound.sets.completable, length-map) (slice_get_within (shown (Some machine) memory h.contents).threads no.0 (flat_thread thread.0) stands)
+
+-- ---- the machine with it
+
+module _ (machine : Machine) (memory : List ℕ) (post : Post) (h h' : Held) (sets sets' : Sets) (no : ThreadNo) (is : IsPosted post h h' sets sets' no) where
+  abbrev before : Cached
+  before = record { machine = machine; memory = memory; held = h; sets = sets }
+
+  abbrev after : Cached
+  after = record { machine = machine; memory = memory; held = h'; sets = sets' }
+
+  same_state : state_of after ≡ state_of before
+  same_state = post_shows post h h' sets sets' no is (Some machine) memory
+
+  pub only_posts : OnlyPosts before after
+  only_posts = record {
+    rest = ap (λ (x : Held). record { machine = machine; memory = memory; held = x; sets = sets' }) is.only.rest;
+    state = same_state;
+    residents = is.only.residents;
+    issued = is.only.issued;
+    spare = is.only.spare;
+    room = is.only.room;
+    sets_room = ap (λ (s : Sets). s.room) is.sets;
+  }
+
+  pub post_sound : IsExactlyOne h.contents → (granted : Caps) → IsSound before granted → IsSound after granted
+  post_sound one granted sound = record {
+    formed = subst IsWellFormed (sym same_state) sound.formed;
+    sets = subst (λ (s : FlatState). AreSetsOf s.threads (is_free_in h'.contents) sets') (sym same_state)
+      (post_sets post h h' sets sets' no is (state_of before).threads (is_free_in h.contents) (is_free_in h'.contents) ((all_found (Some machine) memory h.contents one).threads no.0) (post_free post h h' sets sets' no is) sound.sets);
+    caps = ap (λ (x : Held). x.caps) is.only.rest ∙ sound.caps;
+    sums = sound.sums ∙ ap (λ (s : FlatState). locks_granted s.kernels) (sym same_state);
+  }
+
+  -- who is sent to a processor is loaded, and so who isn't loaded has no mark still
+  pub post_tended : (seats : List ThreadNo) (loaded : ℕ) → ((is_loaded h.contents (name.Thread no) ≡ true) ⊎ (post ≡ In)) → IsTended h seats loaded → IsTended h' seats loaded
+  post_tended seats loaded who tended = record {
+    slots = tended.slots ∙ sym (ap (λ (x : Held). x.caps.threads) is.only.rest);
+    seated = subst (λ (rs : List Resident). AreSeated rs seats) (sym is.only.residents) tended.seated;
+    marks = λ other absent.
+      let was : is_loaded h.contents (name.Thread other) ≡ false = sym (loaded_same h.contents h'.contents is.only.residents (name.Thread other)) ∙ absent in
+      elim (cases_name (name.Thread no) (name.Thread other)) [
+        | inl same ↦ subst (λ (n : Name). mark_in (content_of h'.contents n) ≡ None) same (ap mark_in (here post h h' sets sets' no is) ∙ its_mark who (ap (is_loaded h.contents) same ∙ was))
+        | inr apart ↦ ap mark_in (others post h h' sets sets' no is (name.Thread other) apart) ∙ tended.marks other was
+      ];
+    count = tended.count ∙ ap length (sym is.only.residents);
+  }
+    where
+      its_mark : (is_loaded h.contents (name.Thread no) ≡ true) ⊎ (post ≡ In) → is_loaded h.contents (name.Thread no) ≡ false → (posted post is.value).on_cpu ≡ None
+      its_mark (inl there) absent = absurd (cc)
+      its_mark (inr comes) absent = ap (λ (p : Post). (posted p is.value).on_cpu) comes
 
 pub out_marks : (cpu number : ℕ) (h h' : Held) (sets sets' : Sets) (no : ThreadNo) → IsPosted (Out cpu number) h h' sets sets' no → (other : ThreadNo) → mark_of h'.contents other ≡ but_at no (Some cpu) (mark_of h.contents) other
 out_marks cpu number h h' sets sets' no is = at (Out cpu number) h h' sets sets' no is mark_in (Some cpu) refl

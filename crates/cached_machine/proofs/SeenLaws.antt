@@ -29,7 +29,7 @@ use Rattle.cached_machine.specs.declared.posts.Post.TheVariants.{In}
 use Rattle.cached_machine.specs.Cached.{is_free_in, is_free_thread, is_loaded}
 use Rattle.cached_machine.specs.Posts.{free_but, is_number_of, is_of, mark_in, mark_of, posted, unmarked, AreSeenOff, IsPosted}
 use Rattle.cached_machine.specs.Stepping.{OnlyContents}
-use Rattle.cached_machine.proofs.PostLaws.{here, left_no, others, post_sets}
+use Rattle.cached_machine.proofs.PostLaws.{here, left_no, others, post_sets, post_shows}
 
 -- nothing but contents changed, twice
 pub only_onward : (a b c : Held) → OnlyContents a b → OnlyContents b c → OnlyContents a c
@@ -153,6 +153,7 @@ module _ (threads : List ThreadNo) (a b c : Held) (was mid are : Sets) (no : Thr
   pub one_more_off : AreSeenOff (threads ++ no ∷ []) a c was are
   one_more_off = record {
     only = only_onward a b c off.only is.only;
+    shows = λ machine memory. post_shows In b c mid are no is machine memory ∙ off.shows machine memory;
     contents = more_contents;
     sets_room = ap (λ (s : Sets). s.room) is.sets ∙ off.sets_room;
     as_long = ap (λ (s : Sets). length s.completable) is.sets ∙ length-set mid.completable (posted In is.value).no.0 _ ∙ off.as_long;
@@ -163,6 +164,7 @@ module _ (threads : List ThreadNo) (a b c : Held) (was mid are : Sets) (no : Thr
 pub none_off : (h : Held) (sets : Sets) → AreSeenOff [] h h sets sets
 none_off h sets = record {
   only = only_itself h;
+  shows = λ machine memory. refl;
   contents = λ n. refl;
   sets_room = refl;
   as_long = refl;

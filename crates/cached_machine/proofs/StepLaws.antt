@@ -116,12 +116,12 @@ found_at threads n within = by (slice_get threads n) refl
     by (Some t) e = (t, e)
     by None e = absurd (false≢true (ap is_some (sym e) ∙ there_is threads n within))
 
-loaded_same : (old new : Contents) → residents_of new ≡ residents_of old → (n : Name) → is_loaded new n ≡ is_loaded old n
+pub loaded_same : (old new : Contents) → residents_of new ≡ residents_of old → (n : Name) → is_loaded new n ≡ is_loaded old n
 loaded_same old new same n = ap (λ (rs : List Resident). list_any (λ (r : Resident). is_name n r.name) rs) same
 
 module _ (old new : Contents) (left : ThreadRec) (has : HasContent old new (item.Thread left)) (same : residents_of new ≡ residents_of old) where
   -- only of the thread itself may it change whether it is free
-  free_after : AreFreeAfter (is_free_in old) (is_free_in new) left (is_loaded new (thread_named left.no.0))
+  pub free_after : AreFreeAfter (is_free_in old) (is_free_in new) left (is_loaded new (thread_named left.no.0))
   free_after = record {
     noted = ap (is_free_thread (is_loaded new (thread_named left.no.0))) (at_name old new (item.Thread left) has);
     others = λ number apart. ap₂ is_free_thread (loaded_same old new same (thread_named number)) (elsewhere old new (item.Thread left) has (thread_named number) (λ e. apart (sym (one_thread left.no.0 number e))));

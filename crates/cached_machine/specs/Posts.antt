@@ -20,6 +20,7 @@ use Rattle.thread_sets.specs.Sets.{noted, Sets}
 use Rattle.thread_sets.specs.SetsOf.{AreSetsOf}
 use Rattle.desc_groups.specs.declared.departures.Gone.{Gone}
 use Rattle.desc_tables.specs.Tables.{Held}
+use Rattle.board_laws.specs.Moves.{ShowsTheSame}
 use Rattle.cached_machine.specs.declared.posts.Post.{Post}
 use Rattle.cached_machine.specs.declared.posts.Post.TheVariants.{Out, In}
 use Rattle.cached_machine.specs.Cached.{is_free_in, is_loaded, state_of, Cached}
@@ -125,6 +126,7 @@ free_but threads free number = free number && not (is_number_of threads number)
 -- These threads, which aren't loaded any more, are on no processor and free no more, and nothing else changed.
 pub record AreSeenOff (threads : List ThreadNo) (old new : Held) (was are : Sets) : Type 0 where
   pub only : OnlyContents old new
+  pub shows : ShowsTheSame old.contents new.contents
   pub contents : (n : Name) → content_of new.contents n ≡ (if is_of threads n then option_map unmarked (content_of old.contents n) else content_of old.contents n)
   pub sets_room : are.room ≡ was.room
   pub as_long : length are.completable ≡ length was.completable

@@ -1,12 +1,15 @@
 //! What comes to the caches, leaves them, and is locked.
 
-ghost use Rattle.std.specs.Prelude.{◌≡◌, ℕ, ◌+◌, ◌<◌, ◌≤◌, true, false, None};
+ghost use Rattle.std.specs.Prelude.{◌≡◌, ℕ, ◌+◌, ◌<◌, ◌≤◌, true, false, List, None};
 ghost use Rattle.cache_ident.specs.declared.idents.Standing.TheVariants.{Live};
 ghost use Rattle.cache_ident.specs.declared.names.ThreadNo.{ThreadNo};
 ghost use Rattle.cache_ident.specs.Rolls.{standing_in};
 ghost use Rattle.desc_stores.specs.Changes.{room_of};
 ghost use Rattle.desc_groups.specs.Moves.{HasPlaces, MayBeLocked};
+ghost use Rattle.depend_lists.specs.declared.nodes.Node.{Node};
+ghost use Rattle.cache_ident.specs.declared.idents.Ident.{Ident};
 ghost use Rattle.desc_tables.specs.Calls.{HasPlacesFor, MayBeLoaded};
+ghost use Rattle.desc_tables.specs.Tables.{AreSound};
 ghost use Rattle.board_laws.specs.Moves.{IsLoad, IsLock};
 ghost use Rattle.cached_machine.specs.Cached.{state_of};
 ghost use Rattle.cached_machine.specs.Moved.{IsDeparture};
@@ -14,8 +17,8 @@ ghost use Rattle.cached_machine.specs.Posts.{mark_of, HasLoadedMarks, HasSameMar
 
 use crate::machine::CachedMachine;
 use crate::posts::{note, see_off};
-use crate::reading::known;
 use cache_ident::{Ident, Name};
+use desc_tables::Tables;
 
 impl CachedMachine {
     /// Loads a descriptor from the shelf, as `Tables::load` does. What left for it is in `tables().gone()`. A thread that
@@ -33,7 +36,7 @@ impl CachedMachine {
         ensures sets_room { self.new.sets.room ≡ self.old.sets.room }
         ensures spare { self.old.held.contents.spare ≤ self.new.held.contents.spare + 1 }
     {
-        known(&self.tables);
+        whole(&self.tables);
         let ident = self.tables.load(name, keep, at);
         see_off(&mut self.tables, &mut self.sets, &self.seats);
         self.loaded = self.loaded - self.tables.gone().len() + 1;
@@ -57,7 +60,7 @@ impl CachedMachine {
         ensures sets_room { self.new.sets.room ≡ self.old.sets.room }
         ensures spare { self.new.held.contents.spare ≡ self.old.held.contents.spare }
     {
-        known(&self.tables);
+        whole(&self.tables);
         self.tables.unload(ident, at);
         see_off(&mut self.tables, &mut self.sets, &self.seats);
         self.loaded -= self.tables.gone().len();
@@ -85,4 +88,11 @@ impl CachedMachine {
     {
         self.tables.unlock(ident);
     }
+}
+
+// Does nothing. Whoever asks the tables for their room learns that they are whole; it is asked here for that alone.
+fn whole(tables: &Tables)
+    ensures { (pairs : List (Ident × Node)) × AreSound tables.now pairs }
+{
+    let _ = tables.room();
 }

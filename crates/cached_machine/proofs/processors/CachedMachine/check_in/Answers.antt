@@ -1,0 +1,41 @@
+use Rattle.std.proofs.Common.{◌≡◌, None, IsSome, refl, sym, ap, subst, ◌∙◌, inr}
+use Rattle.cache_ident.specs.declared.names.Name.TheVariants as name
+use Rattle.desc_stores.specs.Contents.{content_of}
+use Rattle.cached_machine.specs.declared.posts.Post.TheVariants.{In}
+use Rattle.cached_machine.specs.Cached.{Cached}
+use Rattle.cached_machine.specs.Posts.{but_at, last_of, mark_of, OnlyPosts}
+use Rattle.cached_machine.proofs.PostLaws.{in_lasts, in_marks, numbered, only_posts, post_sound, post_tended}
+use Rattle.cached_machine.proofs.processors.CachedMachine.check_in.Goals as goal
+
+pub send-requires-clause-there : goal.send-requires-clause-there
+send-requires-clause-there c = subst (λ (m : Cached). IsSome (content_of m.held.contents (name.Thread c.args.no))) (sym c.self.view_is) c.requires.there
+
+pub send-requires-clause-numbered : goal.send-requires-clause-numbered
+send-requires-clause-numbered c =
+    let i = c.self.inside in
+    numbered i.machine i.memory i.tables i.sets i.granted c.self.invariant.0 c.known.ensures.one c.args.no (subst (λ (m : Cached). IsSome (content_of m.held.contents (name.Thread c.args.no))) (sym c.self.view_is) c.requires.there)
+
+pub invariant_of-self : goal.invariant_of-self
+invariant_of-self c =
+    let i = c.self.inside in (
+      post_sound i.machine i.memory In i.tables c.send.new.tables i.sets c.send.new.sets c.args.no c.send.ensures c.known.ensures.one i.granted c.self.invariant.0,
+      post_tended i.machine i.memory In i.tables c.send.new.tables i.sets c.send.new.sets c.args.no c.send.ensures i.seats i.loaded (inr refl) c.self.invariant.1,
+    )
+
+pub returns-clause-only : goal.returns-clause-only
+returns-clause-only c =
+    let i = c.self.inside in
+    subst (λ (m : Cached). OnlyPosts m (record { machine = i.machine; memory = i.memory; held = c.send.new.tables; sets = c.send.new.sets })) c.self.view_is
+    (only_posts i.machine i.memory In i.tables c.send.new.tables i.sets c.send.new.sets c.args.no c.send.ensures)
+
+pub returns-clause-marks : goal.returns-clause-marks
+returns-clause-marks c = λ other.
+    let i = c.self.inside in
+    in_marks i.tables c.send.new.tables i.sets c.send.new.sets c.args.no c.send.ensures other
+    ∙ ap (λ (m : Cached). but_at c.args.no None (mark_of m.held.contents) other) c.self.view_is
+
+pub returns-clause-lasts : goal.returns-clause-lasts
+returns-clause-lasts c = λ other.
+    let i = c.self.inside in
+    in_lasts i.tables c.send.new.tables i.sets c.send.new.sets c.args.no c.send.ensures other
+    ∙ ap (λ (m : Cached). last_of m.held.contents other) c.self.view_is
