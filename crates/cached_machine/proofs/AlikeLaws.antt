@@ -31,17 +31,17 @@ use Rattle.cached_machine.specs.Posts.{last_in, last_of, mark_in, mark_of, AreSe
 -- the same is loaded, and each thread has the same content
 pub record AreAlike (old new : Contents) : Type 0 where
   pub loaded : (n : Name) → is_loaded new n ≡ is_loaded old n
-  pub threads : (no : ThreadNo) → content_of new (name.Thread no) ≡ content_of old (name.Thread no)
+  pub threads : (whom : ThreadNo) → content_of new (name.Thread whom) ≡ content_of old (name.Thread whom)
 
 module _ (old new : Contents) (alike : AreAlike old new) where
   pub same_free : (number : ℕ) → is_free_in new number ≡ is_free_in old number
   same_free number = ap₂ is_free_thread (alike.loaded (thread_named number)) (alike.threads (record { 0 = number }))
 
   pub same_marks : HasSameMarks old new
-  same_marks = record { marks = λ no. ap mark_in (alike.threads no); lasts = λ no. ap last_in (alike.threads no) }
+  same_marks = record { marks = λ whom. ap mark_in (alike.threads whom); lasts = λ whom. ap last_in (alike.threads whom) }
 
   pub marks_stay : HasMarksOfLoaded old → HasMarksOfLoaded new
-  marks_stay marks no absent = ap mark_in (alike.threads no) ∙ marks no (sym (alike.loaded (name.Thread no)) ∙ absent)
+  marks_stay marks whom absent = ap mark_in (alike.threads whom) ∙ marks whom (sym (alike.loaded (name.Thread whom)) ∙ absent)
 
   -- the sets of the same threads are right still, whatever room there is
   pub sets_alike : (machine : Option Machine) (memory : List ℕ) (sets sets' : Sets) → shown machine memory new ≡ shown machine memory old → SameButRoom sets sets' → AreSetsOf (shown machine memory old).threads (is_free_in old) sets → AreSetsOf (shown machine memory new).threads (is_free_in new) sets'
@@ -94,11 +94,11 @@ loaded_with_lock old new ident on is n = ap (λ (rs : List Resident). list_any (
 pub tended_locked : (h h' : Held) (seats : List ThreadNo) (loaded : ℕ) (ident : Ident) (on : Bool) → AreAlike h.contents h'.contents → h'.caps ≡ h.caps → residents_of h'.contents ≡ with_lock ident on (residents_of h.contents) → IsTended h seats loaded → IsTended h' seats loaded
 tended_locked h h' seats loaded ident on alike caps residents tended = record {
   slots = tended.slots ∙ ap (λ (c : Caps). c.threads) (sym caps);
-  seated = λ r no there named.
+  seated = λ r whom there named.
     let was = Contains-from_map (locked_if ident on) (residents_of h.contents) r (subst (λ (rs : List Resident). Contains rs r) residents there) in
     let kept = locked_keeps ident on was.0 in
     ap (λ (i : Ident). slice_get seats i.slot) (ap (λ (q : Resident). q.ident) (sym was.2) ∙ kept.0)
-    ∙ tended.seated was.0 no was.1 (sym kept.1 ∙ ap (λ (q : Resident). q.name) was.2 ∙ named);
+    ∙ tended.seated was.0 whom was.1 (sym kept.1 ∙ ap (λ (q : Resident). q.name) was.2 ∙ named);
   marks = marks_stay h.contents h'.contents alike tended.marks;
   count = tended.count ∙ sym (ap length residents ∙ length-map (residents_of h.contents) (locked_if ident on));
 }

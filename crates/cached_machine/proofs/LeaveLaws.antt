@@ -74,7 +74,7 @@ in_found test (y ∷ ys) x there passes = by (test y) refl (Contains-cases y ys 
 same_name : (a b : Name) → is_name a b ≡ true → a ≡ b
 same_name a b test = elim (cases_name a b) [
   | inl same ↦ same
-  | inr apart ↦ absurd (let no : is_name a b ≡ false = eq_apart a b apart in cc)
+  | inr apart ↦ absurd (let whom : is_name a b ≡ false = eq_apart a b apart in cc)
 ]
 
 -- a name is loaded where a resident has it
@@ -115,50 +115,50 @@ thread_kind kind.Thread test = refl
 thread_kind kind.Mapping test = absurd (cc)
 
 -- a name of a thread is one
-named_thread : (n : Name) → kind_of n ≡ kind.Thread → (no : ThreadNo) × (n ≡ name.Thread no)
+named_thread : (n : Name) → kind_of n ≡ kind.Thread → (whom : ThreadNo) × (n ≡ name.Thread whom)
 named_thread (name.Kernel number) is = absurd (cc)
 named_thread (name.Space number) is = absurd (cc)
 named_thread (name.Thread number) is = (number, refl)
 named_thread (name.Mapping space vpn) is = absurd (cc)
 
 -- a content under the name of a thread is one
-pub thread_content : (c : Contents) (no : ThreadNo) → IsSome (content_of c (name.Thread no)) → (thread : ThreadRec) × (content_of c (name.Thread no) ≡ Some (item.Thread thread))
-thread_content c no some = by _ refl some
+pub thread_content : (c : Contents) (whom : ThreadNo) → IsSome (content_of c (name.Thread whom)) → (thread : ThreadRec) × (content_of c (name.Thread whom) ≡ Some (item.Thread thread))
+thread_content c whom some = by _ refl some
   where
-    by : (o : Option ThreadRec) → content_of c (name.Thread no) ≡ option_map item.Thread o → IsSome (content_of c (name.Thread no)) → (thread : ThreadRec) × (content_of c (name.Thread no) ≡ Some (item.Thread thread))
-    by None is some = absurd (let none : is_some (content_of c (name.Thread no)) ≡ false = ap is_some is in cc)
+    by : (o : Option ThreadRec) → content_of c (name.Thread whom) ≡ option_map item.Thread o → IsSome (content_of c (name.Thread whom)) → (thread : ThreadRec) × (content_of c (name.Thread whom) ≡ Some (item.Thread thread))
+    by None is some = absurd (let none : is_some (content_of c (name.Thread whom)) ≡ false = ap is_some is in cc)
     by (Some thread) is some = (thread, is)
 
 -- what is seated at the slots of what leaves
-seated_among : (seats : List ThreadNo) (gone : List Gone) (no : ThreadNo) → Contains (threads_among seats gone) no → (g : Gone) × Contains gone g × (seat_of seats g ≡ Some no)
-seated_among seats [] no there = absurd (contains_nothing no there)
-seated_among seats (g ∷ gone) no there = by (seat_of seats g) refl there
+seated_among : (seats : List ThreadNo) (gone : List Gone) (whom : ThreadNo) → Contains (threads_among seats gone) whom → (g : Gone) × Contains gone g × (seat_of seats g ≡ Some whom)
+seated_among seats [] whom there = absurd (contains_nothing whom there)
+seated_among seats (g ∷ gone) whom there = by (seat_of seats g) refl there
   where
-    by : (o : Option ThreadNo) → seat_of seats g ≡ o → Contains (elim o as (λ _. List ThreadNo) [ None ↦ threads_among seats gone | Some t ↦ t ∷ threads_among seats gone ]) no → (h : Gone) × Contains (g ∷ gone) h × (seat_of seats h ≡ Some no)
-    by None is later = let found = seated_among seats gone no later in (found.0, Contains-behind g gone found.0 found.1, found.2)
-    by (Some t) is which = elim (Contains-cases t (threads_among seats gone) no which) [
+    by : (o : Option ThreadNo) → seat_of seats g ≡ o → Contains (elim o as (λ _. List ThreadNo) [ None ↦ threads_among seats gone | Some t ↦ t ∷ threads_among seats gone ]) whom → (h : Gone) × Contains (g ∷ gone) h × (seat_of seats h ≡ Some whom)
+    by None is later = let found = seated_among seats gone whom later in (found.0, Contains-behind g gone found.0 found.1, found.2)
+    by (Some t) is which = elim (Contains-cases t (threads_among seats gone) whom which) [
       | inl same ↦ (g, Contains-here g gone, is ∙ ap Some same)
-      | inr later ↦ let found = seated_among seats gone no later in (found.0, Contains-behind g gone found.0 found.1, found.2)
+      | inr later ↦ let found = seated_among seats gone whom later in (found.0, Contains-behind g gone found.0 found.1, found.2)
     ]
 
-among_seated : (seats : List ThreadNo) (gone : List Gone) (g : Gone) (no : ThreadNo) → Contains gone g → seat_of seats g ≡ Some no → Contains (threads_among seats gone) no
-among_seated seats [] g no there is = absurd (contains_nothing g there)
-among_seated seats (h ∷ gone) g no there is = by (seat_of seats h) refl (Contains-cases h gone g there)
+among_seated : (seats : List ThreadNo) (gone : List Gone) (g : Gone) (whom : ThreadNo) → Contains gone g → seat_of seats g ≡ Some whom → Contains (threads_among seats gone) whom
+among_seated seats [] g whom there is = absurd (contains_nothing g there)
+among_seated seats (h ∷ gone) g whom there is = by (seat_of seats h) refl (Contains-cases h gone g there)
   where
-    by : (o : Option ThreadNo) → seat_of seats h ≡ o → (h ≡ g) ⊎ Contains gone g → Contains (elim o as (λ _. List ThreadNo) [ None ↦ threads_among seats gone | Some t ↦ t ∷ threads_among seats gone ]) no
-    by None at (inl same) = absurd (let clash : None ≡ Some no = sym at ∙ ap (seat_of seats) same ∙ is in cc)
-    by None at (inr later) = among_seated seats gone g no later is
-    by (Some t) at (inl same) = let first : Some t ≡ Some no = sym at ∙ ap (seat_of seats) same ∙ is in subst (λ (x : ThreadNo). Contains (t ∷ threads_among seats gone) x) (cc) (Contains-here t (threads_among seats gone))
-    by (Some t) at (inr later) = Contains-behind t (threads_among seats gone) no (among_seated seats gone g no later is)
+    by : (o : Option ThreadNo) → seat_of seats h ≡ o → (h ≡ g) ⊎ Contains gone g → Contains (elim o as (λ _. List ThreadNo) [ None ↦ threads_among seats gone | Some t ↦ t ∷ threads_among seats gone ]) whom
+    by None at (inl same) = absurd (let clash : None ≡ Some whom = sym at ∙ ap (seat_of seats) same ∙ is in cc)
+    by None at (inr later) = among_seated seats gone g whom later is
+    by (Some t) at (inl same) = let first : Some t ≡ Some whom = sym at ∙ ap (seat_of seats) same ∙ is in subst (λ (x : ThreadNo). Contains (t ∷ threads_among seats gone) x) (cc) (Contains-here t (threads_among seats gone))
+    by (Some t) at (inr later) = Contains-behind t (threads_among seats gone) whom (among_seated seats gone g whom later is)
 
 -- it is one of them by its number, and by its name
-pub number_of : (threads : List ThreadNo) (no : ThreadNo) → Contains threads no → is_number_of threads no.0 ≡ true
-number_of threads no there = in_found (λ (t : ThreadNo). t.0 == no.0) threads no there (by no.0)
+pub number_of : (threads : List ThreadNo) (whom : ThreadNo) → Contains threads whom → is_number_of threads whom.0 ≡ true
+number_of threads whom there = in_found (λ (t : ThreadNo). t.0 == whom.0) threads whom there (by whom.0)
   where
     by : (n : ℕ) → (n == n) ≡ true
     by n = grind arith
 
-pub one_of : (threads : List ThreadNo) (n : Name) → is_of threads n ≡ true → (no : ThreadNo) × Contains threads no × (name.Thread no ≡ n)
+pub one_of : (threads : List ThreadNo) (n : Name) → is_of threads n ≡ true → (whom : ThreadNo) × Contains threads whom × (name.Thread whom ≡ n)
 one_of threads n any = let found = found_in (λ (t : ThreadNo). is_name (name.Thread t) n) threads any in (found.0, found.1, same_name (name.Thread found.0) n found.2)
 
 pub number_one_of : (threads : List ThreadNo) (number : ℕ) → is_number_of threads number ≡ is_of threads (thread_named number)
@@ -184,66 +184,66 @@ module _ (caps : Caps) (c : Contents) (pairs : List (Ident × Node)) (whole : Ar
   gone_resident g within = group_resident (seen c) rs root (idents_of gone) group there g.ident (Contains-map (λ (x : Gone). x.ident) gone g within)
 
   -- a thread that left is noted at its slot
-  pub left_thread : (g : Gone) → Contains gone g → g.ident.kind ≡ kind.Thread → (r : Resident) × (no : ThreadNo) × Contains rs r × (r.ident ≡ g.ident) × (r.name ≡ name.Thread no) × (slice_get seats g.ident.slot ≡ Some no)
+  pub left_thread : (g : Gone) → Contains gone g → g.ident.kind ≡ kind.Thread → (r : Resident) × (whom : ThreadNo) × Contains rs r × (r.ident ≡ g.ident) × (r.name ≡ name.Thread whom) × (slice_get seats g.ident.slot ≡ Some whom)
   left_thread g within is =
       let r = gone_resident g within in
       let named = named_thread r.0.name (sym (resident_kind c whole.one r.0 r.1) ∙ ap (λ (i : Ident). i.kind) r.2 ∙ is) in
       (r.0, named.0, r.1, r.2, named.1, ap (λ (i : Ident). slice_get seats i.slot) (sym r.2) ∙ seated r.0 named.0 r.1 named.1)
 
   -- who is among them was loaded, and has left
-  pub was_loaded : (no : ThreadNo) → Contains (threads_among seats gone) no → (r : Resident) × Contains rs r × (r.name ≡ name.Thread no) × Contains (idents_of gone) r.ident
-  was_loaded no within =
-      let g = seated_among seats gone no within in
+  pub was_loaded : (whom : ThreadNo) → Contains (threads_among seats gone) whom → (r : Resident) × Contains rs r × (r.name ≡ name.Thread whom) × Contains (idents_of gone) r.ident
+  was_loaded whom within =
+      let g = seated_among seats gone whom within in
       by g.0 g.1 g.2 (is_kind g.0.ident.kind kind.Thread) refl
     where
-      by : (g : Gone) → Contains gone g → seat_of seats g ≡ Some no → (b : Bool) → is_kind g.ident.kind kind.Thread ≡ b → (r : Resident) × Contains rs r × (r.name ≡ name.Thread no) × Contains (idents_of gone) r.ident
+      by : (g : Gone) → Contains gone g → seat_of seats g ≡ Some whom → (b : Bool) → is_kind g.ident.kind kind.Thread ≡ b → (r : Resident) × Contains rs r × (r.name ≡ name.Thread whom) × Contains (idents_of gone) r.ident
       by g at its false test = absurd (let none : seat_of seats g ≡ None = ap (λ (b : Bool). if b then slice_get seats g.ident.slot else None) test in cc)
       by g at its true test =
           let left = left_thread g at (thread_kind g.ident.kind test) in
-          let seat : slice_get seats g.ident.slot ≡ Some no = sym (ap (λ (b : Bool). if b then slice_get seats g.ident.slot else None) test) ∙ its in
-          let same : Some left.1 ≡ Some no = sym left.5 ∙ seat in
-          let its_no : left.1 ≡ no = cc in
+          let seat : slice_get seats g.ident.slot ≡ Some whom = sym (ap (λ (b : Bool). if b then slice_get seats g.ident.slot else None) test) ∙ its in
+          let same : Some left.1 ≡ Some whom = sym left.5 ∙ seat in
+          let its_no : left.1 ≡ whom = cc in
           (left.0, left.2, left.4 ∙ ap name.Thread its_no, subst (λ (i : Ident). Contains (idents_of gone) i) (sym left.3) (Contains-map (λ (x : Gone). x.ident) gone g at))
 
   -- and a loaded thread that left is among them
-  pub is_among : (r : Resident) (no : ThreadNo) → Contains rs r → r.name ≡ name.Thread no → Contains (idents_of gone) r.ident → Contains (threads_among seats gone) no
-  is_among r no here named within =
+  pub is_among : (r : Resident) (whom : ThreadNo) → Contains rs r → r.name ≡ name.Thread whom → Contains (idents_of gone) r.ident → Contains (threads_among seats gone) whom
+  is_among r whom here named within =
       let g = Contains-from_map (λ (x : Gone). x.ident) gone r.ident within in
       let of_kind : g.0.ident.kind ≡ kind.Thread = ap (λ (i : Ident). i.kind) g.2 ∙ resident_kind c whole.one r here ∙ ap kind_of named in
-      let seat : seat_of seats g.0 ≡ Some no = ap (λ (b : Bool). if b then slice_get seats g.0.ident.slot else None) (is_thread g.0.ident.kind of_kind) ∙ ap (λ (i : Ident). slice_get seats i.slot) g.2 ∙ seated r no here named in
-      among_seated seats gone g.0 no g.1 seat
+      let seat : seat_of seats g.0 ≡ Some whom = ap (λ (b : Bool). if b then slice_get seats g.0.ident.slot else None) (is_thread g.0.ident.kind of_kind) ∙ ap (λ (i : Ident). slice_get seats i.slot) g.2 ∙ seated r whom here named in
+      among_seated seats gone g.0 whom g.1 seat
 
   -- who is among them isn't loaded once all have left
-  pub left_is_absent : (no : ThreadNo) → Contains (threads_among seats gone) no → (r : Resident) → Contains (without_all (idents_of gone) rs) r → r.name ≡ name.Thread no → ⊥
-  left_is_absent no within r stays named =
-      let was = was_loaded no within in
+  pub left_is_absent : (whom : ThreadNo) → Contains (threads_among seats gone) whom → (r : Resident) → Contains (without_all (idents_of gone) rs) r → r.name ≡ name.Thread whom → ⊥
+  left_is_absent whom within r stays named =
+      let was = was_loaded whom within in
       let still = without_all_cases (idents_of gone) rs r stays in
       let same : r ≡ was.0 = (one_each c whole.one).names r was.0 still.0 was.1 (named ∙ sym was.2) in
       still.1 (subst (λ (q : Resident). Contains (idents_of gone) q.ident) (sym same) was.3)
 
   -- and all other threads are loaded as before
-  pub others_loaded : (no : ThreadNo) → is_of (threads_among seats gone) (name.Thread no) ≡ false → list_any (λ (r : Resident). is_name (name.Thread no) r.name) (without_all (idents_of gone) rs) ≡ list_any (λ (r : Resident). is_name (name.Thread no) r.name) rs
-  others_loaded no test =
-      loaded_alike rs (without_all (idents_of gone) rs) (name.Thread no)
-      (λ r here named. (r, stays_without_all (idents_of gone) rs r here (λ left. absurd (let one = in_found (λ (t : ThreadNo). is_name (name.Thread t) (name.Thread no)) (threads_among seats gone) no (is_among r no here named left) (eq_itself (name.Thread no)) in cc)), named))
+  pub others_loaded : (whom : ThreadNo) → is_of (threads_among seats gone) (name.Thread whom) ≡ false → list_any (λ (r : Resident). is_name (name.Thread whom) r.name) (without_all (idents_of gone) rs) ≡ list_any (λ (r : Resident). is_name (name.Thread whom) r.name) rs
+  others_loaded whom test =
+      loaded_alike rs (without_all (idents_of gone) rs) (name.Thread whom)
+      (λ r here named. (r, stays_without_all (idents_of gone) rs r here (λ left. absurd (let one = in_found (λ (t : ThreadNo). is_name (name.Thread t) (name.Thread whom)) (threads_among seats gone) whom (is_among r whom here named left) (eq_itself (name.Thread whom)) in cc)), named))
       (λ r here named. (r, (without_all_cases (idents_of gone) rs r here).0, named))
 
   -- so what has to be known of them before they are seen off
-  module _ (h : Held) (sets : Sets) (its : h.gone ≡ gone) (kept : (no : ThreadNo) → content_of h.contents (name.Thread no) ≡ content_of c (name.Thread no)) (away : (no : ThreadNo) → Contains (threads_among seats gone) no → is_loaded h.contents (name.Thread no) ≡ false) (numbered : (no : ThreadNo) → IsSome (content_of c (name.Thread no)) → no.0 < length sets.completable) where
+  module _ (h : Held) (sets : Sets) (its : h.gone ≡ gone) (kept : (whom : ThreadNo) → content_of h.contents (name.Thread whom) ≡ content_of c (name.Thread whom)) (away : (whom : ThreadNo) → Contains (threads_among seats gone) whom → is_loaded h.contents (name.Thread whom) ≡ false) (numbered : (whom : ThreadNo) → IsSome (content_of c (name.Thread whom)) → whom.0 < length sets.completable) where
     pub have_left : HaveLeft h sets seats
     have_left g within is =
         let at : Contains gone g = subst (λ (gs : List Gone). Contains gs g) its within in
         let left = left_thread g at is in
-        let no : ThreadNo = left.1 in
-        let some : IsSome (content_of c (name.Thread no)) = subst (λ (n : Name). IsSome (content_of c n)) left.4 (resident_content c whole.one left.0 left.2) in
-        let thread = thread_content c no some in
+        let whom : ThreadNo = left.1 in
+        let some : IsSome (content_of c (name.Thread whom)) = subst (λ (n : Name). IsSome (content_of c n)) left.4 (resident_content c whole.one left.0 left.2) in
+        let thread = thread_content c whom some in
         record {
-          no = no;
+          no = whom;
           its = left.5;
           thread = thread.0;
-          there = kept no ∙ thread.1;
-          absent = away no (is_among left.0 no left.2 left.4 (subst (λ (i : Ident). Contains (idents_of gone) i) (sym left.3) (Contains-map (λ (x : Gone). x.ident) gone g at)));
-          numbered = numbered no some;
+          there = kept whom ∙ thread.1;
+          absent = away whom (is_among left.0 whom left.2 left.4 (subst (λ (i : Ident). Contains (idents_of gone) i) (sym left.3) (Contains-map (λ (x : Gone). x.ident) gone g at)));
+          numbered = numbered whom some;
         }
 
 -- ---- what is loaded is counted

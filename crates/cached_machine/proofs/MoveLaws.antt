@@ -31,22 +31,22 @@ same_thread None (Some y) e = absurd (cc)
 same_thread (Some x) None e = absurd (cc)
 same_thread (Some x) (Some y) e = let same : x ≡ y = cc in ap (λ (t : ThreadRec). Some (item.Thread t)) same
 
-pub threads_kept : (old new : Contents) → ((n : Name) → option_map but_for_counts (content_of new n) ≡ option_map but_for_counts (content_of old n)) → (no : ThreadNo) → content_of new (name.Thread no) ≡ content_of old (name.Thread no)
-threads_kept old new kept no = same_thread _ _ (kept (name.Thread no))
+pub threads_kept : (old new : Contents) → ((n : Name) → option_map but_for_counts (content_of new n) ≡ option_map but_for_counts (content_of old n)) → (whom : ThreadNo) → content_of new (name.Thread whom) ≡ content_of old (name.Thread whom)
+threads_kept old new kept whom = same_thread _ _ (kept (name.Thread whom))
 
 -- The threads among these left and are on no processor; of the others each is as it was. But for one that came, which may be
 -- nobody, all others are loaded as before.
 pub record HaveGone (threads : List ThreadNo) (old new : Contents) : Type 0 where
-  pub contents : (no : ThreadNo) → content_of new (name.Thread no) ≡ (if is_of threads (name.Thread no) then option_map unmarked (content_of old (name.Thread no)) else content_of old (name.Thread no))
-  pub absent : (no : ThreadNo) → is_of threads (name.Thread no) ≡ true → is_loaded new (name.Thread no) ≡ false
+  pub contents : (whom : ThreadNo) → content_of new (name.Thread whom) ≡ (if is_of threads (name.Thread whom) then option_map unmarked (content_of old (name.Thread whom)) else content_of old (name.Thread whom))
+  pub absent : (whom : ThreadNo) → is_of threads (name.Thread whom) ≡ true → is_loaded new (name.Thread whom) ≡ false
 
 module _ (threads : List ThreadNo) (old new : Contents) (gone : HaveGone threads old new) where
-  module _ (no : ThreadNo) where
-    out : is_of threads (name.Thread no) ≡ true → content_of new (name.Thread no) ≡ option_map unmarked (content_of old (name.Thread no))
-    out test = gone.contents no ∙ ap (λ (b : Bool). if b then option_map unmarked (content_of old (name.Thread no)) else content_of old (name.Thread no)) test
+  module _ (whom : ThreadNo) where
+    out : is_of threads (name.Thread whom) ≡ true → content_of new (name.Thread whom) ≡ option_map unmarked (content_of old (name.Thread whom))
+    out test = gone.contents whom ∙ ap (λ (b : Bool). if b then option_map unmarked (content_of old (name.Thread whom)) else content_of old (name.Thread whom)) test
 
-    pub stays : is_of threads (name.Thread no) ≡ false → content_of new (name.Thread no) ≡ content_of old (name.Thread no)
-    stays test = gone.contents no ∙ ap (λ (b : Bool). if b then option_map unmarked (content_of old (name.Thread no)) else content_of old (name.Thread no)) test
+    pub stays : is_of threads (name.Thread whom) ≡ false → content_of new (name.Thread whom) ≡ content_of old (name.Thread whom)
+    stays test = gone.contents whom ∙ ap (λ (b : Bool). if b then option_map unmarked (content_of old (name.Thread whom)) else content_of old (name.Thread whom)) test
 
   no_mark : (o : Option Item) → mark_in (option_map unmarked o) ≡ None
   no_mark None = refl
@@ -63,31 +63,31 @@ module _ (threads : List ThreadNo) (old new : Contents) (gone : HaveGone threads
   same_last (Some (item.Mapping row)) = refl
 
   -- who is loaded and didn't come just now was loaded, and so who isn't has no mark
-  module _ (marks : HasMarksOfLoaded old) (others : (no : ThreadNo) → is_of threads (name.Thread no) ≡ false → is_loaded new (name.Thread no) ≡ false → is_loaded old (name.Thread no) ≡ false) where
+  module _ (marks : HasMarksOfLoaded old) (others : (whom : ThreadNo) → is_of threads (name.Thread whom) ≡ false → is_loaded new (name.Thread whom) ≡ false → is_loaded old (name.Thread whom) ≡ false) where
     pub marks_gone : HasMarksOfLoaded new
-    marks_gone no absent = by (is_of threads (name.Thread no)) refl
+    marks_gone whom absent = by (is_of threads (name.Thread whom)) refl
       where
-        by : (b : Bool) → is_of threads (name.Thread no) ≡ b → mark_of new no ≡ None
-        by true test = ap mark_in (out no test) ∙ no_mark (content_of old (name.Thread no))
-        by false test = ap mark_in (stays no test) ∙ marks no (others no test absent)
+        by : (b : Bool) → is_of threads (name.Thread whom) ≡ b → mark_of new whom ≡ None
+        by true test = ap mark_in (out whom test) ∙ no_mark (content_of old (name.Thread whom))
+        by false test = ap mark_in (stays whom test) ∙ marks whom (others whom test absent)
 
     pub loaded_marks : HasLoadedMarks old new
     loaded_marks = record {
-      marks = λ no. by_marks no (is_loaded new (name.Thread no)) refl;
-      lasts = λ no. by_lasts no (is_of threads (name.Thread no)) refl;
+      marks = λ whom. by_marks whom (is_loaded new (name.Thread whom)) refl;
+      lasts = λ whom. by_lasts whom (is_of threads (name.Thread whom)) refl;
     }
       where
-        by_marks : (no : ThreadNo) (b : Bool) → is_loaded new (name.Thread no) ≡ b → mark_of new no ≡ (if b then mark_of old no else None)
-        by_marks no false absent = marks_gone no absent
-        by_marks no true there = by (is_of threads (name.Thread no)) refl
+        by_marks : (whom : ThreadNo) (b : Bool) → is_loaded new (name.Thread whom) ≡ b → mark_of new whom ≡ (if b then mark_of old whom else None)
+        by_marks whom false absent = marks_gone whom absent
+        by_marks whom true there = by (is_of threads (name.Thread whom)) refl
           where
-            by : (b : Bool) → is_of threads (name.Thread no) ≡ b → mark_of new no ≡ mark_of old no
-            by true test = absurd (let absent = gone.absent no test in cc)
-            by false test = ap mark_in (stays no test)
+            by : (b : Bool) → is_of threads (name.Thread whom) ≡ b → mark_of new whom ≡ mark_of old whom
+            by true test = absurd (let absent = gone.absent whom test in cc)
+            by false test = ap mark_in (stays whom test)
 
-        by_lasts : (no : ThreadNo) (b : Bool) → is_of threads (name.Thread no) ≡ b → last_of new no ≡ last_of old no
-        by_lasts no true test = ap last_in (out no test) ∙ same_last (content_of old (name.Thread no))
-        by_lasts no false test = ap last_in (stays no test)
+        by_lasts : (whom : ThreadNo) (b : Bool) → is_of threads (name.Thread whom) ≡ b → last_of new whom ≡ last_of old whom
+        by_lasts whom true test = ap last_in (out whom test) ∙ same_last (content_of old (name.Thread whom))
+        by_lasts whom false test = ap last_in (stays whom test)
 
   -- a thread that isn't loaded isn't free
   not_free : (o : Option Item) → is_free_thread false o ≡ false
@@ -101,8 +101,8 @@ module _ (threads : List ThreadNo) (old new : Contents) (gone : HaveGone threads
   pub free_gone : (number : ℕ) → (is_of threads (thread_named number) ≡ false → is_loaded new (thread_named number) ≡ is_loaded old (thread_named number)) → is_free_in new number ≡ free_but threads (is_free_in old) number
   free_gone number loaded = by (is_of threads (thread_named number)) refl
     where
-      no : ThreadNo
-      no = record { 0 = number }
+      whom : ThreadNo
+      whom = record { 0 = number }
 
       and_true : (b : Bool) → (b && true) ≡ b
       and_true true = refl
@@ -117,9 +117,9 @@ module _ (threads : List ThreadNo) (old new : Contents) (gone : HaveGone threads
 
       by : (b : Bool) → is_of threads (thread_named number) ≡ b → is_free_in new number ≡ free_but threads (is_free_in old) number
       by true test =
-          ap (λ (l : Bool). is_free_thread l (content_of new (thread_named number))) (gone.absent no test)
+          ap (λ (l : Bool). is_free_thread l (content_of new (thread_named number))) (gone.absent whom test)
           ∙ not_free (content_of new (thread_named number))
           ∙ sym (ap (λ (t : Bool). is_free_in old number && not t) (test_is true test) ∙ and_false (is_free_in old number))
       by false test =
-          ap₂ is_free_thread (loaded test) (stays no test)
+          ap₂ is_free_thread (loaded test) (stays whom test)
           ∙ sym (ap (λ (t : Bool). is_free_in old number && not t) (test_is false test) ∙ and_true (is_free_in old number))

@@ -24,7 +24,7 @@ more_room old new is = omega (arith, is.kernels, is.spaces, is.threads, is.rows)
 pub alike_by_room : (old new : Contents) → OnlyMakesRoom old new → AreAlike old new
 alike_by_room old new is = record {
   loaded = loaded_of_same old new (residents_room old new is);
-  threads = λ no. keeps_room old new is (name.Thread no);
+  threads = λ whom. keeps_room old new is (name.Thread whom);
 }
 
 pub alike_by_lock : (old new : Contents) (ident : Ident) (on : Bool) → residents_of new ≡ with_lock ident on (residents_of old) → KeepsButCounts old new → AreAlike old new

@@ -61,15 +61,15 @@ unmarked_twice (Some (item.Thread thread)) = refl
 unmarked_twice (Some (item.Mapping row)) = refl
 
 -- one more is one of them
-of_more : (threads : List ThreadNo) (no : ThreadNo) (n : Name) → is_of (threads ++ no ∷ []) n ≡ (is_of threads n || is_name (name.Thread no) n)
-of_more threads no n = list_any-append (λ (t : ThreadNo). is_name (name.Thread t) n) threads (no ∷ []) ∙ ap (λ (b : Bool). is_of threads n || b) (by (is_name (name.Thread no) n))
+of_more : (threads : List ThreadNo) (whom : ThreadNo) (n : Name) → is_of (threads ++ whom ∷ []) n ≡ (is_of threads n || is_name (name.Thread whom) n)
+of_more threads whom n = list_any-append (λ (t : ThreadNo). is_name (name.Thread t) n) threads (whom ∷ []) ∙ ap (λ (b : Bool). is_of threads n || b) (by (is_name (name.Thread whom) n))
   where
     by : (b : Bool) → (b || false) ≡ b
     by true = refl
     by false = refl
 
-number_more : (threads : List ThreadNo) (no : ThreadNo) (number : ℕ) → is_number_of (threads ++ no ∷ []) number ≡ (is_number_of threads number || (no.0 == number))
-number_more threads no number = list_any-append (λ (t : ThreadNo). t.0 == number) threads (no ∷ []) ∙ ap (λ (b : Bool). is_number_of threads number || b) (by (no.0 == number))
+number_more : (threads : List ThreadNo) (whom : ThreadNo) (number : ℕ) → is_number_of (threads ++ whom ∷ []) number ≡ (is_number_of threads number || (whom.0 == number))
+number_more threads whom number = list_any-append (λ (t : ThreadNo). t.0 == number) threads (whom ∷ []) ∙ ap (λ (b : Bool). is_number_of threads number || b) (by (whom.0 == number))
   where
     by : (b : Bool) → (b || false) ≡ b
     by true = refl
@@ -78,20 +78,20 @@ number_more threads no number = list_any-append (λ (t : ThreadNo). t.0 == numbe
 eqb_itself : (n : ℕ) → (n == n) ≡ true
 eqb_itself n = grind arith
 
-module _ (threads : List ThreadNo) (a b c : Held) (was mid are : Sets) (no : ThreadNo) (off : AreSeenOff threads a b was mid) (is : IsPosted In b c mid are no) (absent : is_loaded c.contents (name.Thread no) ≡ false) where
-  more_contents : (n : Name) → content_of c.contents n ≡ (if is_of (threads ++ no ∷ []) n then option_map unmarked (content_of a.contents n) else content_of a.contents n)
-  more_contents n = elim (cases_name (name.Thread no) n) [
+module _ (threads : List ThreadNo) (a b c : Held) (was mid are : Sets) (whom : ThreadNo) (off : AreSeenOff threads a b was mid) (is : IsPosted In b c mid are whom) (absent : is_loaded c.contents (name.Thread whom) ≡ false) where
+  more_contents : (n : Name) → content_of c.contents n ≡ (if is_of (threads ++ whom ∷ []) n then option_map unmarked (content_of a.contents n) else content_of a.contents n)
+  more_contents n = elim (cases_name (name.Thread whom) n) [
     | inl same ↦
-        let test : is_of (threads ++ no ∷ []) n ≡ true = of_more threads no n ∙ ap (λ (t : Bool). is_of threads n || t) (ap (is_name (name.Thread no)) (sym same) ∙ eq_itself (name.Thread no)) ∙ or_true (is_of threads n) in
-        let left : content_of c.contents n ≡ Some (item.Thread (posted In is.value)) = subst (λ (m : Name). content_of c.contents m ≡ Some (item.Thread (posted In is.value))) same (here In b c mid are no is) in
+        let test : is_of (threads ++ whom ∷ []) n ≡ true = of_more threads whom n ∙ ap (λ (t : Bool). is_of threads n || t) (ap (is_name (name.Thread whom)) (sym same) ∙ eq_itself (name.Thread whom)) ∙ or_true (is_of threads n) in
+        let left : content_of c.contents n ≡ Some (item.Thread (posted In is.value)) = subst (λ (m : Name). content_of c.contents m ≡ Some (item.Thread (posted In is.value))) same (here In b c mid are whom is) in
         let stood : content_of b.contents n ≡ Some (item.Thread is.value) = subst (λ (m : Name). content_of b.contents m ≡ Some (item.Thread is.value)) same is.there in
         left
         ∙ sym (ap (option_map unmarked) (sym (off.contents n) ∙ stood))
         ∙ by_before (is_of threads n) n
         ∙ sym (ap (λ (t : Bool). if t then option_map unmarked (content_of a.contents n) else content_of a.contents n) test)
     | inr apart ↦
-        let test : is_of (threads ++ no ∷ []) n ≡ is_of threads n = of_more threads no n ∙ ap (λ (t : Bool). is_of threads n || t) (eq_apart (name.Thread no) n apart) ∙ or_false (is_of threads n) in
-        others In b c mid are no is n apart ∙ off.contents n ∙ sym (ap (λ (t : Bool). if t then option_map unmarked (content_of a.contents n) else content_of a.contents n) test)
+        let test : is_of (threads ++ whom ∷ []) n ≡ is_of threads n = of_more threads whom n ∙ ap (λ (t : Bool). is_of threads n || t) (eq_apart (name.Thread whom) n apart) ∙ or_false (is_of threads n) in
+        others In b c mid are whom is n apart ∙ off.contents n ∙ sym (ap (λ (t : Bool). if t then option_map unmarked (content_of a.contents n) else content_of a.contents n) test)
   ]
     where
       or_true : (b : Bool) → (b || true) ≡ true
@@ -106,17 +106,17 @@ module _ (threads : List ThreadNo) (a b c : Held) (was mid are : Sets) (no : Thr
       by_before true n = unmarked_twice (content_of a.contents n)
       by_before false n = refl
 
-  frees : (free : ℕ → Bool) → AreFreeAfter (free_but threads free) (free_but (threads ++ no ∷ []) free) (posted In is.value) (is_loaded c.contents (name.Thread no))
+  frees : (free : ℕ → Bool) → AreFreeAfter (free_but threads free) (free_but (threads ++ whom ∷ []) free) (posted In is.value) (is_loaded c.contents (name.Thread whom))
   frees free = record {
     noted =
-      let same : (posted In is.value).no.0 ≡ no.0 = ap (λ (t : ThreadNo). t.0) (left_no In b c mid are no is) in
-      ap (free_but (threads ++ no ∷ []) free) same
-      ∙ ap (λ (t : Bool). free no.0 && not t) (number_more threads no no.0 ∙ ap (λ (t : Bool). is_number_of threads no.0 || t) (eqb_itself no.0) ∙ or_true (is_number_of threads no.0))
-      ∙ and_false (free no.0)
+      let same : (posted In is.value).no.0 ≡ whom.0 = ap (λ (t : ThreadNo). t.0) (left_no In b c mid are whom is) in
+      ap (free_but (threads ++ whom ∷ []) free) same
+      ∙ ap (λ (t : Bool). free whom.0 && not t) (number_more threads whom whom.0 ∙ ap (λ (t : Bool). is_number_of threads whom.0 || t) (eqb_itself whom.0) ∙ or_true (is_number_of threads whom.0))
+      ∙ and_false (free whom.0)
       ∙ sym (ap (λ (t : Bool). is_free t (posted In is.value)) absent);
     others = λ number apart.
-      let differs : (no.0 == number) ≡ false = not_same number (λ e. apart (sym e ∙ sym (ap (λ (t : ThreadNo). t.0) (left_no In b c mid are no is)))) in
-      ap (λ (t : Bool). free number && not t) (number_more threads no number ∙ ap (λ (t : Bool). is_number_of threads number || t) differs ∙ or_false (is_number_of threads number));
+      let differs : (whom.0 == number) ≡ false = not_same number (λ e. apart (sym e ∙ sym (ap (λ (t : ThreadNo). t.0) (left_no In b c mid are whom is)))) in
+      ap (λ (t : Bool). free number && not t) (number_more threads whom number ∙ ap (λ (t : Bool). is_number_of threads number || t) differs ∙ or_false (is_number_of threads number));
   }
     where
       or_true : (b : Bool) → (b || true) ≡ true
@@ -131,15 +131,15 @@ module _ (threads : List ThreadNo) (a b c : Held) (was mid are : Sets) (no : Thr
       and_false true = refl
       and_false false = refl
 
-      not_same : (number : ℕ) → (no.0 ≡ number → ⊥) → (no.0 == number) ≡ false
-      not_same number apart = by (no.0 == number) refl
+      not_same : (number : ℕ) → (whom.0 ≡ number → ⊥) → (whom.0 == number) ≡ false
+      not_same number apart = by (whom.0 == number) refl
         where
-          by : (t : Bool) → (no.0 == number) ≡ t → t ≡ false
-          by true test = absurd (apart (eqb-true no.0 number test))
+          by : (t : Bool) → (whom.0 == number) ≡ t → t ≡ false
+          by true test = absurd (apart (eqb-true whom.0 number test))
           by false test = refl
 
-  found_there : (all : List FlatThread) → ((n : ThreadNo) → slice_get all n.0 ≡ thread_of (content_of a.contents (name.Thread n))) → slice_get all no.0 ≡ thread_of (content_of b.contents (name.Thread no))
-  found_there all found = found no ∙ sees (is_of threads (name.Thread no)) (content_of a.contents (name.Thread no)) ∙ sym (ap thread_of (off.contents (name.Thread no)))
+  found_there : (all : List FlatThread) → ((n : ThreadNo) → slice_get all n.0 ≡ thread_of (content_of a.contents (name.Thread n))) → slice_get all whom.0 ≡ thread_of (content_of b.contents (name.Thread whom))
+  found_there all found = found whom ∙ sees (is_of threads (name.Thread whom)) (content_of a.contents (name.Thread whom)) ∙ sym (ap thread_of (off.contents (name.Thread whom)))
     where
       sees : (t : Bool) (o : Option Item) → thread_of o ≡ thread_of (if t then option_map unmarked o else o)
       sees false o = refl
@@ -150,14 +150,14 @@ module _ (threads : List ThreadNo) (a b c : Held) (was mid are : Sets) (no : Thr
       sees true (Some (item.Mapping row)) = refl
 
   -- one more is seen off
-  pub one_more_off : AreSeenOff (threads ++ no ∷ []) a c was are
+  pub one_more_off : AreSeenOff (threads ++ whom ∷ []) a c was are
   one_more_off = record {
     only = only_onward a b c off.only is.only;
-    shows = λ machine memory. post_shows In b c mid are no is machine memory ∙ off.shows machine memory;
+    shows = λ machine memory. post_shows In b c mid are whom is machine memory ∙ off.shows machine memory;
     contents = more_contents;
     sets_room = ap (λ (s : Sets). s.room) is.sets ∙ off.sets_room;
     as_long = ap (λ (s : Sets). length s.completable) is.sets ∙ length-set mid.completable (posted In is.value).no.0 _ ∙ off.as_long;
-    sets = λ all free found of. post_sets In b c mid are no is all (free_but threads free) (free_but (threads ++ no ∷ []) free) (found_there all found) (frees free) (off.sets all free found of);
+    sets = λ all free found of. post_sets In b c mid are whom is all (free_but threads free) (free_but (threads ++ whom ∷ []) free) (found_there all found) (frees free) (off.sets all free found of);
   }
 
 -- at first none is

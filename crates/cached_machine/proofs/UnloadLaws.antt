@@ -59,10 +59,10 @@ module _ (machine : Machine) (memory : List ℕ) (h left : Held) (sets : Sets) (
   rs = residents_of h.contents
 
   -- who left isn't loaded
-  away : (no : ThreadNo) → Contains threads no → is_loaded left.contents (name.Thread no) ≡ false
-  away no among =
-      ap (λ (all : List Resident). list_any (λ (r : Resident). is_name (name.Thread no) r.name) all) residents
-      ∙ not_loaded (without_all (idents_of left.gone) rs) (name.Thread no) (left_is_absent h.caps h.contents pairs whole root there left.gone group seats tended.seated no among)
+  away : (whom : ThreadNo) → Contains threads whom → is_loaded left.contents (name.Thread whom) ≡ false
+  away whom among =
+      ap (λ (all : List Resident). list_any (λ (r : Resident). is_name (name.Thread whom) r.name) all) residents
+      ∙ not_loaded (without_all (idents_of left.gone) rs) (name.Thread whom) (left_is_absent h.caps h.contents pairs whole root there left.gone group seats tended.seated whom among)
 
   -- so it can be seen off
   pub can_be_seen_off : HaveLeft left sets seats
@@ -90,24 +90,24 @@ module _ (machine : Machine) (memory : List ℕ) (h left : Held) (sets : Sets) (
 
     have_gone : HaveGone threads h.contents new.contents
     have_gone = record {
-      contents = λ no. off.contents (name.Thread no) ∙ ap (λ (o : Option Item). if is_of threads (name.Thread no) then option_map unmarked o else o) (threads_kept h.contents left.contents kept.contents no);
-      absent = λ no test.
-        let one = one_of threads (name.Thread no) test in
-        let same : one.0 ≡ no = by one.0 one.2 in
-        loaded_of_same left.contents new.contents off.only.residents (name.Thread no) ∙ away no (subst (λ (n : ThreadNo). Contains threads n) same one.1);
+      contents = λ whom. off.contents (name.Thread whom) ∙ ap (λ (o : Option Item). if is_of threads (name.Thread whom) then option_map unmarked o else o) (threads_kept h.contents left.contents kept.contents whom);
+      absent = λ whom test.
+        let one = one_of threads (name.Thread whom) test in
+        let same : one.0 ≡ whom = by one.0 one.2 in
+        loaded_of_same left.contents new.contents off.only.residents (name.Thread whom) ∙ away whom (subst (λ (n : ThreadNo). Contains threads n) same one.1);
     }
       where
-        by : {no : ThreadNo} (one : ThreadNo) → name.Thread one ≡ name.Thread no → one ≡ no
+        by : {whom : ThreadNo} (one : ThreadNo) → name.Thread one ≡ name.Thread whom → one ≡ whom
         by one e = cc e
 
     -- all other threads are loaded as before
-    others_are : (no : ThreadNo) → is_of threads (name.Thread no) ≡ false → is_loaded new.contents (name.Thread no) ≡ is_loaded h.contents (name.Thread no)
-    others_are no test =
-        ap (λ (all : List Resident). list_any (λ (r : Resident). is_name (name.Thread no) r.name) all) all_residents
-        ∙ others_loaded h.caps h.contents pairs whole root there left.gone group seats tended.seated no test
+    others_are : (whom : ThreadNo) → is_of threads (name.Thread whom) ≡ false → is_loaded new.contents (name.Thread whom) ≡ is_loaded h.contents (name.Thread whom)
+    others_are whom test =
+        ap (λ (all : List Resident). list_any (λ (r : Resident). is_name (name.Thread whom) r.name) all) all_residents
+        ∙ others_loaded h.caps h.contents pairs whole root there left.gone group seats tended.seated whom test
 
-    others_absent : (no : ThreadNo) → is_of threads (name.Thread no) ≡ false → is_loaded new.contents (name.Thread no) ≡ false → is_loaded h.contents (name.Thread no) ≡ false
-    others_absent no test absent = sym (others_are no test) ∙ absent
+    others_absent : (whom : ThreadNo) → is_of threads (name.Thread whom) ≡ false → is_loaded new.contents (name.Thread whom) ≡ false → is_loaded h.contents (name.Thread whom) ≡ false
+    others_absent whom test absent = sym (others_are whom test) ∙ absent
 
     pub unload_state : state_of after ≡ state_of before
     unload_state = off_shows ∙ kept.shows (Some machine) memory
@@ -118,8 +118,8 @@ module _ (machine : Machine) (memory : List ℕ) (h left : Held) (sets : Sets) (
     pub unload_marks : HasLoadedMarks h.contents new.contents
     unload_marks = loaded_marks threads h.contents new.contents have_gone tended.marks others_absent
 
-    found : (no : ThreadNo) → slice_get (state_of before).threads no.0 ≡ thread_of (content_of left.contents (name.Thread no))
-    found no = (all_found (Some machine) memory h.contents whole.one).threads no.0 ∙ ap thread_of (sym (threads_kept h.contents left.contents kept.contents no))
+    found : (whom : ThreadNo) → slice_get (state_of before).threads whom.0 ≡ thread_of (content_of left.contents (name.Thread whom))
+    found whom = (all_found (Some machine) memory h.contents whole.one).threads whom.0 ∙ ap thread_of (sym (threads_kept h.contents left.contents kept.contents whom))
 
     pub unload_sound : IsSound after granted
     unload_sound = record {
@@ -135,7 +135,7 @@ module _ (machine : Machine) (memory : List ℕ) (h left : Held) (sets : Sets) (
     pub unload_tended : IsTended new seats (loaded - length left.gone)
     unload_tended = record {
       slots = tended.slots ∙ ap (λ (c : Caps). c.threads) (sym (ap (λ (x : Held). x.caps) off.only.rest ∙ caps));
-      seated = λ r no among named. tended.seated r no (without_all_cases (idents_of left.gone) rs r (subst (λ (all : List Resident). Contains all r) all_residents among)).0 named;
+      seated = λ r whom among named. tended.seated r whom (without_all_cases (idents_of left.gone) rs r (subst (λ (all : List Resident). Contains all r) all_residents among)).0 named;
       marks = marks_gone threads h.contents new.contents have_gone tended.marks others_absent;
       count =
         let all = all_counted h.caps h.contents pairs whole root there (idents_of left.gone) group in

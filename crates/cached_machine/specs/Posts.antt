@@ -38,14 +38,14 @@ last_in (Some (item.Thread thread)) = thread.last
 last_in _ = 0
 
 abbrev pub mark_of : Contents → ThreadNo → Option ℕ
-mark_of c no = mark_in (content_of c (name.Thread no))
+mark_of c whom = mark_in (content_of c (name.Thread whom))
 
 abbrev pub last_of : Contents → ThreadNo → ℕ
-last_of c no = last_in (content_of c (name.Thread no))
+last_of c whom = last_in (content_of c (name.Thread whom))
 
 -- what is said of each thread, with something else said of one
 abbrev pub but_at : {T : Type 0} → ThreadNo → T → (ThreadNo → T) → ThreadNo → T
-but_at no said f other = if other.0 == no.0 then said else f other
+but_at whom said f other = if other.0 == whom.0 then said else f other
 
 -- a thread as it goes to a processor, or comes back from one
 abbrev pub posted : Post → ThreadRec → ThreadRec
