@@ -1,4 +1,4 @@
 use Rattle.flat_machine.proofs.changes.carry_out_of.Goals as goal
 
-pub returns-in_ok-carry_out-clause-ok : goal.returns-in_ok-carry_out-clause-ok
-returns-in_ok-carry_out-clause-ok c = c.in_ok-carry_out.ensures.ok c.args.thread.now.space c.args.thread.now.priority
+pub returns-clause-ok : goal.returns-clause-ok
+returns-clause-ok c = c.in_ok-carry_out.ensures.ok c.args.thread.now.space c.args.thread.now.priority
