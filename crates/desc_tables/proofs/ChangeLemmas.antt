@@ -35,21 +35,22 @@ use Rattle.group_laws.proofs.Ranks.{own_row}
 use Rattle.kind_store.specs.Changes.{is_name}
 use Rattle.desc_stores.specs.declared.items.Item.{Item}
 use Rattle.desc_stores.specs.declared.items.Item.TheVariants as item
-use Rattle.desc_stores.specs.Changes.{with_item, HasContent, KeepsContents}
+use Rattle.desc_stores.specs.Changes.{with_item, with_named, HasContent, KeepsContents}
 use Rattle.desc_stores.specs.Contents.{content_of, item_as, residents_of, Contents}
 use Rattle.desc_stores.specs.Items.{name_of, Agrees}
 use Rattle.desc_stores.specs.Sound.{AreOwned, IsExactlyOne}
 use Rattle.owner_shelf.proofs.NameLemmas.{same_by_eq}
-use Rattle.shown_state.specs.Shown.{flat_thread, row_of_item, shown, thread_of}
+use Rattle.shown_state.specs.Shown.{flat_thread, row_of_item, shown, thread_of, HasSameNames}
 use Rattle.shown_state.specs.Edits.{in_place_of, with_changed}
 use Rattle.shown_state.specs.Owning.{OwnersStay}
 use Rattle.shown_state.proofs.AlikeLemmas.{alike_kept, shown_alike}
 use Rattle.shown_state.proofs.ChangeLemmas.{change_shown}
-use Rattle.shown_state.proofs.ContentLemmas.{named_by_page}
+use Rattle.shown_state.proofs.ContentLemmas.{item_has_name, named_by_page}
 use Rattle.shown_state.proofs.LookupLemmas.{found_row, found_thread, one_row_a_page}
 use Rattle.shown_state.proofs.MoveLemmas.{names_changed}
 use Rattle.shown_state.proofs.OwnerLemmas.{owners_row, owners_thread, stays_owned}
 use Rattle.shown_state.proofs.UpdateLemmas.{agreed_name, loaded_content}
+use Rattle.store_residents.specs.Slots.{KeepsSlots}
 use Rattle.store_residents.proofs.StayLemmas.{slots-changing}
 use Rattle.desc_parents.specs.Seen.{seen, HasPlainRows}
 use Rattle.desc_groups.specs.declared.departures.Gone.{Gone}
@@ -57,6 +58,7 @@ use Rattle.desc_tables.specs.Calls.{IsLike}
 use Rattle.desc_tables.specs.Tables.{ArePlaced, AreSound}
 use Rattle.desc_tables.proofs.LikeLemmas.{fit_there, like_for, KeepsLoaded}
 use Rattle.desc_tables.proofs.ListLemmas.{count_by-changed, find-changed, map-filter-changed}
+use Rattle.desc_tables.proofs.NamedLemmas.{names_named, slots_named}
 use Rattle.desc_tables.proofs.SoundLemmas.{sound_kept, sound_like, IsLikeFor, RoomIn}
 
 -- what is like agrees
@@ -197,25 +199,21 @@ module _ (s : FlatState) (single : HasOneRowAPage s.rows) (was now : Row) (here 
         subst (λ (space : SpaceNo). space.0 < length s.spaces) (sym (alike from.0 from.1).space ∙ ap (λ (y : Row). y.space) from.2) (placed.rows from.0 from.1);
   }
 
-module _ (caps : Caps) (old new : Contents) (gone : List Gone) (pairs : List (Ident × Node)) (sound : AreSound (record { caps = caps; contents = old; gone = gone }) pairs) (one : IsExactlyOne new) (residents : residents_of new ≡ residents_of old) (ident : Ident) where
+-- a content of one name came in the place of another, while the same names stand, in as many slots
+module _ (caps : Caps) (old new : Contents) (gone : List Gone) (pairs : List (Ident × Node)) (sound : AreSound (record { caps = caps; contents = old; gone = gone }) pairs) (one : IsExactlyOne new) (residents : residents_of new ≡ residents_of old) (names : HasSameNames old new) (slots : KeepsSlots old new) (owned : AreOwned (owner (seen old)) new) where
   -- where the same content came
-  same_item : (it : Item) → content_of old (name_of it) ≡ Some it → HasContent old new it → new ≡ with_item old ident it → AreSound (record { caps = caps; contents = new; gone = gone }) pairs
-  same_item it there has is =
+  same_item : (it : Item) → content_of old (name_of it) ≡ Some it → HasContent old new it → AreSound (record { caps = caps; contents = new; gone = gone }) pairs
+  same_item it there has =
       let keeps = same_contents old new it there has in
-      sound_kept caps old new gone pairs sound one (slots-changing old new ident it is) residents
-      (shown_alike None [] old new (alike_kept old new keeps (names_changed old new ident it is)))
-      keeps
-      (subst (AreOwned (owner (seen old))) (sym is) (owned_item (owner (seen old)) old ident it sound.whole.owned))
+      sound_kept caps old new gone pairs sound one slots residents (shown_alike None [] old new (alike_kept old new keeps names)) keeps owned
 
   -- where one came that is no kernel, after which owners stay
-  module _ (it : Item) (there : IsSome (content_of old (name_of it))) (has : HasContent old new it) (is : new ≡ with_item old ident it) where
+  module _ (it : Item) (there : IsSome (content_of old (name_of it))) (has : HasContent old new it) where
     shows : seen new ≡ with_changed (seen old) it
-    shows = change_shown None [] old new sound.whole.one (names_changed old new ident it is) it has there
+    shows = change_shown None [] old new sound.whole.one names it has there
 
     owned_changed : OwnersStay (seen old) (with_changed (seen old) it) → AreOwned (owner (seen new)) new
-    owned_changed stay =
-        stays_owned new (owner (seen old)) (owner (seen new)) (λ n kernel some at. subst (λ (s : FlatState). owner s n ≡ Some kernel) (sym shows) (stay n kernel at))
-        (subst (AreOwned (owner (seen old))) (sym is) (owned_item (owner (seen old)) old ident it sound.whole.owned))
+    owned_changed stay = stays_owned new (owner (seen old)) (owner (seen new)) (λ n kernel some at. subst (λ (s : FlatState). owner s n ≡ Some kernel) (sym shows) (stay n kernel at)) owned
 
     -- a kernel has the content that it had
     kernel_kept : ((kernel : KernelRec) → it ≡ item.Kernel kernel → ⊥) → (n : Name) (kernel : KernelRec) → content_of new n ≡ Some (item.Kernel kernel) → content_of old n ≡ Some (item.Kernel kernel)
@@ -227,7 +225,7 @@ module _ (caps : Caps) (old new : Contents) (gone : List Gone) (pairs : List (Id
 
     changed : ((kernel : KernelRec) → it ≡ item.Kernel kernel → ⊥) → OwnersStay (seen old) (with_changed (seen old) it) → HasPlainRows (with_changed (seen old) it) → KeepsLoaded (seen old) (with_changed (seen old) it) (residents_of old) → RoomIn caps (with_changed (seen old) it) → ArePlaced (with_changed (seen old) it) → AreSound (record { caps = caps; contents = new; gone = gone }) pairs
     changed none stay plain keeps room placed =
-        sound_like caps old new gone pairs sound one (slots-changing old new ident it is) residents
+        sound_like caps old new gone pairs sound one slots residents
         (subst HasPlainRows (sym shows) plain)
         (subst (λ (s : FlatState). IsLikeFor (seen old) s (residents_of old)) (sym shows) (like_for (seen old) (with_changed (seen old) it) (residents_of old) sound.whole.good keeps))
         (owned_changed stay)
@@ -237,40 +235,60 @@ module _ (caps : Caps) (old new : Contents) (gone : List Gone) (pairs : List (Id
         (subst ArePlaced (sym shows) placed)
 
   -- whatever came that is like what was there
-  pub sound_changed : (was it : Item) → item_as old ident ≡ Some was → IsLike was it → HasContent old new it → new ≡ with_item old ident it → AreSound (record { caps = caps; contents = new; gone = gone }) pairs
-  sound_changed (item.Kernel was) (item.Kernel kernel) at like has is =
-      let there = loaded_content old sound.whole.one ident (item.Kernel was) at in
-      same_item (item.Kernel kernel) (subst (λ (k : KernelRec). content_of old (name_of (item.Kernel k)) ≡ Some (item.Kernel k)) like there) has is
-  sound_changed (item.Space was) (item.Space space) at like has is =
-      let there = loaded_content old sound.whole.one ident (item.Space was) at in
-      same_item (item.Space space) (subst (λ (k : SpaceRec). content_of old (name_of (item.Space k)) ≡ Some (item.Space k)) like there) has is
-  sound_changed (item.Thread was) (item.Thread thread) at like has is =
-      let there = loaded_content old sound.whole.one ident (item.Thread was) at in
+  pub sound_replaced : (was it : Item) → content_of old (name_of was) ≡ Some was → IsLike was it → HasContent old new it → AreSound (record { caps = caps; contents = new; gone = gone }) pairs
+  sound_replaced (item.Kernel was) (item.Kernel kernel) there like has = same_item (item.Kernel kernel) (subst (λ (k : KernelRec). content_of old (name_of (item.Kernel k)) ≡ Some (item.Kernel k)) like there) has
+  sound_replaced (item.Space was) (item.Space space) there like has = same_item (item.Space space) (subst (λ (k : SpaceRec). content_of old (name_of (item.Space k)) ≡ Some (item.Space k)) like there) has
+  sound_replaced (item.Thread was) (item.Thread thread) there like has =
       let found : content_of old (name.Thread thread.no) ≡ Some (item.Thread was) = ap (λ (no : ThreadNo). content_of old (name.Thread no)) (sym like.0) ∙ there in
       let here : slice_get (seen old).threads thread.no.0 ≡ Some (flat_thread was) = found_thread None [] old sound.whole.one thread.no.0 ∙ ap thread_of found in
-      changed (item.Thread thread) (subst (λ o. IsSome o) (sym found) refl) has is
+      changed (item.Thread thread) (subst (λ o. IsSome o) (sym found) refl) has
       (λ kernel clash. (cc))
       (owners_thread (seen old) thread (flat_thread was) here like.1)
       (record { agreed = sound.whole.rows.agreed; framed = sound.whole.rows.framed; few = sound.whole.rows.few })
       (keeps_thread (seen old) (residents_of old) sound.whole.good thread.no.0 (flat_thread was) (flat_thread thread) here like.1)
       sound.room
       (record { spaces = sound.placed.spaces; rows = sound.placed.rows })
-  sound_changed (item.Mapping was) (item.Mapping row) at like has is =
-      let there = loaded_content old sound.whole.one ident (item.Mapping was) at in
+  sound_replaced (item.Mapping was) (item.Mapping row) there like has =
       let found : content_of old (row_name row) ≡ Some (item.Mapping was) = ap (content_of old) (sym like.0) ∙ there in
       let here : row_of (seen old).rows was.space was.vpn.0 ≡ Some was = found_row None [] old sound.whole.one was.space was.vpn ∙ ap row_of_item there in
       let single = one_row_a_page None [] old sound.whole.one in
-      changed (item.Mapping row) (subst (λ o. IsSome o) (sym found) refl) has is
+      changed (item.Mapping row) (subst (λ o. IsSome o) (sym found) refl) has
       (λ kernel clash. (cc))
       (owners_row (seen old) row)
       (plain_changed (seen old) single was row here like.0 like.1 like.2 like.3 sound.whole.rows)
       (keeps_row (seen old) single was row here like.0 like.1 like.2 like.3 (residents_of old) sound.whole.good)
       sound.room
       (placed_changed (seen old) single was row here like.0 like.1 like.2 like.3 sound.placed)
-  sound_changed _ _ at like has is = absurd like
+  sound_replaced _ _ there like has = absurd like
 
 -- what is shown then, whatever the machine
-pub shown_changed : (old new : Contents) (ident : Ident) (was it : Item) → IsExactlyOne old → item_as old ident ≡ Some was → IsLike was it → HasContent old new it → new ≡ with_item old ident it → (machine : Option Machine) (memory : List ℕ) → shown machine memory new ≡ with_changed (shown machine memory old) it
-shown_changed old new ident was it one at like has is machine memory =
-    change_shown machine memory old new one (names_changed old new ident it is) it has
-    (subst (λ (o : Option Item). IsSome o) (sym (loaded_content old one ident was at) ∙ ap (content_of old) (agreed_name was it (like_agrees was it like))) refl)
+pub shown_replaced : (old new : Contents) (was it : Item) → IsExactlyOne old → HasSameNames old new → content_of old (name_of was) ≡ Some was → IsLike was it → HasContent old new it → (machine : Option Machine) (memory : List ℕ) → shown machine memory new ≡ with_changed (shown machine memory old) it
+shown_replaced old new was it one names there like has machine memory =
+    change_shown machine memory old new one names it has
+    (subst (λ (o : Option Item). IsSome o) (sym there ∙ ap (content_of old) (agreed_name was it (like_agrees was it like))) refl)
+
+-- once one came in the place of what is loaded with an identifier
+module _ (old new : Contents) (ident : Ident) (was it : Item) (at : item_as old ident ≡ Some was) (like : IsLike was it) (has : HasContent old new it) (is : new ≡ with_item old ident it) where
+  pub sound_changed : (caps : Caps) (gone : List Gone) (pairs : List (Ident × Node)) → AreSound (record { caps = caps; contents = old; gone = gone }) pairs → IsExactlyOne new → residents_of new ≡ residents_of old → AreSound (record { caps = caps; contents = new; gone = gone }) pairs
+  sound_changed caps gone pairs sound one residents =
+      sound_replaced caps old new gone pairs sound one residents (names_changed old new ident it is) (slots-changing old new ident it is)
+      (subst (AreOwned (owner (seen old))) (sym is) (owned_item (owner (seen old)) old ident it sound.whole.owned))
+      was it (loaded_content old sound.whole.one ident was at) like has
+
+  pub shown_changed : IsExactlyOne old → (machine : Option Machine) (memory : List ℕ) → shown machine memory new ≡ with_changed (shown machine memory old) it
+  shown_changed one machine memory = shown_replaced old new was it one (names_changed old new ident it is) (loaded_content old one ident was at) like has machine memory
+
+-- once one came in the place of the content of a name
+module _ (old new : Contents) (n : Name) (was it : Item) (at : content_of old n ≡ Some was) (like : IsLike was it) (has : HasContent old new it) (is : new ≡ with_named old it) where
+  found_named : content_of old (name_of was) ≡ Some was
+  found_named = ap (content_of old) (item_has_name old n was at) ∙ at
+
+  pub sound_named : (caps : Caps) (gone : List Gone) (pairs : List (Ident × Node)) → AreSound (record { caps = caps; contents = old; gone = gone }) pairs → IsExactlyOne new → residents_of new ≡ residents_of old → AreOwned (owner (seen old)) new → AreSound (record { caps = caps; contents = new; gone = gone }) pairs
+  sound_named caps gone pairs sound one residents owned = sound_replaced caps old new gone pairs sound one residents (names_named old new it is) (slots_named old new it is) owned was it found_named like has
+
+  pub shown_named : IsExactlyOne old → (machine : Option Machine) (memory : List ℕ) → shown machine memory new ≡ with_changed (shown machine memory old) it
+  shown_named one machine memory = shown_replaced old new was it one (names_named old new it is) found_named like has machine memory
+
+  -- it has the name
+  pub called_named : name_of it ≡ n
+  called_named = sym (agreed_name was it (like_agrees was it like)) ∙ item_has_name old n was at

@@ -13,6 +13,7 @@ mod RoomLemmas
 mod NewLemmas
 mod ListLemmas
 mod LikeLemmas
+mod NamedLemmas
 mod ChangeLemmas
 mod RightsLemmas
 mod RetractLemmas

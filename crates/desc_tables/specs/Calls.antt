@@ -1,5 +1,5 @@
 -- When a call may be made, and what it leaves.
-use Rattle.std.specs.Prelude.{◌≡◌, ℕ, ◌+◌, ◌<◌, ◌≤◌, true, Bool, if◌then◌else◌, is_some, List, count_by, slice_set, Contains, Some, None, IsSome}
+use Rattle.std.specs.Prelude.{◌≡◌, ℕ, ◌+◌, ◌<◌, ◌≤◌, true, Bool, if◌then◌else◌, is_some, List, count_by, slice_set, Contains, Option, Some, None, IsSome}
 use Rattle.cache_ident.specs.declared.idents.Ident.{Ident}
 use Rattle.cache_ident.specs.declared.idents.Kind.{Kind}
 use Rattle.cache_ident.specs.declared.names.Caps.{Caps}
@@ -12,6 +12,7 @@ use Rattle.phys_groups.specs.declared.rows.Row.{Row}
 use Rattle.phys_groups.specs.Rows.{row_name}
 use Rattle.signal_pages.specs.Signals.{is_signal_row_of}
 use Rattle.flat_state.specs.declared.events.Decl.TheVariants as decls
+use Rattle.flat_state.specs.declared.events.Machine.{Machine}
 use Rattle.flat_state.specs.Declaration.{agree, declared, is_receiver_in, locks_granted}
 use Rattle.flat_state.specs.Dependence.{owner, Depends}
 use Rattle.flat_state.specs.Names.{is_fit_name}
@@ -22,9 +23,11 @@ use Rattle.run_journal.specs.Legal.{is_kind}
 use Rattle.kernel_cache.specs.declared.KernelRec.{KernelRec}
 use Rattle.desc_stores.specs.declared.items.Item.{Item}
 use Rattle.desc_stores.specs.declared.items.Item.TheVariants as item
-use Rattle.desc_stores.specs.Changes.{IsNext}
+use Rattle.desc_stores.specs.Changes.{with_named, HasContent, IsNext}
 use Rattle.desc_stores.specs.Contents.{content_of, residents_of, IsFullOf, IsShelved, Contents}
 use Rattle.desc_stores.specs.Items.{name_of}
+use Rattle.shown_state.specs.Shown.{shown}
+use Rattle.shown_state.specs.Edits.{with_changed}
 use Rattle.store_residents.specs.Victims.{IsOldest}
 use Rattle.desc_parents.specs.Seen.{seen}
 use Rattle.desc_groups.specs.Moves.{HasPlaces}
@@ -99,6 +102,18 @@ IsLike (item.Space was) (item.Space space) = was ≡ space
 IsLike (item.Thread was) (item.Thread thread) = (was.no ≡ thread.no) × (was.space ≡ thread.space)
 IsLike (item.Mapping was) (item.Mapping row) = (row_name was ≡ row_name row) × (was.frame ≡ row.frame) × (was.flags ≡ row.flags) × (was.receiver ≡ row.receiver)
 IsLike _ _ = ⊥
+
+-- a call with the content of a name, which is one of a kind, gave that result, and what it left of the content stands in its
+-- place, under that name, and is shown in it
+pub record IsUpdated {T R : Type 0} (of_kind : T → Item) (call : T → R → T → Type 0) (old new : Contents) (named : Name) (result : R) : Type 0 where
+  pub value : T
+  pub was : content_of old named ≡ Some (of_kind value)
+  pub left : T
+  pub called_with : call value result left
+  pub has_name : name_of (of_kind left) ≡ named
+  pub contents : HasContent old new (of_kind left)
+  pub shows : (machine : Option Machine) (memory : List ℕ) → shown machine memory new ≡ with_changed (shown machine memory old) (of_kind left)
+  pub is : new ≡ with_named old (of_kind left)
 
 -- a kernel with those rights on a group
 abbrev pub with_right : ℕ → Bool × Bool → KernelRec → KernelRec

@@ -4,10 +4,12 @@
 #![tactic(auto)]
 
 mod admits;
+mod names;
 mod tables;
 #[cfg(test)]
 mod tests;
 
 pub use desc_groups::Gone;
 pub use desc_stores::{Item, ItemRef};
+pub use names::Names;
 pub use tables::Tables;

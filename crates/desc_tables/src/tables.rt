@@ -1,12 +1,13 @@
 //! Caches, shelves and what depends on what, as one.
 
-ghost use Rattle.std.specs.Prelude.{◌≡◌, ◌+◌, ◌<◌, ◌≤◌, ◌^◌, ◌∷◌, [], ◌++◌, ◌↔◌, ℕ, length, filter, not, true, false, List, Option, Some, IsSome, IfOk, IfSome, IfNone, OnOk, OnErr, IsOk, IsTrue, Contains, vec_capacity};
+ghost use Rattle.std.specs.Prelude.{◌≡◌, ◌≢◌, AllPairs, ◌+◌, ◌<◌, ◌≤◌, ◌^◌, ◌∷◌, [], ◌++◌, ◌↔◌, ℕ, length, filter, not, true, false, List, Option, Some, IsSome, IfOk, IfSome, IfNone, OnOk, OnErr, IsOk, IsTrue, Contains, vec_capacity};
 ghost use Rattle.desc_tables.specs.Tables.{AreSound};
+ghost use Rattle.std.specs.Fn.{FnOnceReturnsAtMut};
 ghost use Rattle.std.specs.Option.{option_map};
 ghost use Rattle.cache_ident.specs.Rolls.{standing_in, just_issued};
 ghost use Rattle.cache_ident.specs.declared.idents.Standing.TheVariants.{Live};
 ghost use Rattle.cache_ident.specs.declared.idents.Cause.TheVariants.{Displaced, Unloaded};
-ghost use Rattle.cache_ident.specs.declared.idents.Kind.TheVariants.{Mapping};
+ghost use Rattle.cache_ident.specs.declared.idents.Kind.TheVariants.{Mapping, Thread};
 ghost use Rattle.cache_ident.specs.declared.names.KernelNo.{KernelNo};
 ghost use Rattle.cache_ident.specs.declared.names.Name.{Name};
 ghost use Rattle.cache_ident.specs.Names.{kind_of, amount_of};
@@ -18,6 +19,8 @@ ghost use Rattle.flat_state.specs.Dependence.{owner};
 ghost use Rattle.flat_state.specs.declared.events.Machine.{Machine};
 ghost use Rattle.run_journal.specs.Groups.{IsGroup};
 ghost use Rattle.run_journal.specs.Legal.{AreGood, IsTaken};
+ghost use Rattle.phys_groups.specs.declared.rows.Row.{Row};
+ghost use Rattle.thread_cache.specs.declared.ThreadRec.{ThreadRec};
 ghost use Rattle.kernel_cache.specs.declared.KernelRec.{KernelRec};
 ghost use Rattle.desc_stores.specs.Items as items;
 ghost use Rattle.desc_stores.specs.Contents.{content_of, residents_of, item_as, names_of, IsShelved, IsFullOf, LockIs};
@@ -26,15 +29,17 @@ ghost use Rattle.desc_stores.specs.Changes.{HasContent, HasNoContent, room_of, O
 ghost use Rattle.desc_stores.specs.Sound.{AreOwned, IsExactlyOne};
 ghost use Rattle.shown_state.specs.Shown.{shown};
 ghost use Rattle.shown_state.specs.Edits.{with_new, with_changed};
+ghost use Rattle.store_residents.specs.Frames.{IsResidentOn};
 ghost use Rattle.store_residents.specs.Victims.{IsOldest};
 ghost use Rattle.group_laws.specs.Leaving.{without_all};
 ghost use Rattle.desc_parents.specs.Seen.{seen};
 ghost use Rattle.desc_groups.specs.Moves.{HasPlaces, but_for_counts, KeepsButCounts, MayBeLocked, gone_as, departed_all, idents_of};
-ghost use Rattle.desc_tables.specs.Calls.{HasPlacesFor, MayBeDeclared, MayBeLoaded, IsReady, IsLike, with_right, with_rights, IsOfWhatStands, OwnsNew};
+ghost use Rattle.desc_tables.specs.Calls.{HasPlacesFor, MayBeDeclared, MayBeLoaded, IsReady, IsLike, IsUpdated, with_right, with_rights, IsOfWhatStands, OwnsNew};
 ghost use Rattle.row_store.specs.Kept.{signal_names};
 ghost use Rattle.kind_store.specs.Changes.{is_name};
 
 use crate::admits;
+use crate::names::Names;
 use cache_ident::{Caps, Cause, Frame, Ident, KernelNo, Kind, Name, NoMemory, SpaceNo, Standing};
 use depend_lists::most_loaded;
 use desc_groups::{Gone, enter, leave, lock, unlock};
@@ -45,8 +50,10 @@ use kernel_cache::KernelRec;
 use phys_groups::Row;
 use resident_pairs::ResidentPairs;
 use row_store::SignalRows;
+use sorted_list::Run;
 use std::alloc::Global;
 use std::marker::Model;
+use thread_cache::ThreadRec;
 
 /// All descriptors that stand, each loaded in the cache of its kind or on the shelf of its owner.
 ///
@@ -58,6 +65,8 @@ use std::marker::Model;
 /// logarithmic in what is there.
 #[derive(Drop)]
 pub struct Tables {
+    // Those of the pairs.
+    caps: Caps,
     stores: Stores,
     pairs: ResidentPairs,
     // There is room for all that the capacities allow.
@@ -65,7 +74,7 @@ pub struct Tables {
 }
 
 impl Model for Tables {
-    ghost use Rattle.std.specs.Prelude.{◌≤◌, vec_capacity};
+    ghost use Rattle.std.specs.Prelude.{◌≡◌, ◌≤◌, vec_capacity};
     ghost use Rattle.depend_lists.specs.Pairs.{count_of};
     ghost use Rattle.desc_tables.specs.Tables.{AreSound, Held};
 
@@ -73,7 +82,7 @@ impl Model for Tables {
 
     ghost view = { λ t. record { caps = t.pairs.caps; contents = t.stores; gone = t.gone.items } };
 
-    ghost invariant = { λ t. AreSound (record { caps = t.pairs.caps; contents = t.stores; gone = t.gone.items }) t.pairs.pairs × (count_of t.pairs.caps ≤ vec_capacity t.gone) };
+    ghost invariant = { λ t. AreSound (record { caps = t.pairs.caps; contents = t.stores; gone = t.gone.items }) t.pairs.pairs × (count_of t.pairs.caps ≤ vec_capacity t.gone) × (t.caps ≡ t.pairs.caps) };
 }
 
 impl Tables {
@@ -88,6 +97,7 @@ impl Tables {
         let stores = Stores::new(alloc, caps)?;
         each_is_one(&stores);
         Ok(Tables {
+            caps,
             stores,
             pairs,
             gone,
@@ -164,6 +174,13 @@ impl Tables {
         let reserved = self.stores.reserve(n);
         each_is_one(&self.stores);
         reserved
+    }
+
+    /// The capacities, with which it was made. Constant time.
+    pub fn caps(&self) -> Caps
+        ensures { result ≡ self.now.caps }
+    {
+        self.caps
     }
 
     /// How many identifiers can be issued without memory. Constant time.
@@ -331,6 +348,13 @@ impl Tables {
         self.stores.item(name)
     }
 
+    /// The content that is loaded with an identifier; `None` where it isn't loaded. Constant time.
+    pub fn get(&self, ident: Ident) -> Option<ItemRef<'_>>
+        ensures { option_map items.shown result ≡ item_as self.now.contents ident }
+    {
+        self.stores.get(ident)
+    }
+
     /// Puts a content in the place of the one that is loaded with an identifier, and gives the old one back. The two may
     /// differ in a thread's registers, status, priority, queue, output, processor and last checkout, and in a row's marks.
     /// Constant time.
@@ -347,6 +371,48 @@ impl Tables {
         let was = self.stores.change(ident, item);
         each_is_one(&self.stores);
         was
+    }
+
+    /// Changes the thread of a name where it stands, in its slot or on the shelf, but for its number and its space, and gives
+    /// what the change gives. The record isn't moved.
+    pub fn update_thread_named<R, F: FnOnce(&mut ThreadRec) -> R>(
+        &mut self,
+        name: Name,
+        change: F,
+    ) -> R
+        requires thread { kind_of name ≡ Thread }
+        requires there { IsSome (content_of self.old.contents name) }
+        requires callable { F.IsAlwaysCallable change }
+        requires like { (thread left : ThreadRec) (result : R) → content_of self.old.contents name ≡ Some (Item.Thread thread) → FnOnceReturnsAtMut F.FnOnce change thread result left → IsLike (Item.Thread thread) (Item.Thread left) }
+        ensures updated { IsUpdated Item.Thread (FnOnceReturnsAtMut F.FnOnce change) self.old.contents self.new.contents name result }
+        ensures rest { self.new ≡ record self.old { contents = self.new.contents } }
+        ensures residents { residents_of self.new.contents ≡ residents_of self.old.contents }
+        ensures issued { self.new.contents.issued ≡ self.old.contents.issued }
+        ensures room { room_of self.new.contents ≡ room_of self.old.contents }
+        ensures spare { self.new.contents.spare ≡ self.old.contents.spare }
+    {
+        let result = self.stores.update_thread_named(name, change);
+        each_is_one(&self.stores);
+        result
+    }
+
+    /// Changes the marks of the row of a name where it stands, in its slot or on the shelf, and gives what the change gives.
+    /// The row isn't moved.
+    pub fn update_row_named<R, F: FnOnce(&mut Row) -> R>(&mut self, name: Name, change: F) -> R
+        requires row { kind_of name ≡ Mapping }
+        requires there { IsSome (content_of self.old.contents name) }
+        requires callable { F.IsAlwaysCallable change }
+        requires like { (row left : Row) (result : R) → content_of self.old.contents name ≡ Some (Item.Mapping row) → FnOnceReturnsAtMut F.FnOnce change row result left → IsLike (Item.Mapping row) (Item.Mapping left) }
+        ensures updated { IsUpdated Item.Mapping (FnOnceReturnsAtMut F.FnOnce change) self.old.contents self.new.contents name result }
+        ensures rest { self.new ≡ record self.old { contents = self.new.contents } }
+        ensures residents { residents_of self.new.contents ≡ residents_of self.old.contents }
+        ensures issued { self.new.contents.issued ≡ self.old.contents.issued }
+        ensures room { room_of self.new.contents ≡ room_of self.old.contents }
+        ensures spare { self.new.contents.spare ≡ self.old.contents.spare }
+    {
+        let result = self.stores.update_row_named(name, change);
+        each_is_one(&self.stores);
+        result
     }
 
     /// Sets the two rights of a kernel on a page group. Afterwards what is loaded is fit and has all that it depends on, as
@@ -384,6 +450,39 @@ impl Tables {
         row
     }
 
+    /// How many kernels were declared. They have the numbers below. Constant time.
+    pub fn kernel_count(&self) -> u32
+        ensures { result ≡ self.now.contents.kernel_count }
+    {
+        self.stores.kernel_count()
+    }
+
+    /// How many spaces were declared. They have the numbers below. Constant time.
+    pub fn space_count(&self) -> u32
+        ensures { result ≡ self.now.contents.space_count }
+    {
+        self.stores.space_count()
+    }
+
+    /// How many threads were declared. They have the numbers below. Constant time.
+    pub fn thread_count(&self) -> u32
+        ensures { result ≡ self.now.contents.thread_count }
+    {
+        self.stores.thread_count()
+    }
+
+    /// The names of all of a kind, loaded or not, in declared order.
+    pub fn names(&self, kind: Kind) -> Names<'_>
+        ensures { result ≡ names_of self.now.contents kind }
+    {
+        match kind {
+            Kind::Kernel => Names::of_kernels(self.stores.kernel_count()),
+            Kind::Space => Names::of_spaces(self.stores.space_count()),
+            Kind::Thread => Names::of_threads(self.stores.thread_count()),
+            Kind::Mapping => Names::of_rows(self.stores.row_names()),
+        }
+    }
+
     /// The names of all rows, loaded or not, in declared order.
     pub fn row_names(&self) -> Values<'_, u64, Name>
         ensures { result ≡ names_of self.now.contents Mapping }
@@ -396,6 +495,15 @@ impl Tables {
         ensures { result ≡ signal_names self.now.contents.rows frame }
     {
         self.stores.signal_rows(frame)
+    }
+
+    /// The identifiers of the loaded rows of a frame, each once, in no order that a caller may rest on. Two searches in
+    /// what is loaded, and one for each that it gives.
+    pub fn rows_of_frame(&self, frame: Frame) -> Run<'_, Frame, Ident>
+        ensures rows { (ident : Ident) → Contains result ident ↔ IsResidentOn self.now.contents frame ident }
+        ensures once { AllPairs (λ a b. a ≢ b) result }
+    {
+        self.stores.rows_of_frame(frame)
     }
 }
 
@@ -426,13 +534,12 @@ fn kernel_of_space(stores: &Stores, space: SpaceNo) -> KernelNo
 
 // Whether a call may be made.
 impl Tables {
-    /// Whether an item may be declared, where `caps` are the capacities. The tables' time for a kernel grows with the kernels;
-    /// for a row it is that of its frame's rows that are loaded.
-    pub fn may_declare(&self, caps: Caps, item: &Item) -> bool
-        requires { caps ≡ self.now.caps }
+    /// Whether an item may be declared. The tables' time for a kernel grows with the kernels; for a row it is that of its
+    /// frame's rows that are loaded.
+    pub fn may_declare(&self, item: &Item) -> bool
         ensures { IsTrue result ↔ MayBeDeclared self.now.caps self.now.contents item.now }
     {
-        admits::may_declare(&self.stores, caps, item)
+        admits::may_declare(&self.stores, self.caps, item)
     }
 
     /// Whether a name may be loaded while these identifiers are kept: it stands on the shelf and is fit, all that it depends

@@ -125,7 +125,7 @@ fn declare(rt: &impl Abort, tables: &mut Tables, item: Item) -> Result<(), NoMem
     requires { tables.old.caps ≡ CAPS }
     ensures { tables.new.caps ≡ CAPS }
 {
-    assert!(rt; tables.may_declare(CAPS, &item));
+    assert!(rt; tables.may_declare(&item));
     tables.declare(item)
 }
 
@@ -151,7 +151,7 @@ fn declare_first_kernel(rt: &impl Abort, tables: &mut Tables) -> Result<(), NoMe
     ensures { tables.new.caps ≡ CAPS }
 {
     let first = kernel(0, LIMITS);
-    assert!(rt; tables.may_declare(CAPS, &first));
+    assert!(rt; tables.may_declare(&first));
     tables.declare(first)?;
     grant(rt, tables);
     tables.reserve(32)

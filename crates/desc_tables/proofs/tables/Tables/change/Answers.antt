@@ -13,10 +13,10 @@ change-was-requires-clause-agrees c = λ was at. like_agrees was c.args.item (c.
 pub invariant_of-self : goal.invariant_of-self
 invariant_of-self c =
     let like : IsLike c.change-was.result c.args.item = c.requires.like c.change-was.result (ap (λ (held : Held). item_as held.contents c.args.ident) (sym c.self.view_is) ∙ c.change-was.ensures.was) in
-    (sound_changed c.self.inside.pairs.caps c.self.inside.stores c.change-was.new.self c.self.inside.gone.items c.self.inside.pairs.pairs c.self.invariant.0 c.each_is_one.ensures c.change-was.ensures.residents c.args.ident c.change-was.result c.args.item c.change-was.ensures.was like c.change-was.ensures.contents c.change-was.ensures.after, c.self.invariant.1)
+    (sound_changed c.self.inside.stores c.change-was.new.self c.args.ident c.change-was.result c.args.item c.change-was.ensures.was like c.change-was.ensures.contents c.change-was.ensures.after c.self.inside.pairs.caps c.self.inside.gone.items c.self.inside.pairs.pairs c.self.invariant.0 c.each_is_one.ensures c.change-was.ensures.residents, c.self.invariant.1, c.self.invariant.2)
 
 pub returns-clause-shows : goal.returns-clause-shows
 returns-clause-shows c = λ machine memory.
     let like : IsLike c.change-was.result c.args.item = c.requires.like c.change-was.result (ap (λ (held : Held). item_as held.contents c.args.ident) (sym c.self.view_is) ∙ c.change-was.ensures.was) in
-    shown_changed c.self.inside.stores c.change-was.new.self c.args.ident c.change-was.result c.args.item c.self.invariant.0.whole.one c.change-was.ensures.was like c.change-was.ensures.contents c.change-was.ensures.after machine memory
+    shown_changed c.self.inside.stores c.change-was.new.self c.args.ident c.change-was.result c.args.item c.change-was.ensures.was like c.change-was.ensures.contents c.change-was.ensures.after c.self.invariant.0.whole.one machine memory
     ∙ ap (λ (held : Held). with_changed (shown machine memory held.contents) c.args.item) c.self.view_is

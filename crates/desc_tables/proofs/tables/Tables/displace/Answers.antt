@@ -1,5 +1,5 @@
 -- There is a victim, and once it has left with its group the name can come.
-use Rattle.std.proofs.Common.{ap, subst, sym, arith}
+use Rattle.std.proofs.Common.{ap, subst, sym, ◌∙◌, arith}
 use Rattle.cache_ident.specs.Names.{kind_of}
 use Rattle.depend_lists.specs.Pairs.{count_of}
 use Rattle.desc_stores.specs.Contents.{residents_of, IsFullOf, IsVictimOf, NoneMayGoOf}
@@ -32,7 +32,7 @@ invariant_of-self c =
     let room = c.self.invariant.1 in
     let capacity = c.leave.ensures.capacity in
     let caps = ap count_of c.leave.ensures.caps in
-    (left_sound _ _ _ _ (idents_of c.leave.new.gone.items) c.self.invariant.0 c.leave.ensures.whole c.leave.ensures.caps c.leave.ensures.residents c.leave.ensures.kept, omega arith)
+    (left_sound _ _ _ _ (idents_of c.leave.new.gone.items) c.self.invariant.0 c.leave.ensures.whole c.leave.ensures.caps c.leave.ensures.residents c.leave.ensures.kept, omega arith, c.self.invariant.2 ∙ sym c.leave.ensures.caps)
 
 pub returns-clause-victim : goal.returns-clause-victim
 returns-clause-victim c =

@@ -35,7 +35,7 @@ pub invariant_of-self : goal.invariant_of-self
 invariant_of-self c =
     let room = c.self.invariant.1 in
     let caps = ap count_of c.enter.ensures.caps in
-    (loaded_sound _ _ _ _ c.enter.result c.args.name c.self.invariant.0 c.enter.ensures.whole c.enter.ensures.caps (c.enter.ensures.shows None []) c.enter.ensures.residents, omega arith)
+    (loaded_sound _ _ _ _ c.enter.result c.args.name c.self.invariant.0 c.enter.ensures.whole c.enter.ensures.caps (c.enter.ensures.shows None []) c.enter.ensures.residents, omega arith, c.self.invariant.2 ∙ sym c.enter.ensures.caps)
 
 pub returns-clause-nothing : goal.returns-clause-nothing
 returns-clause-nothing c = λ place. ap (λ (h : Held). h.gone) c.self.view_is ∙ c.make_place.ensures.nothing place

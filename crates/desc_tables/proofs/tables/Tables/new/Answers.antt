@@ -1,6 +1,9 @@
-use Rattle.std.proofs.Common.{vec_capacity}
+use Rattle.std.proofs.Common.{vec_capacity, ap, sym}
+use Rattle.resident_pairs.specs.Among.{Among}
 use Rattle.desc_tables.proofs.NewLemmas.{sound_new}
 use Rattle.desc_tables.proofs.tables.Tables.new.Goals as goal
 
 pub invariant_of-result : goal.invariant_of-result
-invariant_of-result c = sound_new c.args.caps c.in_ok-stores.stores c.in_ok-stores.ensures c.each_is_one.ensures c.in_ok-pairs.pairs c.in_ok-gone.gone.items (vec_capacity c.in_ok-gone.gone) c.in_ok-pairs.ensures c.in_ok-gone.ensures.room
+invariant_of-result c =
+    let made = sound_new c.args.caps c.in_ok-stores.stores c.in_ok-stores.ensures c.each_is_one.ensures c.in_ok-pairs.pairs c.in_ok-gone.gone.items (vec_capacity c.in_ok-gone.gone) c.in_ok-pairs.ensures c.in_ok-gone.ensures.room in
+    (made.0, made.1, sym (ap (λ (among : Among). among.caps) c.in_ok-pairs.ensures))

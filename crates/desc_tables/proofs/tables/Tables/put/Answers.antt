@@ -16,6 +16,7 @@ invariant_of-self c =
       sound_declared c.self.inside.pairs.caps stores c.declare.new.self c.self.inside.gone.items c.self.inside.pairs.pairs sound c.each_is_one.ensures c.owner_of_new-owner.result c.args.item may.next may.its may.absent
           put.contents put.after c.owner_of_new-owner.ensures put.residents put.owned,
       c.self.invariant.1,
+      c.self.invariant.2,
     )
 
 pub returns-clause-shows : goal.returns-clause-shows

@@ -15,6 +15,7 @@ invariant_of-self c =
       sound_retracted c.self.inside.pairs.caps stores c.retract-row.new.self c.self.inside.gone.items c.self.inside.pairs.pairs sound c.each_is_one.ensures c.args.name c.requires.row shelved retracted.contents retracted.names retracted.only
           retracted.residents retracted.cells (retracted.owned (owner (seen stores)) sound.whole.owned),
       c.self.invariant.1,
+      c.self.invariant.2,
     )
 
 pub returns-clause-was : goal.returns-clause-was

@@ -20,6 +20,7 @@ invariant_of-self c =
       sound_granted stores c.grant.new.stores sound.whole.one c.args.kernel c.args.group right there.0 there.1 (c.grant.ensures.contents there.0 there.1) c.grant.ensures.only c.self.inside.pairs.caps c.self.inside.gone.items c.self.inside.pairs.pairs
           sound c.each_is_one.ensures c.grant.ensures.residents c.grant.ensures.slots (c.grant.ensures.owned (owner (seen stores)) sound.whole.owned) good,
       c.self.invariant.1,
+      c.self.invariant.2,
     )
 
 pub returns-clause-shows : goal.returns-clause-shows

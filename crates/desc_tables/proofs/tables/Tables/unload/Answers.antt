@@ -1,5 +1,5 @@
 -- What leaves is among what is resident, for which there is room, and leaves no kernel more locks than it had.
-use Rattle.std.proofs.Common.{ap, subst, sym, arith}
+use Rattle.std.proofs.Common.{ap, subst, sym, ◌∙◌, arith}
 use Rattle.depend_lists.specs.Pairs.{count_of}
 use Rattle.desc_groups.specs.Moves.{idents_of, HasPlaces}
 use Rattle.desc_tables.specs.Tables.{Held}
@@ -17,7 +17,7 @@ invariant_of-self c =
     let room = c.self.invariant.1 in
     let capacity = c.leave.ensures.capacity in
     let caps = ap count_of c.leave.ensures.caps in
-    (left_sound _ _ _ _ (idents_of c.leave.new.gone.items) c.self.invariant.0 c.leave.ensures.whole c.leave.ensures.caps c.leave.ensures.residents c.leave.ensures.kept, omega arith)
+    (left_sound _ _ _ _ (idents_of c.leave.new.gone.items) c.self.invariant.0 c.leave.ensures.whole c.leave.ensures.caps c.leave.ensures.residents c.leave.ensures.kept, omega arith, c.self.invariant.2 ∙ sym c.leave.ensures.caps)
 
 pub leave-requires-clause-places : goal.leave-requires-clause-places
 leave-requires-clause-places c = subst (λ (h : Held). HasPlaces h.contents c.args.ident c.args.at) (sym c.self.view_is) c.requires.places
