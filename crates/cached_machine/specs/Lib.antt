@@ -1,0 +1,3 @@
+pub mod Cached
+pub mod Aside
+pub mod Stepping
