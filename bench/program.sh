@@ -23,6 +23,20 @@ begin_program() {
     mkdir -p "$program/src"
 }
 
+# crates_below NAME: the crates of this repository that the crate stands on, and itself.
+crates_below() {
+    awk -v name="$1" '
+        /^[a-z]/ { crate = $1; sub(/:$/, "", crate); order[++count] = crate; deps[crate] = $0 }
+        function take(crate,    parts, n, i) {
+            if (!(crate in deps) || crate in taken) return
+            taken[crate]
+            n = split(deps[crate], parts, " ")
+            for (i = 2; i <= n; i++) take(parts[i])
+        }
+        END { take(name); for (i = 1; i <= count; i++) if (order[i] in taken) printf "%s ", order[i] }
+    ' "$top/crates.txt"
+}
+
 # run_program PATTERN: proves, builds and runs the program, and prints the lines of its output with the pattern; where
 # that fails, all that rt said.
 run_program() {

@@ -1,11 +1,8 @@
-mod AdmitLemmas
 mod Counts
 mod Granted
-mod KindLemmas
 mod Limits
 mod LoadedLemmas
 mod Owners
-mod RecordLemmas
 mod Remaining
 mod Victims
 mod SoundLemmas

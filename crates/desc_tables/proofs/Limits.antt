@@ -36,7 +36,8 @@ use Rattle.group_laws.proofs.LockCounts.{lock_is_there, locks_loaded, locks_lock
 use Rattle.desc_parents.specs.Seen.{seen}
 use Rattle.desc_groups.specs.Moves.{KeepsButCounts, MayBeLocked}
 use Rattle.desc_groups.specs.Whole.{AreWhole}
-use Rattle.desc_tables.specs.Tables.{wanted_of, ArePlaced, AreSound, Held, IsLimited}
+use Rattle.desc_admits.specs.May.{wanted_of}
+use Rattle.desc_tables.specs.Tables.{ArePlaced, AreSound, Held, IsLimited}
 use Rattle.desc_tables.proofs.Counts.{count_left, length_by_kind}
 
 -- of what is resident, each kernel has locked at most what it may

@@ -1,5 +1,5 @@
 -- What stays once a content came in the place of that of its name, in its slot or on the shelf.
-use Rattle.std.proofs.Common.{◌≡◌, List, length, map, Option, ap, sym, ◌∙◌}
+use Rattle.std.proofs.Common.{◌≡◌, List, length, Option, ap, sym, ◌∙◌}
 use Rattle.std.specs.Option.{option_map}
 use Rattle.std.proofs.lemmas.List.{length-map}
 use Rattle.cache_ident.specs.declared.names.Name.{Name}

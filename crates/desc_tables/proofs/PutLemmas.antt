@@ -46,7 +46,8 @@ use Rattle.shown_state.proofs.OwnerLemmas.{owner_found, owners_declared, stays_o
 use Rattle.store_residents.proofs.StayLemmas.{slots-declaring}
 use Rattle.desc_parents.specs.Seen.{seen, HasPlainRows}
 use Rattle.desc_groups.specs.declared.departures.Gone.{Gone}
-use Rattle.desc_tables.specs.Calls.{no_locks, IsNewItem, IsNewRow, OwnsNew}
+use Rattle.desc_admits.specs.May.{no_locks, IsNewItem, IsNewRow}
+use Rattle.desc_tables.specs.Calls.{OwnsNew}
 use Rattle.desc_tables.specs.Tables.{ArePlaced, AreSound, IsLimited}
 use Rattle.desc_tables.proofs.DeclareLemmas.{grants_kernel, keeps_grown, keeps_row, none_locked, placed_kernel, placed_row, placed_space, plain_row}
 use Rattle.desc_tables.proofs.LikeLemmas.{is_below, like_for, test_below, KeepsLoaded}

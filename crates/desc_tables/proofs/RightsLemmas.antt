@@ -55,7 +55,8 @@ use Rattle.store_residents.proofs.StayLemmas.{slots-is, slots-kernels}
 use Rattle.desc_parents.specs.Seen.{seen, HasPlainRows}
 use Rattle.desc_groups.specs.declared.departures.Gone.{Gone}
 use Rattle.desc_tables.specs.Calls.{with_right, with_rights}
-use Rattle.desc_tables.specs.Tables.{wanted_of, ArePlaced, AreSound}
+use Rattle.desc_admits.specs.May.{wanted_of}
+use Rattle.desc_tables.specs.Tables.{ArePlaced, AreSound}
 use Rattle.desc_tables.proofs.LikeLemmas.{fit_there, like_for, KeepsLoaded}
 use Rattle.desc_tables.proofs.ListLemmas.{filter-agree}
 use Rattle.desc_tables.proofs.SoundLemmas.{sound_like, AreCounted, IsLikeFor, RoomIn}

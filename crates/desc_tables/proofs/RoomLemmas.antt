@@ -32,8 +32,8 @@ use Rattle.shown_state.proofs.MoveLemmas.{alike_room, alike_spare}
 use Rattle.store_residents.proofs.StayLemmas.{slots-roomier, slots-reserving}
 use Rattle.desc_parents.specs.Seen.{seen}
 use Rattle.desc_groups.specs.declared.departures.Gone.{Gone}
-use Rattle.desc_tables.specs.Calls.{IsNewItem, MayBeDeclared}
-use Rattle.desc_tables.specs.Tables.{wanted_of, AreSound}
+use Rattle.desc_admits.specs.May.{IsNewItem, MayBeDeclared, wanted_of}
+use Rattle.desc_tables.specs.Tables.{AreSound}
 use Rattle.desc_tables.proofs.SoundLemmas.{sound_kept}
 
 module _ (old new : Contents) where

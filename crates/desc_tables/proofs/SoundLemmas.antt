@@ -24,7 +24,8 @@ use Rattle.store_residents.proofs.StayLemmas.{slots-kept}
 use Rattle.group_laws.proofs.LockCounts.{locks_same}
 use Rattle.desc_parents.specs.Seen.{seen, HasPlainRows}
 use Rattle.desc_groups.specs.declared.departures.Gone.{Gone}
-use Rattle.desc_tables.specs.Tables.{ArePlaced, AreSound, IsLimited, LeavesRoom, wanted_of}
+use Rattle.desc_admits.specs.May.{wanted_of}
+use Rattle.desc_tables.specs.Tables.{ArePlaced, AreSound, IsLimited, LeavesRoom}
 
 -- beside all that the kernels of a state may lock, each cache has room for what is wanted
 abbrev pub RoomIn : Caps → FlatState → Type 0

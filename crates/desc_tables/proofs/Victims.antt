@@ -29,7 +29,8 @@ use Rattle.group_laws.proofs.Remaining.{without_all_cases}
 use Rattle.desc_parents.specs.Seen.{seen}
 use Rattle.desc_groups.specs.Moves.{but_for_counts, departed_all, KeepsButCounts}
 use Rattle.desc_groups.specs.Whole.{AreWhole}
-use Rattle.desc_tables.specs.Calls.{IsReady, MayBeLoaded}
+use Rattle.desc_admits.specs.May.{MayBeLoaded}
+use Rattle.desc_tables.specs.Calls.{IsReady}
 use Rattle.desc_tables.specs.Tables.{AreSound, Held}
 use Rattle.desc_tables.proofs.Counts.{count_left_one}
 use Rattle.desc_tables.proofs.Granted.{all_locked_or_kept, kept_within, locked_within}

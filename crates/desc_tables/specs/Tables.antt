@@ -1,8 +1,7 @@
 -- What a contract sees of the tables, and what holds of them.
-use Rattle.std.specs.Prelude.{◌≡◌, ℕ, ◌+◌, ◌<◌, ◌≤◌, List, length, Contains, Some}
+use Rattle.std.specs.Prelude.{◌≡◌, ◌+◌, ◌<◌, ◌≤◌, List, length, Contains, Some}
 use Rattle.cache_ident.specs.declared.idents.Ident.{Ident}
 use Rattle.cache_ident.specs.declared.idents.Kind.{Kind}
-use Rattle.cache_ident.specs.declared.idents.Kind.TheVariants as kind
 use Rattle.cache_ident.specs.declared.names.Caps.{Caps}
 use Rattle.cache_ident.specs.declared.names.KernelNo.{KernelNo}
 use Rattle.cache_ident.specs.declared.names.Name.{Name}
@@ -17,19 +16,13 @@ use Rattle.desc_stores.specs.Contents.{content_of, Contents}
 use Rattle.desc_parents.specs.Seen.{seen}
 use Rattle.desc_groups.specs.declared.departures.Gone.{Gone}
 use Rattle.desc_groups.specs.Whole.{AreWhole}
+use Rattle.desc_admits.specs.May.{wanted_of}
 
 -- the capacities, where each descriptor stands and with which content, and what left at the last load or unload
 pub record Held : Type 0 where
   pub caps : Caps
   pub contents : Contents
   pub gone : List Gone
-
--- of each kind so many are wanted at most by one step of a thread, a new one among them
-abbrev pub wanted_of : Kind → ℕ
-wanted_of kind.Kernel = 5
-wanted_of kind.Space = 5
-wanted_of kind.Thread = 5
-wanted_of kind.Mapping = 6
 
 -- beside all that kernels may lock, each cache has room for what is wanted
 abbrev pub LeavesRoom : Caps → Contents → Type 0

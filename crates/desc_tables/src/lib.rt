@@ -3,7 +3,6 @@
 //! Above them nobody sees a slot, an index or a pair.
 #![tactic(auto)]
 
-mod admits;
 mod names;
 mod tables;
 #[cfg(test)]

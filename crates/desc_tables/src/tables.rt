@@ -34,11 +34,11 @@ ghost use Rattle.store_residents.specs.Victims.{IsOldest};
 ghost use Rattle.group_laws.specs.Leaving.{without_all};
 ghost use Rattle.desc_parents.specs.Seen.{seen};
 ghost use Rattle.desc_groups.specs.Moves.{HasPlaces, but_for_counts, KeepsButCounts, MayBeLocked, gone_as, departed_all, idents_of};
-ghost use Rattle.desc_tables.specs.Calls.{HasPlacesFor, MayBeDeclared, MayBeLoaded, IsReady, IsLike, IsUpdated, with_right, with_rights, IsOfWhatStands, OwnsNew};
+ghost use Rattle.desc_admits.specs.May.{MayBeDeclared, MayBeLoaded};
+ghost use Rattle.desc_tables.specs.Calls.{HasPlacesFor, IsReady, IsLike, IsUpdated, with_right, with_rights, IsOfWhatStands, OwnsNew};
 ghost use Rattle.row_store.specs.Kept.{signal_names};
 ghost use Rattle.kind_store.specs.Changes.{is_name};
 
-use crate::admits;
 use crate::names::Names;
 use cache_ident::{Caps, Cause, Frame, Ident, KernelNo, Kind, Name, NoMemory, SpaceNo, Standing};
 use depend_lists::most_loaded;
@@ -539,7 +539,7 @@ impl Tables {
     pub fn may_declare(&self, item: &Item) -> bool
         ensures { IsTrue result ↔ MayBeDeclared self.now.caps self.now.contents item.now }
     {
-        admits::may_declare(&self.stores, self.caps, item)
+        desc_admits::may_declare(&self.stores, self.caps, item)
     }
 
     /// Whether a name may be loaded while these identifiers are kept: it stands on the shelf and is fit, all that it depends
@@ -548,7 +548,7 @@ impl Tables {
     pub fn may_load(&self, name: Name, keep: &[Ident]) -> bool
         ensures { IsTrue result ↔ MayBeLoaded self.now.contents name keep.now }
     {
-        admits::may_load(&self.stores, name, keep)
+        desc_admits::may_load(&self.stores, name, keep)
     }
 
     /// Whether what is loaded with an identifier may be locked: it is locked already, or its owner has fewer of its kind
@@ -557,7 +557,7 @@ impl Tables {
         requires { standing_in self.now.contents.issued ident ≡ Live }
         ensures { IsTrue result ↔ MayBeLocked self.now.contents ident }
     {
-        admits::may_lock(&self.stores, ident)
+        desc_admits::may_lock(&self.stores, ident)
     }
 }
 

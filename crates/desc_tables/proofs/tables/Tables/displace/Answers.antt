@@ -9,7 +9,8 @@ use Rattle.store_residents.proofs.ResidentLemmas.{live_iff}
 use Rattle.store_residents.proofs.VictimLemmas.{victim_resident}
 use Rattle.desc_parents.specs.Seen.{seen}
 use Rattle.desc_groups.specs.Moves.{idents_of, HasPlaces}
-use Rattle.desc_tables.specs.Calls.{HasPlacesFor, MayBeLoaded}
+use Rattle.desc_admits.specs.May.{MayBeLoaded}
+use Rattle.desc_tables.specs.Calls.{HasPlacesFor}
 use Rattle.desc_tables.specs.Tables.{Held}
 use Rattle.desc_tables.proofs.Limits.{few_residents, left_sound}
 use Rattle.desc_tables.proofs.Victims.{ready_behind, some_may_go}

@@ -2,7 +2,7 @@
 use Rattle.std.proofs.Common.{subst, sym}
 use Rattle.cache_ident.specs.Names.{kind_of}
 use Rattle.desc_stores.specs.Contents.{IsLowestFreeOf}
-use Rattle.desc_tables.specs.Calls.{MayBeLoaded}
+use Rattle.desc_admits.specs.May.{MayBeLoaded}
 use Rattle.desc_tables.specs.Tables.{Held}
 use Rattle.desc_tables.proofs.Victims.{not_full, ready_now}
 use Rattle.desc_tables.proofs.tables.Tables.make_place.Goals as goal

@@ -1,0 +1,3 @@
+mod KindLemmas
+mod AdmitLemmas
+mod RecordLemmas
