@@ -7,4 +7,6 @@ mod desc_stores_tests;
 #[cfg(test)]
 mod machines;
 #[cfg(test)]
+mod sorted_list_tests;
+#[cfg(test)]
 mod tests;
