@@ -7,6 +7,8 @@ mod desc_stores_tests;
 #[cfg(test)]
 mod machines;
 #[cfg(test)]
+mod rv32_asm_tests;
+#[cfg(test)]
 mod rv32_isa_tests;
 #[cfg(test)]
 mod sorted_list_tests;
