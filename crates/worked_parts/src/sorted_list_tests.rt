@@ -1,7 +1,7 @@
 //! Entries that come, are found, and go.
 
 ghost use Rattle.std.specs.Prelude.{◌≡◌, ◌↔◌, Contains, IsTrue};
-ghost use Rattle.worked_rows.specs.declared.sorted_list_tests.TheConstants.{ROOM};
+ghost use Rattle.worked_parts.specs.declared.sorted_list_tests.TheConstants.{ROOM};
 
 use sorted_list::SortedList;
 use std::process::Abort;

@@ -1,0 +1,12 @@
+//! Tests of crates whose own proofs are long: with tests in it a crate would be proved twice, from nothing both times, and the
+//! tests that stand here are proved without it.
+#![tactic(auto)]
+
+#[cfg(test)]
+mod desc_stores_tests;
+#[cfg(test)]
+mod rv32_asm_tests;
+#[cfg(test)]
+mod rv32_isa_tests;
+#[cfg(test)]
+mod sorted_list_tests;
