@@ -13,6 +13,3 @@ pub use block::assemble;
 pub use fault::AsmFault;
 pub use listing::list;
 pub use std::alloc::AllocError as NoMemory;
-
-#[cfg(test)]
-mod tests;

@@ -1,6 +1,6 @@
 mod encodings;
 
-use super::*;
+use rv32_asm::*;
 use std::alloc::{AllocError, Global};
 use std::string::String;
 use std::test::*;

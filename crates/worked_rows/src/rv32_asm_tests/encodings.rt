@@ -1,4 +1,4 @@
-use crate::{assemble, list};
+use rv32_asm::{assemble, list};
 use std::alloc::Global;
 use std::string::String;
 use std::test::*;
