@@ -7,4 +7,6 @@ mod machines;
 #[cfg(test)]
 mod rv32_asm_tests;
 #[cfg(test)]
+mod sorted_list_tests;
+#[cfg(test)]
 mod tests;

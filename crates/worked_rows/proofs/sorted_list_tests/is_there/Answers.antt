@@ -6,7 +6,7 @@ use Rattle.std.proofs.lemmas.Iterator.Search.{any_from_yields_List}
 use Rattle.std.proofs.lemmas.Map.Views.{list_any-from_Contains, Contains-from_any}
 use Rattle.sorted_list.specs.Sorted.{values_under}
 use Rattle.sorted_list.proofs.UnderLemmas.{entry_of_value, value_of_entry}
-use Rattle.sorted_list.proofs.tests.is_there.Goals as goal
+use Rattle.worked_rows.proofs.sorted_list_tests.is_there.Goals as goal
 
 pub returns : goal.returns
 returns c =

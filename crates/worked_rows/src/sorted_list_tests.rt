@@ -1,9 +1,9 @@
 //! Entries that come, are found, and go.
 
 ghost use Rattle.std.specs.Prelude.{◌≡◌, ◌↔◌, Contains, IsTrue};
-ghost use Rattle.sorted_list.specs.declared.tests.TheConstants.{ROOM};
+ghost use Rattle.worked_rows.specs.declared.sorted_list_tests.TheConstants.{ROOM};
 
-use crate::SortedList;
+use sorted_list::SortedList;
 use std::process::Abort;
 use std::test::Fail;
 

@@ -5,7 +5,7 @@ use Rattle.std.specs.Ordering.{is_eq, nat_cmp}
 use Rattle.std.proofs.lemmas.Bool.{eqb-true}
 use Rattle.std.proofs.lemmas.List.Elements.{Contains-get_or}
 use Rattle.sorted_list.proofs.UnderLemmas.{both_tie, same_pair}
-use Rattle.sorted_list.proofs.tests.add.Goals as goal
+use Rattle.worked_rows.proofs.sorted_list_tests.add.Goals as goal
 
 tied : (a b : ℕ) → nat_cmp a b ≡ Equal → a ≡ b
 tied a b ties = eqb-true a b (sym (unsigned_tied a b) ∙ ap is_eq ties)
