@@ -5,7 +5,11 @@
 #[cfg(test)]
 mod machines;
 #[cfg(test)]
+mod records;
+#[cfg(test)]
 mod rv32_asm_tests;
+#[cfg(test)]
+mod slot_cache_tests;
 #[cfg(test)]
 mod sorted_list_tests;
 #[cfg(test)]

@@ -4,28 +4,11 @@ ghost use Rattle.std.specs.Prelude.{◌≡◌, ◌+◌, IsTrue};
 ghost use Rattle.cache_ident.specs.declared.idents.Kind.TheVariants.{Thread};
 ghost use Rattle.slot_cache.specs.Cells.{IsLoaded, IsOlder};
 
-use crate::{Cache, Descriptor};
+use crate::records::Record;
 use cache_ident::{Ident, Kind, Name, ThreadNo};
+use slot_cache::{Cache, Descriptor};
 use std::process::Abort;
 use std::test::Fail;
-
-#[derive(Drop)]
-struct Record {
-    name: Name,
-    mark: u32,
-}
-
-impl Descriptor for Record {
-    ghost KIND = { Thread };
-
-    ghost called = { λ r. r.name };
-
-    const KIND: Kind = Kind::Thread;
-
-    fn name(&self) -> Name {
-        self.name
-    }
-}
 
 // Loads a name into the lowest free slot, with a serial above all others.
 fn load(rt: &impl Abort, cache: &mut Cache<Record>, serial: u64, name: Name) -> Ident
