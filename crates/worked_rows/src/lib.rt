@@ -7,6 +7,8 @@ mod machines;
 #[cfg(test)]
 mod records;
 #[cfg(test)]
+mod row_store_tests;
+#[cfg(test)]
 mod rv32_asm_tests;
 #[cfg(test)]
 mod slot_cache_tests;

@@ -8,9 +8,9 @@ ghost use Rattle.owner_shelf.specs.Rows.{content_under};
 ghost use Rattle.kind_store.specs.Kept.{content_of};
 ghost use Rattle.kind_store.specs.Rolls.{AreEnrolled};
 
-use crate::RowStore;
 use cache_ident::{Frame, Ident, KernelNo, Name, NoMemory, Roll, SpaceNo, ThreadNo, Vpn};
 use phys_groups::{Flags, Row};
+use row_store::RowStore;
 use slot_cache::Descriptor;
 use std::alloc::Global;
 use std::process::Abort;
