@@ -3,6 +3,8 @@
 #![tactic(auto)]
 
 #[cfg(test)]
+mod kind_store_tests;
+#[cfg(test)]
 mod machines;
 #[cfg(test)]
 mod records;

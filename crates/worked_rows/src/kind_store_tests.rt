@@ -7,30 +7,13 @@ ghost use Rattle.owner_shelf.specs.Rows.{content_under};
 ghost use Rattle.kind_store.specs.Kept.{content_of};
 ghost use Rattle.kind_store.specs.Rolls.{AreEnrolled};
 
-use crate::KindStore;
+use crate::records::Record;
 use cache_ident::{Ident, KernelNo, Kind, Name, NoMemory, Roll, Standing, ThreadNo};
+use kind_store::KindStore;
 use slot_cache::Descriptor;
 use std::alloc::Global;
 use std::process::Abort;
 use std::test::Fail;
-
-#[derive(Drop)]
-struct Record {
-    name: Name,
-    mark: u32,
-}
-
-impl Descriptor for Record {
-    ghost KIND = { Thread };
-
-    ghost called = { λ r. r.name };
-
-    const KIND: Kind = Kind::Thread;
-
-    fn name(&self) -> Name {
-        self.name
-    }
-}
 
 type Store = KindStore<Record>;
 
