@@ -7,6 +7,8 @@ mod kind_store_tests;
 #[cfg(test)]
 mod machines;
 #[cfg(test)]
+mod owner_shelf_tests;
+#[cfg(test)]
 mod records;
 #[cfg(test)]
 mod row_store_tests;

@@ -5,29 +5,12 @@ ghost use Rattle.cache_ident.specs.declared.idents.Kind.TheVariants.{Thread};
 ghost use Rattle.cache_ident.specs.declared.names.Name.{Name};
 ghost use Rattle.owner_shelf.specs.Rows.{content_under, HasNoRow};
 
-use crate::Shelf;
+use crate::records::Record;
 use cache_ident::{KernelNo, Kind, Name, ThreadNo};
+use owner_shelf::Shelf;
 use slot_cache::Descriptor;
 use std::process::Abort;
 use std::test::Fail;
-
-#[derive(Drop)]
-struct Record {
-    name: Name,
-    mark: u32,
-}
-
-impl Descriptor for Record {
-    ghost KIND = { Thread };
-
-    ghost called = { λ r. r.name };
-
-    const KIND: Kind = Kind::Thread;
-
-    fn name(&self) -> Name {
-        self.name
-    }
-}
 
 fn thread(no: u32) -> Name {
     Name::Thread(ThreadNo(no))

@@ -1,9 +1,9 @@
 use Rattle.std.proofs.Common.{◌≡◌, Bool, true, not, Bor, Option, None, Some, is_some, refl, sym, ap, ◌∙◌}
 use Rattle.std.specs.Option.{option_map}
 use Rattle.std.proofs.lemmas.Bool.{false≢true}
-use Rattle.owner_shelf.specs.declared.tests.Record.{Record}
+use Rattle.worked_rows.specs.declared.records.Record.{Record}
 use Rattle.owner_shelf.proofs.SoundLemmas.{nothing_found}
-use Rattle.owner_shelf.proofs.tests.is_absent.Goals as goal
+use Rattle.worked_rows.proofs.owner_shelf_tests.is_absent.Goals as goal
 
 -- what isn't there has no content
 not_some : {X Y : Type 0} (f : X → Y) (o : Option X) (t : Bool) → is_some o ≡ not t → t ≡ true → option_map f o ≡ None
