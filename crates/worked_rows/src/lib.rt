@@ -3,6 +3,10 @@
 #![tactic(auto)]
 
 #[cfg(test)]
+mod depend_lists_tests;
+#[cfg(test)]
+mod dependents;
+#[cfg(test)]
 mod kind_store_tests;
 #[cfg(test)]
 mod machines;

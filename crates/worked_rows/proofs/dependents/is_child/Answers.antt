@@ -5,7 +5,7 @@ use Rattle.depend_lists.specs.declared.nodes.Node.{Node}
 use Rattle.depend_lists.specs.contracts.nodes.NodePartialEq.TheImpl as node_equality
 use Rattle.depend_lists.specs.Pairs.{children_of}
 use Rattle.depend_lists.proofs.ChildLemmas.{tests_pair}
-use Rattle.depend_lists.proofs.tests.is_child.Goals as goal
+use Rattle.worked_rows.proofs.dependents.is_child.Goals as goal
 
 pub returns : goal.returns
 returns c =

@@ -1,11 +1,8 @@
 //! A row that depends on five others comes and goes.
 
-ghost use Rattle.std.specs.Prelude.{◌≡◌, ◌+◌, ◌≤◌, ◌↔◌, Contains, IsTrue, length};
-ghost use Rattle.depend_lists.specs.Roomy.{IsRoomy};
-
-use crate::{Class, Depends, Node};
+use crate::dependents::depend;
 use cache_ident::{Caps, Ident, Kind};
-use std::process::Abort;
+use depend_lists::{Class, Depends, Node};
 use std::test::Fail;
 
 fn ident(kind: Kind, slot: u32) -> Ident {
@@ -13,26 +10,6 @@ fn ident(kind: Kind, slot: u32) -> Ident {
         kind,
         slot,
         serial: 10 + slot as u64,
-    }
-}
-
-fn is_child(depends: &Depends, parent: Ident, child: Node) -> bool
-    ensures { IsTrue result ↔ Contains depends.now.pairs (parent, child) }
-{
-    depends.children(parent).any(|node| node == child)
-}
-
-// Makes the child depend on these parents, and on no others.
-fn depend(rt: &impl Abort, depends: &mut Depends, child: Node, parents: &[Ident])
-    requires few { length parents.now ≤ 5 }
-    requires roomy { IsRoomy depends.old.caps (length depends.old.pairs + length parents.now) }
-    ensures caps { depends.new.caps ≡ depends.old.caps }
-    ensures pairs { length depends.new.pairs ≤ length depends.old.pairs + length parents.now }
-{
-    depends.remove(child.ident);
-    for parent in parents {
-        assert!(rt; !is_child(depends, *parent, child), "twice a child");
-        depends.add(*parent, child);
     }
 }
 

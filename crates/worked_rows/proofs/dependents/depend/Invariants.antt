@@ -1,6 +1,6 @@
 use Rattle.std.proofs.Common.{◌≡◌, length}
 use Rattle.depend_lists.proofs.RoomyLemmas.{HasParents}
-use Rattle.depend_lists.proofs.tests.depend.Given as goal
+use Rattle.worked_rows.proofs.dependents.depend.Given as goal
 
 -- the child has the parents that were passed, and no others
 abbrev pub invariant-loop-parent : goal.invariant-loop-parent

@@ -1,6 +1,6 @@
 use Rattle.std.proofs.Common.{◌+◌, length, refl, ◌∙◌, arith}
 use Rattle.depend_lists.proofs.RoomyLemmas.{parents_more, parents_none, within_more}
-use Rattle.depend_lists.proofs.tests.depend.Goals as goal
+use Rattle.worked_rows.proofs.dependents.depend.Goals as goal
 
 pub loop-parent-init : goal.loop-parent-init
 loop-parent-init g c = rw c.remove.ensures (record { caps = refl; parents = parents_none c.args.depends.now.pairs c.args.child })
