@@ -24,3 +24,5 @@ mod slot_cache_tests;
 mod sorted_list_tests;
 #[cfg(test)]
 mod tests;
+#[cfg(test)]
+mod writeback_order_tests;
