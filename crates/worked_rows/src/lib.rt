@@ -19,6 +19,8 @@ mod row_store_tests;
 #[cfg(test)]
 mod rv32_asm_tests;
 #[cfg(test)]
+mod rv32_isa_tests;
+#[cfg(test)]
 mod slot_cache_tests;
 #[cfg(test)]
 mod sorted_list_tests;

@@ -1,6 +1,6 @@
 // Words that GNU binutils made, with the form and the fields that they have, and words that it has none for.
 
-use crate::{Instr, decode, encode};
+use rv32_isa::{Instr, decode, encode};
 
 static ENCODINGS: [(u32, &str, [i64; 4]); 442] = [
     (0x233c_3e37, "lui", [28, 144323, 0, 0]),
@@ -738,7 +738,7 @@ fn words_of_no_instruction(rt: HostRuntime) {
 }
 
 #[test]
-#[tactic(auto, unfolding(crate::specs::Table::IsValid))]
+#[tactic(auto, unfolding(rv32_isa::specs::Table::IsValid))]
 fn words_of_two_instructions(rt: HostRuntime) {
     let quotient = Instr::Div {
         rd: 10,
