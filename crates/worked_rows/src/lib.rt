@@ -15,6 +15,8 @@ mod owner_shelf_tests;
 #[cfg(test)]
 mod records;
 #[cfg(test)]
+mod residents_tests;
+#[cfg(test)]
 mod row_store_tests;
 #[cfg(test)]
 mod rv32_asm_tests;

@@ -1,5 +1,5 @@
-use super::*;
 use cache_ident::{Frame, Ident, KernelNo, Kind, Name, SpaceNo, Vpn};
+use residents::*;
 use std::test::Fail;
 
 const KERNEL: Name = Name::Kernel(KernelNo(0));
