@@ -19,6 +19,8 @@ mod residents_tests;
 #[cfg(test)]
 mod row_store_tests;
 #[cfg(test)]
+mod run_journal_tests;
+#[cfg(test)]
 mod rv32_asm_tests;
 #[cfg(test)]
 mod rv32_isa_tests;

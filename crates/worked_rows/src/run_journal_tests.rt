@@ -1,6 +1,6 @@
-use super::*;
 use cache_ident::{Caps, Cause, Ident, KernelNo, Kind, Name, ThreadNo};
 use flat_state::{Decl, Event};
+use run_journal::*;
 use std::test::Fail;
 
 fn kernel_ident(serial: u64) -> Ident {
