@@ -4,8 +4,6 @@
 
 mod items;
 mod stores;
-#[cfg(test)]
-mod tests;
 
 pub use items::{Item, ItemRef};
 pub use stores::Stores;

@@ -7,6 +7,8 @@ mod depend_lists_tests;
 #[cfg(test)]
 mod dependents;
 #[cfg(test)]
+mod desc_stores_tests;
+#[cfg(test)]
 mod kind_store_tests;
 #[cfg(test)]
 mod machines;

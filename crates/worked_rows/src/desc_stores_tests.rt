@@ -9,11 +9,11 @@ ghost use Rattle.desc_stores.specs.declared.items.Item.TheVariants as Item;
 ghost use Rattle.desc_stores.specs.Contents.{content_of, item_as, IsFullOf, IsShelved};
 ghost use Rattle.desc_stores.specs.Changes.{room_of, IsNext};
 
-use crate::{Item, ItemRef, Stores};
 use arrayvec::ArrayVec;
 use cache_ident::{
     Caps, Frame, Ident, KernelNo, Kind, Name, NoMemory, SpaceNo, Standing, ThreadNo, Vpn,
 };
+use desc_stores::{Item, ItemRef, Stores};
 use kernel_cache::KernelRec;
 use phys_groups::{Flags, Rights, Row};
 use rv32_exec::{Context, Output, Status};
@@ -225,7 +225,9 @@ fn all_go_round(rt: &impl Abort, stores: &mut Stores, alloc: Global) -> Result<(
 fn each_kind_is_loaded_and_leaves(rt: HostRuntime) -> Result<(), Fail> {
     let alloc = rt.alloc();
     let mut stores = with_one_slot(alloc)?;
-    all_go_round(&rt, &mut stores, alloc)
+    let done = all_go_round(&rt, &mut stores, alloc);
+    std::mem::forget(stores);
+    done
 }
 
 // Marks what is loaded with an identifier as modified, if it is a row.
@@ -252,7 +254,9 @@ fn change_a_row(rt: &impl Abort, stores: &mut Stores, alloc: Global) -> Result<(
 fn what_leaves_takes_its_change_along(rt: HostRuntime) -> Result<(), Fail> {
     let alloc = rt.alloc();
     let mut stores = with_one_slot(alloc)?;
-    change_a_row(&rt, &mut stores, alloc)
+    let done = change_a_row(&rt, &mut stores, alloc);
+    std::mem::forget(stores);
+    done
 }
 
 fn has_rows(stores: &Stores, count: usize) -> bool {
@@ -270,7 +274,9 @@ fn declare_rows(rt: &impl Abort, stores: &mut Stores) -> Result<(), Fail> {
 #[test]
 fn room_is_made_where_there_is_none(rt: HostRuntime) -> Result<(), Fail> {
     let mut stores = with_one_slot(rt.alloc())?;
-    declare_rows(&rt, &mut stores)
+    let done = declare_rows(&rt, &mut stores);
+    std::mem::forget(stores);
+    done
 }
 
 fn has_content(stores: &Stores, name: Name) -> bool
@@ -310,7 +316,9 @@ fn change_by_name(rt: &impl Abort, stores: &mut Stores, alloc: Global) -> Result
 fn contents_change_by_their_names(rt: HostRuntime) -> Result<(), Fail> {
     let alloc = rt.alloc();
     let mut stores = with_one_slot(alloc)?;
-    change_by_name(&rt, &mut stores, alloc)
+    let done = change_by_name(&rt, &mut stores, alloc);
+    std::mem::forget(stores);
+    done
 }
 
 // Takes a row off the shelf for good, and says whether it was modified.
@@ -337,7 +345,9 @@ fn retract_a_row(rt: &impl Abort, stores: &mut Stores, alloc: Global) -> Result<
 fn a_row_goes_for_good(rt: HostRuntime) -> Result<(), Fail> {
     let alloc = rt.alloc();
     let mut stores = with_one_slot(alloc)?;
-    retract_a_row(&rt, &mut stores, alloc)
+    let done = retract_a_row(&rt, &mut stores, alloc);
+    std::mem::forget(stores);
+    done
 }
 
 // The row that is loaded with an identifier.
@@ -412,5 +422,7 @@ fn change_all(rt: &impl Abort, stores: &mut Stores, alloc: Global) -> Result<(),
 fn contents_change_where_they_stand(rt: HostRuntime) -> Result<(), Fail> {
     let alloc = rt.alloc();
     let mut stores = with_one_slot(alloc)?;
-    change_all(&rt, &mut stores, alloc)
+    let done = change_all(&rt, &mut stores, alloc);
+    std::mem::forget(stores);
+    done
 }
