@@ -17,6 +17,8 @@ mod machines;
 #[cfg(test)]
 mod owner_shelf_tests;
 #[cfg(test)]
+mod page_views_tests;
+#[cfg(test)]
 mod records;
 #[cfg(test)]
 mod residents_tests;

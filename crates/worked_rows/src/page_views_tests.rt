@@ -2,8 +2,8 @@
 
 ghost use Rattle.std.specs.Prelude.{◌≡◌, ◌%◌, ◌<◌, length};
 
-use crate::{PageView, PageViews};
 use cache_ident::{Frame, Ident, Vpn};
+use page_views::{PageView, PageViews};
 use phys_groups::Flags;
 use rv32_exec::{Access, Context, Stepped, step};
 use std::process::Abort;
