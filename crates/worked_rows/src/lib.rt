@@ -19,6 +19,8 @@ mod owner_shelf_tests;
 #[cfg(test)]
 mod page_views_tests;
 #[cfg(test)]
+mod quantum_tests;
+#[cfg(test)]
 mod records;
 #[cfg(test)]
 mod residents_tests;

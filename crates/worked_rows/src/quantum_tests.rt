@@ -2,9 +2,9 @@
 
 ghost use Rattle.std.specs.Prelude.{◌≡◌, ◌<◌, length};
 
-use crate::{Paused, Quantum};
 use cache_ident::{Frame, Ident, Vpn};
 use phys_groups::Flags;
+use quantum::{Paused, Quantum};
 use rv32_exec::{Access, Context, Misaligned, Reason};
 use std::process::Abort;
 use std::test::Fail;
