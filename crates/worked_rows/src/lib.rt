@@ -11,6 +11,8 @@ mod desc_stores_tests;
 #[cfg(test)]
 mod journal_rules_tests;
 #[cfg(test)]
+mod journal_tables_tests;
+#[cfg(test)]
 mod kind_store_tests;
 #[cfg(test)]
 mod machines;
