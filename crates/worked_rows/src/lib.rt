@@ -9,6 +9,8 @@ mod dependents;
 #[cfg(test)]
 mod desc_stores_tests;
 #[cfg(test)]
+mod journal_facts_tests;
+#[cfg(test)]
 mod journal_groups_tests;
 #[cfg(test)]
 mod journal_rules_tests;

@@ -1,8 +1,8 @@
 //! A kernel with a space, a thread in it that puts a byte out, and others that fault. There is room for five threads.
 
-use super::*;
 use cache_ident::{Caps, Cause, Frame, Ident, KernelNo, Kind, Name, SpaceNo, ThreadNo, Vpn};
 use flat_state::{Decl, Machine};
+use journal_facts::*;
 use phys_groups::Flags;
 use run_journal::Entry;
 use std::alloc::Global;
