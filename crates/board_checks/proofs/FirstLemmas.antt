@@ -1,6 +1,7 @@
 -- The first of some tests that fails.
-use Rattle.std.proofs.Common.{◌≡◌, Option, Some, None, Result, Err, refl, ◌∙◌, ap, subst}
-use Rattle.std.specs.Option.{option_or}
+use Rattle.std.proofs.Common.{◌≡◌, Bool, true, false, Option, Some, None, Result, Err, refl, ◌∙◌, ap, subst}
+use Rattle.std.specs.Prelude.{if◌then◌else◌}
+use Rattle.std.specs.Option.{option_map, option_or}
 use Rattle.std.specs.Result.{result_err}
 
 -- the error that a call answers is the one that another gave it
@@ -8,6 +9,19 @@ pub err_shown : {T E : Type 0} (r : Result T E) (x : E) → (y : E) × (r ≡ Er
 err_shown {T} {E} r x p = ap result_err p.1 ∙ ap (λ (y : E). Some y) p.2
 
 module _ {T : Type 0} where
+  -- a test that passes
+  pub passes_if : (b : Bool) (e : T) → None ≡ (if b then None else Some e) → b ≡ true
+  passes_if true e is = refl
+  passes_if false e is = absurd (cc)
+
+  pub passes_unless : (b : Bool) (e : T) → None ≡ (if b then Some e else None) → b ≡ false
+  passes_unless true e is = absurd (cc)
+  passes_unless false e is = refl
+
+  pub none_mapped : {X : Type 0} (f : X → T) (o : Option X) → None ≡ option_map f o → o ≡ None
+  none_mapped f None is = refl
+  none_mapped f (Some x) is = absurd (cc)
+
   -- the first one fails
   pub first_fails : (a b : Option T) (e : T) → Some e ≡ a → Some e ≡ option_or a b
   first_fails a b e fails = subst (λ (o : Option T). Some e ≡ option_or o b) fails refl

@@ -1,5 +1,5 @@
 -- What is so of what a lock, or its end, isn't refused for.
-use Rattle.std.proofs.Common.{◌≡◌, ◌≢◌, ℕ, ◌<◌, ◌≤◌, Bool, true, false, List, Contains, Some, None, refl, sym, ◌∙◌, ap, subst, arith}
+use Rattle.std.proofs.Common.{◌≡◌, ◌≢◌, ℕ, ◌<◌, ◌≤◌, Bool, true, false, List, Contains, Some, None, sym, ◌∙◌, ap, subst, arith}
 use Rattle.std.specs.Prelude.{◌==◌, if◌then◌else◌}
 use Rattle.std.specs.Option.{option_and_then}
 use Rattle.std.proofs.lemmas.Bool.{eq-eqb, eqb-false, false≢true, ne_eqb}
@@ -18,23 +18,18 @@ use Rattle.flat_state.specs.Names.{stands}
 use Rattle.run_journal.specs.Legal.{limit_of, locked_by}
 use Rattle.kind_store.specs.Changes.{is_name}
 use Rattle.owner_shelf.proofs.NameLemmas.{eq_same}
-use Rattle.desc_stores.specs.declared.items.Item.TheVariants as item
-use Rattle.desc_stores.specs.Contents.{content_of, resident_as, residents_of, Contents, LockIs}
-use Rattle.shown_state.proofs.ContentLemmas.{item_has_name}
-use Rattle.store_residents.proofs.ResidentLemmas.{loaded_resident, resident_loaded}
-use Rattle.desc_parents.specs.Seen.{seen}
-use Rattle.desc_groups.specs.Moves.{MayBeLocked}
-use Rattle.desc_groups.proofs.OwnerLemmas.{kernel_there, limit_is, owner_stands}
+use Rattle.desc_tables.specs.desc_stores.specs.declared.items.Item.TheVariants as item
+use Rattle.desc_tables.specs.desc_stores.specs.Contents.{content_of, resident_as, residents_of, Contents, LockIs}
+use Rattle.desc_tables.specs.shown_state.proofs.ContentLemmas.{item_has_name}
+use Rattle.desc_tables.specs.store_residents.proofs.ResidentLemmas.{loaded_resident, resident_loaded}
+use Rattle.desc_tables.specs.desc_parents.specs.Seen.{seen}
+use Rattle.desc_tables.specs.desc_groups.specs.Moves.{MayBeLocked}
+use Rattle.desc_tables.specs.desc_groups.proofs.OwnerLemmas.{kernel_there, limit_is, owner_stands}
 use Rattle.desc_tables.specs.Tables.{AreSound, Held}
-use Rattle.board_ops.specs.declared.refusals.Refused.{Refused}
 use Rattle.board_ops.specs.declared.refusals.Refused.TheVariants as why
 use Rattle.board_checks.specs.Identifiers.{name_as}
 use Rattle.board_checks.specs.Refusals.{at_limit, first_kernel, is_first_kernel, limit_reached, limit_reached_by, not_owned, not_owned_as}
-
--- a test that would fail
-not_if : (b : Bool) (e : Refused) → None ≡ (if b then Some e else None) → b ≡ false
-not_if true e is = absurd (cc)
-not_if false e is = refl
+use Rattle.board_checks.proofs.FirstLemmas.{passes_unless}
 
 module _ (c : Contents) (ident : Ident) (n : Name) (is : name_as c ident ≡ Some n) where
   -- the tests of a name are those of what is loaded with the identifier
@@ -51,7 +46,7 @@ held_as c ident n r = subst (λ (i : Ident). resident_as c i ≡ Some r.0) r.2 (
 
 -- what isn't refused as the first kernel is another one
 pub another_if : (n : Name) → None ≡ is_first_kernel n → n ≢ first_name
-another_if n passes same = false≢true (sym (not_if (is_name n first_name) why.FirstKernel passes) ∙ eq_same n first_name same)
+another_if n passes same = false≢true (sym (passes_unless (is_name n first_name) why.FirstKernel passes) ∙ eq_same n first_name same)
 
 abbrev number_of : Name → KernelNo → KernelNo
 number_of (name.Kernel kernel) other = kernel
@@ -96,7 +91,7 @@ module _ (held : Held) (pairs : List (Ident × Node)) (sound : AreSound held pai
   left_if kernel there of passes =
       let found = kernel_there held.contents sound.whole.one kernel there in
       let low = within kernel found.0 found.1 of in
-      let apart = eqb-false (locked_by (seen held.contents) (residents_of held.contents) kernel of) (limit_of (seen held.contents) kernel of) (not_if _ (why.LimitReached kernel of (limit_of (seen held.contents) kernel of)) passes) in
+      let apart = eqb-false (locked_by (seen held.contents) (residents_of held.contents) kernel of) (limit_of (seen held.contents) kernel of) (passes_unless _ (why.LimitReached kernel of (limit_of (seen held.contents) kernel of)) passes) in
       omega arith
 
   module _ (ident : Ident) (r : Resident) (is : resident_as held.contents ident ≡ Some r) where

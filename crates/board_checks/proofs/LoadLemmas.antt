@@ -1,6 +1,6 @@
 -- What is so of a name that a load isn't refused for.
-use Rattle.std.proofs.Common.{◌≡◌, ℕ, Bool, true, false, [], ◌++◌, map, find, Contains, Option, Some, None, slice_get, refl, sym, ◌∙◌, ap, subst, inl, inr}
-use Rattle.std.specs.Prelude.{◌/◌, ◌==◌, if◌then◌else◌, is_none, option_to_list}
+use Rattle.std.proofs.Common.{◌≡◌, ℕ, true, false, [], ◌++◌, map, find, Contains, Option, Some, None, slice_get, refl, sym, ◌∙◌, ap, subst, inl, inr}
+use Rattle.std.specs.Prelude.{◌/◌, ◌==◌, is_none, option_to_list}
 use Rattle.std.specs.Option.{option_and_then, option_eq, option_map}
 use Rattle.std.proofs.lemmas.Bool.{eqb-true}
 use Rattle.std.proofs.lemmas.Option.{same_Some}
@@ -27,37 +27,25 @@ use Rattle.flat_state.specs.Translation.{is_fit_row}
 use Rattle.run_journal.specs.Groups.{HasParents}
 use Rattle.kind_store.specs.Changes.{is_name}
 use Rattle.owner_shelf.proofs.NameLemmas.{same_by_eq}
-use Rattle.desc_stores.specs.declared.items.Item.{Item}
-use Rattle.desc_stores.specs.declared.items.Item.TheVariants as item
-use Rattle.desc_stores.specs.Contents.{item_as, residents_of, Contents, IsShelved}
-use Rattle.desc_stores.specs.Sound.{IsExactlyOne}
-use Rattle.shown_state.specs.Shown.{thread_of}
-use Rattle.shown_state.proofs.ContentLemmas.{row_has_name}
-use Rattle.shown_state.proofs.LookupLemmas.{found_row, name_stands}
-use Rattle.store_residents.proofs.ContentLemmas.{shelved_iff}
-use Rattle.store_residents.proofs.ResidentLemmas.{one_each}
-use Rattle.desc_parents.specs.Idents.{ident_of}
-use Rattle.desc_parents.specs.Seen.{seen}
-use Rattle.desc_parents.proofs.IdentLemmas.{ident_back, ident_found, ident_none}
+use Rattle.desc_tables.specs.desc_stores.specs.declared.items.Item.{Item}
+use Rattle.desc_tables.specs.desc_stores.specs.declared.items.Item.TheVariants as item
+use Rattle.desc_tables.specs.desc_stores.specs.Contents.{item_as, residents_of, Contents, IsShelved}
+use Rattle.desc_tables.specs.desc_stores.specs.Sound.{IsExactlyOne}
+use Rattle.desc_tables.specs.shown_state.specs.Shown.{thread_of}
+use Rattle.desc_tables.specs.shown_state.proofs.ContentLemmas.{row_has_name}
+use Rattle.desc_tables.specs.shown_state.proofs.LookupLemmas.{found_row, name_stands}
+use Rattle.desc_tables.specs.store_residents.proofs.ContentLemmas.{shelved_iff}
+use Rattle.desc_tables.specs.store_residents.proofs.ResidentLemmas.{one_each}
+use Rattle.desc_tables.specs.desc_parents.specs.Idents.{ident_of}
+use Rattle.desc_tables.specs.desc_parents.specs.Seen.{seen}
+use Rattle.desc_tables.specs.desc_parents.proofs.IdentLemmas.{ident_back, ident_found, ident_none}
 use Rattle.board_ops.specs.declared.refusals.Refused.{Refused}
 use Rattle.board_ops.specs.declared.refusals.Refused.TheVariants as why
 use Rattle.board_checks.specs.Facts.{IsLoadable}
 use Rattle.board_checks.specs.Identifiers.{receiver_as, space_as, thread_as}
 use Rattle.board_checks.specs.Refusals.{already_loaded, beyond_rights, is_absent, not_declared, not_owner, receivers_absent, refusal_in_space, refusal_of_row, wrong_parent, wrong_receiver, wrong_space}
+use Rattle.board_checks.proofs.FirstLemmas.{none_mapped, passes_if}
 use Rattle.board_checks.proofs.IdentifierLemmas.{item_resident, space_is}
-
--- a test that passes
-passes_if : (b : Bool) (e : Refused) → None ≡ (if b then None else Some e) → b ≡ true
-passes_if true e is = refl
-passes_if false e is = absurd (cc)
-
-passes_unless : (b : Bool) (e : Refused) → None ≡ (if b then Some e else None) → b ≡ false
-passes_unless true e is = absurd (cc)
-passes_unless false e is = refl
-
-none_mapped : {X : Type 0} (f : X → Refused) (o : Option X) → None ≡ option_map f o → o ≡ None
-none_mapped f None is = refl
-none_mapped f (Some x) is = absurd (cc)
 
 -- ---- is it loaded?
 

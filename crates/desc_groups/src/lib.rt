@@ -11,6 +11,9 @@ mod owners;
 mod places;
 
 pub use departures::{Gone, leave};
+pub use desc_parents::{
+    Item, ItemRef, Parents, ResidentPairs, Stores, is_fit, kernel_of, parents_of,
+};
 pub use entering::enter;
 pub use locks::{lock, unlock};
 pub use owners::{class_of, owner_of};

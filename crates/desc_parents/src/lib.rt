@@ -3,8 +3,7 @@
 
 mod fits;
 mod found;
-#[cfg(test)]
-mod tests;
 
 pub use fits::{is_fit, kernel_of};
 pub use found::{Parents, parents_of};
+pub use store_residents::{Item, ItemRef, ResidentPairs, Stores};

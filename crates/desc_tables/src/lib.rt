@@ -5,11 +5,8 @@
 
 mod names;
 mod tables;
-#[cfg(test)]
-mod tests;
 
-pub use desc_groups::Gone;
-pub use desc_parents::Parents;
-pub use desc_stores::{Item, ItemRef};
+pub use desc_admits::groups::Gone;
+pub use desc_admits::{Item, ItemRef, Parents, Stores, is_fit, kernel_of, parents_of};
 pub use names::Names;
 pub use tables::Tables;

@@ -5,6 +5,4 @@ mod gone;
 mod group;
 
 pub use group::Group;
-
-#[cfg(test)]
-mod tests;
+pub use journal_tables::{Flat, Tables, rules as rules};

@@ -7,8 +7,7 @@ mod laws;
 mod locks;
 mod tables;
 
+pub use journal_rules as rules;
+pub use journal_rules::Flat;
 pub use laws::what_is_resident_stays_through_events;
 pub use tables::Tables;
-
-#[cfg(test)]
-mod tests;
