@@ -1,0 +1,7 @@
+mod LoopLaws
+mod GoodLaws
+mod RowLaws
+mod BadLaws
+mod GroupLaws
+mod TurnLaws
+mod CompletionLaws

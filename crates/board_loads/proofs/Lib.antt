@@ -1,0 +1,3 @@
+pub mod SealLaws
+pub mod LoadLaws
+pub mod HoldLaws

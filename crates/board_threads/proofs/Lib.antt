@@ -1,0 +1,7 @@
+pub mod TestLemmas
+pub mod SettleLemmas
+pub mod IdentLemmas
+pub mod FaultLemmas
+pub mod CandidateLemmas
+pub mod PostLemmas
+pub mod NeverLemmas
