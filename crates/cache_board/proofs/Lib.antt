@@ -1,0 +1,4 @@
+pub mod ViewLaws
+pub mod DeskLaws
+pub mod DriveLaws
+mod EventLaws

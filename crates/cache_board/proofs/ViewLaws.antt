@@ -1,0 +1,47 @@
+-- Views of a ticket that a run ahead changed are of it still.
+use Rattle.std.proofs.Common.{◌≡◌, ℕ, zero, suc, List, [], ◌∷◌, Some, slice_get, option_map, refl, sym, ◌∙◌, ap, subst}
+use Rattle.std.proofs.lemmas.Option.{slice_get-map}
+use Rattle.cache_ident.specs.declared.idents.Ident.{Ident}
+use Rattle.cache_ident.specs.declared.names.Name.TheVariants as name
+use Rattle.cache_ident.specs.declared.names.SpaceNo.{SpaceNo}
+use Rattle.phys_groups.specs.Translation.{row_of}
+use Rattle.flat_state.proofs.Places.{get_from_Contains, get_from_map, Contains-from_get}
+use Rattle.rv32_exec.specs.Pages.{Page}
+use Rattle.run_journal.specs.declared.entries.Entry.{Entry}
+use Rattle.run_journal.specs.declared.entries.Entry.TheVariants.{Loaded}
+use Rattle.page_views.specs.Views.{copied, copies_of, Copied, View}
+use Rattle.board_commits.specs.quantum.specs.Ahead.{further, one_ahead, outcome, views_with, Ahead}
+use Rattle.board_commits.specs.Tickets.{state_at, AreOfTicket, IsCopiedIn, IsOfTicket}
+
+-- steps leave what was copied
+with_copies : (vs : List View) (ps : List Page) → copies_of (views_with vs ps) ≡ copies_of vs
+with_copies [] ps = refl
+with_copies (v ∷ vs) [] = refl
+with_copies (v ∷ vs) (p ∷ ps) = ap (λ (cs : List Copied). copied v ∷ cs) (with_copies vs ps)
+
+pub further_copies : (k : ℕ) (a : Ahead) → copies_of (further k a).views ≡ copies_of a.views
+further_copies zero a = refl
+further_copies (suc k) a = further_copies k (one_ahead a) ∙ with_copies a.views (outcome a).pages
+
+module _ (j : List Entry) (thread : Ident) where
+  copied_as : (space : SpaceNo) (v u : View) → copied v ≡ copied u → IsCopiedIn j space v → IsCopiedIn j space u
+  copied_as space v u same c = record {
+    at = c.at;
+    cpu = c.cpu;
+    loaded = subst (λ (x : Copied). slice_get j c.at ≡ Some (Loaded x.row (name.Mapping space x.vpn) c.cpu)) same c.loaded;
+    row = c.row;
+    there = subst (λ (x : Copied). row_of (state_at j c.at).rows space x.vpn.0 ≡ Some c.row) same c.there;
+    frame = subst (λ (x : Copied). c.row.frame ≡ x.frame) same c.frame;
+    flags = subst (λ (x : Copied). c.row.flags ≡ x.flags) same c.flags;
+  }
+
+  of_as : (v u : View) → copied v ≡ copied u → IsOfTicket j thread v → IsOfTicket j thread u
+  of_as v u same of = record { space = of.space; of = of.of; copied = copied_as of.space v u same of.copied }
+
+  pub all_of : (vs us : List View) → copies_of us ≡ copies_of vs → AreOfTicket j thread vs → AreOfTicket j thread us
+  all_of vs us same are u there =
+      let at = get_from_Contains us u there in
+      let copy : slice_get (copies_of vs) at.0 ≡ Some (copied u) =
+      ap (λ (cs : List Copied). slice_get cs at.0) (sym same) ∙ slice_get-map copied us at.0 ∙ ap (option_map copied) at.1 in
+      let from = get_from_map copied vs at.0 (copied u) copy in
+      of_as from.0 u from.2 (are from.0 (Contains-from_get vs at.0 from.0 from.1))

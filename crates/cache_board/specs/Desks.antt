@@ -1,0 +1,31 @@
+-- What lies on a desk, and for whom it was copied.
+use Rattle.std.specs.Prelude.{◌≡◌, ℕ, List, None, Some, slice_get, slice_set}
+use Rattle.run_journal.specs.declared.entries.Entry.{Entry}
+use Rattle.board_commits.specs.board_threads.specs.declared.tickets.Ticket.{Ticket}
+use Rattle.board_commits.specs.Tickets.{AreOfTicket}
+use Rattle.cache_board.specs.declared.place.Place.{Place}
+
+-- for each of the eight processors its place, with its ticket, if it has one, and its quantum
+pub record Desktop : Type 0 where
+  pub places : List Place
+
+-- no processor has a ticket
+abbrev pub IsClear : Desktop → Type 0
+IsClear d = (cpu : ℕ) (place : Place) → slice_get d.places cpu ≡ Some place → place.ticket ≡ None
+
+-- the ticket is for the processor, and each view of the quantum was copied for the thread of the ticket
+pub record IsOfIts (j : List Entry) (cpu : ℕ) (place : Place) (ticket : Ticket) : Type 0 where
+  pub processor : ticket.cpu ≡ cpu
+  pub views : AreOfTicket j ticket.thread place.quantum.views
+
+-- this is so of each ticket that a processor has
+abbrev pub AreOfTickets : List Entry → Desktop → Type 0
+AreOfTickets j d = (cpu : ℕ) (place : Place) (ticket : Ticket) → slice_get d.places cpu ≡ Some place → place.ticket ≡ Some ticket → IsOfIts j cpu place ticket
+
+-- only the place of the processor changed, and so
+pub record AtPlace (cpu : ℕ) (change : Place → Place → Type 0) (old new : Desktop) : Type 0 where
+  pub before : Place
+  pub there : slice_get old.places cpu ≡ Some before
+  pub after : Place
+  pub rest : new ≡ record { places = slice_set old.places cpu after }
+  pub changes : change before after
