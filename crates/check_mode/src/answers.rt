@@ -3,7 +3,7 @@
 ghost use Rattle.std.specs.Prelude.{List, ℕ, IfOk, IfErr};
 ghost use Rattle.check_mode.specs.Answers.{IsCheckedOn, IsChecked, IsFaultOf, IsJournal};
 
-use crate::parts::parts;
+use crate::inputs::parts;
 use crate::texts::{fault_line, no_line, steps_in, yes_text};
 use flat_machine::{NoMemory, Settled};
 use journal_check::{Verdict, check};

@@ -2,10 +2,11 @@
 #![tactic(auto)]
 
 mod answers;
-mod parts;
+mod inputs;
 mod texts;
 
 pub use answers::{Checked, answer};
+pub use inputs::parts;
 
 #[cfg(test)]
 mod tests;

@@ -1,5 +1,5 @@
 use super::*;
-use crate::parts::parts;
+use crate::inputs::parts;
 use flat_machine::Settled;
 use scenario_reader::ScenarioFault;
 use std::alloc::Global;

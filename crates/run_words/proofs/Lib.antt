@@ -1,3 +1,4 @@
 mod Found
 mod Taken
 mod Values
+mod Steps

@@ -24,10 +24,10 @@ pub command_is_free : is_simple_and_free command ≡ true
 unfolding clap_on_literals
 command_is_free = refl
 
-chosen : (kinds : Kinds) (o : Option Options) → kinds ≡ [] → (if is_empty kinds then o else None) ≡ o
+pub chosen : {A : Type 0} (kinds : Kinds) (o : Option A) → kinds ≡ [] → (if is_empty kinds then o else None) ≡ o
 chosen kinds o none = ap (λ (k : Kinds). if is_empty k then o else None) none
 
-not_chosen : (kinds : Kinds) (kind : ErrorKind) (o : Option Options) → IsAmong kind kinds → (if is_empty kinds then o else None) ≡ None
+pub not_chosen : {A : Type 0} (kinds : Kinds) (kind : ErrorKind) (o : Option A) → IsAmong kind kinds → (if is_empty kinds then o else None) ≡ None
 not_chosen [] kind o among = absurd among
 not_chosen (k ∷ ks) kind o among =
     let some : (length (k ∷ ks) == 0) ≡ false = ne_eqb _ _ (λ e. absurd (omega (arith, e))) in

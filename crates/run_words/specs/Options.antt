@@ -12,7 +12,7 @@ use Rattle.run_words.specs.declared.options.Mode.TheVariants.{Run, Journal, Gen,
 use Rattle.run_words.specs.declared.options.Options.{Options}
 use Rattle.run_words.specs.declared.options.WordsFault.{WordsFault}
 use Rattle.run_words.specs.declared.options.WordsFault.TheVariants.{NoMemory, Refused}
-use Rattle.run_words.specs.Command.{command}
+use Rattle.run_words.specs.Command.{command, drive_command}
 
 -- the mode of that name
 abbrev pub mode_named : Text → Option Mode
@@ -64,3 +64,15 @@ abbrev pub IsReading : List Text → Result Options WordsFault → Type 0
 IsReading words (Ok o) = options words ≡ Some o
 IsReading words (Err NoMemory) = Unit {0}
 IsReading words (Err Refused) = options words ≡ None
+
+-- ---- the board by hand
+
+-- How many steps the words allow, where its command takes them.
+unfoldable pub steps_allowed : List Text → Option ℕ
+steps_allowed words = if is_empty (fault_of drive_command words) then number_in (codes "steps") (matches_of drive_command words) else None
+
+-- The words allow as many steps as were read; or they aren't taken, or memory ran out.
+abbrev pub IsReadingOfSteps : List Text → Result ℕ WordsFault → Type 0
+IsReadingOfSteps words (Ok steps) = steps_allowed words ≡ Some steps
+IsReadingOfSteps words (Err NoMemory) = Unit {0}
+IsReadingOfSteps words (Err Refused) = steps_allowed words ≡ None

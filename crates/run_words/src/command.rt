@@ -1,8 +1,8 @@
-//! The command that the words are given to, and what it makes of them.
+//! The command that the words of a run are given to, and what it makes of them.
 
 ghost use Rattle.std.specs.Prelude.{◌≡◌, [], false, IfOk};
 ghost use Rattle.clap.specs.Words.{app_of, rule_of, found_of, rows_of};
-ghost use Rattle.run_words.specs.Command.{option, bare, command};
+ghost use Rattle.run_words.specs.Command.{option, bare, command, steps_option};
 ghost use Rattle.run_words.specs.Examples.{AreTaken, AreRefused};
 ghost use Rattle.run_words.specs.Values.{ModesAreNamed, NumbersHaveRanges};
 ghost use Rattle.run_words.specs.Options.{mode_in, number_in, options_in, fault_by, IsReading, by_default};
@@ -26,30 +26,38 @@ fn option<'a>(alloc: Global, name: &'a str, default: &'a str, parser: ValueParse
         .value_parser(parser)
 }
 
-// The command without its options.
-fn bare<'a>(alloc: Global) -> Command<'a>
-    ensures { app_of result ≡ bare }
+// How many steps may be taken.
+pub(crate) fn steps_option<'a>(alloc: Global) -> Arg<'a>
+    ensures rule { rule_of result ≡ steps_option }
+    ensures local { result.global ≡ false }
 {
-    Command::new(alloc, "v_run")
+    option(
+        alloc,
+        "steps",
+        "1000000",
+        ValueParser::unsigned(1, 1_000_000),
+    )
+}
+
+// A program's command without its options.
+pub(crate) fn bare<'a>(alloc: Global, name: &'a str) -> Command<'a>
+    ensures { app_of result ≡ bare name.entry.now }
+{
+    Command::new(alloc, name)
         .no_binary_name(true)
         .disable_help_flag(true)
 }
 
-// The command of the program, without a help flag and without subcommands.
+// The command of the program that runs scenarios, without a help flag and without subcommands.
 fn command<'a>(alloc: Global) -> Result<Command<'a>, AllocError>
     ensures { IfOk result (λ c. app_of c ≡ command) }
 {
     let mode = option(alloc, "mode", "run", ValueParser::String);
     let cpus = option(alloc, "cpus", "1", ValueParser::unsigned(1, 8));
-    let steps = option(
-        alloc,
-        "steps",
-        "1000000",
-        ValueParser::unsigned(1, 1_000_000),
-    );
+    let steps = steps_option(alloc);
     let seed = option(alloc, "seed", "0", ValueParser::unsigned(0, 4_294_967_295));
     let frames = option(alloc, "frames", "64", ValueParser::unsigned(2, 2048));
-    bare(alloc)
+    bare(alloc, "v_run")
         .arg(mode)?
         .arg(cpus)?
         .arg(steps)?
@@ -65,7 +73,7 @@ fn mode_in<'a>(matches: &ArgMatches<'a>) -> Option<Mode>
 }
 
 // The number that was found for an option.
-fn number_in<'a>(matches: &ArgMatches<'a>, name: &str) -> Option<u32>
+pub(crate) fn number_in<'a>(matches: &ArgMatches<'a>, name: &str) -> Option<u32>
     ensures { result ≡ number_in name.now (rows_of (found_of matches.now)) }
 {
     matches.get_one(name)
@@ -86,7 +94,7 @@ fn options_in<'a>(matches: &ArgMatches<'a>) -> Option<Options>
 }
 
 // Why a parse failed.
-fn fault_by(kind: ErrorKind) -> WordsFault
+pub(crate) fn fault_by(kind: ErrorKind) -> WordsFault
     ensures { result ≡ fault_by kind }
 {
     match kind {
@@ -95,7 +103,7 @@ fn fault_by(kind: ErrorKind) -> WordsFault
     }
 }
 
-/// What the words ask for, where the program takes them.
+/// What the words ask for, where the program that runs scenarios takes them.
 pub fn read(alloc: Global, words: &Words) -> Result<Options, WordsFault>
     // The words ask for these options; or they aren't taken, or memory ran out.
     ensures meant { IsReading words.now result }

@@ -46,3 +46,14 @@ fn words_that_are_refused(rt: HostRuntime) -> Result<(), Fail> {
     }
     Ok(())
 }
+
+#[test]
+fn steps_of_the_board_by_hand(rt: HostRuntime) -> Result<(), Fail> {
+    let mut words = Words::new(rt.alloc());
+    assert!(rt; matches!(read_steps(rt.alloc(), &words), Ok(1_000_000)));
+    words.push("--steps=12")?;
+    assert!(rt; matches!(read_steps(rt.alloc(), &words), Ok(12)));
+    words.push("--seed=1")?;
+    assert!(rt; matches!(read_steps(rt.alloc(), &words), Err(WordsFault::Refused)));
+    Ok(())
+}

@@ -1,3 +1,4 @@
 pub mod Goes
 pub mod Whole
 pub mod Kernels
+pub mod OpeningLaws

@@ -87,7 +87,7 @@ declared_fits None r d e h =
     ((all, flat), some_more r.decls d)
 declared_fits (Some rule) r d e h = tt
 
-declare_fits : (r : Reading) (d : Decl) → Fits r → IfOk (declare r d) Firm
+pub declare_fits : (r : Reading) (d : Decl) → Fits r → IfOk (declare r d) Firm
 unfolding declare
 declare_fits r d h = declared_fits (broken_rule r.flat d) r d refl h
 
@@ -184,7 +184,7 @@ image_keeps r space frame thread (Ok NoBytes) h = h
 image_keeps r space frame thread (Ok (Bytes digits)) h = h
 image_keeps r space frame thread (Ok LastBytes) h = loaded_keeps (broken_image r.bytes) r space frame thread h
 
-place_keeps : (p : Place) (r : Reading) (line : List ℕ) → Stands r → HasSome p (length r.decls) → IfOk (at_place p r line) Stands
+pub place_keeps : (p : Place) (r : Reading) (line : List ℕ) → Stands r → HasSome p (length r.decls) → IfOk (at_place p r line) Stands
 place_keeps Start r line h some = form_keeps at_start r (line_of line) (λ l. start_keeps r l h)
 place_keeps (Memory groups) r line h some = form_keeps (λ s. behind_memory s groups) r (line_of line) (λ l. memory_keeps r groups l h)
 place_keeps Body r line h some = form_keeps in_body r (line_of line) (λ l. weaker (in_body r l) (body_keeps r l (h.0, some)))
@@ -202,7 +202,7 @@ pub unended_fails : (P : List Decl → Type 0) (r : Reading) (words : Result (Li
 unended_fails P r (Ok words) = tt
 unended_fails P r (Err fault) = tt
 
-whole_at : (p : Place) (r : Reading) → Fits r → HasSome p (length r.decls) → IfOk (finish_at p r) IsWhole
+pub whole_at : (p : Place) (r : Reading) → Fits r → HasSome p (length r.decls) → IfOk (finish_at p r) IsWhole
 whole_at Ended r h some = (h.0, some)
 whole_at (Code frame offset) r h some = unended_fails IsWhole r (block_words (room offset) r.block)
 whole_at Start r h some = tt

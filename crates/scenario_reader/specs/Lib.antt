@@ -1,3 +1,4 @@
 pub mod Readings
 pub mod Views
 pub mod Scenarios
+pub mod Openings

@@ -121,7 +121,7 @@ impl Reader {
     }
 
     // The machine, behind which the body begins.
-    fn declare_machine(&mut self, groups: u32, caps: Caps) -> Result<(), ScenarioFault>
+    pub(crate) fn declare_machine(&mut self, groups: u32, caps: Caps) -> Result<(), ScenarioFault>
         ensures { Takes reader_view result self.new (declare (in_place (reader_view self.old) Body) (decls.Machine (record { groups = groups; caps = caps }))) }
     {
         self.place = Place::Body;

@@ -88,3 +88,24 @@ fn the_first_fault_of_code(rt: HostRuntime) {
         );
     }
 }
+
+#[test]
+fn an_opening_needs_no_kernel(rt: HostRuntime) -> Result<(), Fail> {
+    let bare = read_opening(rt.alloc(), b"mem 1\nend\n")?;
+    assert!(rt; matches!(bare.decls(), [Decl::Machine { .. }]));
+    let whole = read_opening(rt.alloc(), HELLO)?;
+    assert_eq!(rt; whole.decls().len(), 10);
+    let texts: [(&[u8], u64, u32); 4] = [
+        (b"mem 1\n", 2, 24),
+        (b"end\n", 1, 5),
+        (b"mem 1\nend x\n", 2, 3),
+        (b"mem 1\nspace 0 0\nend\n", 2, 12),
+    ];
+    for (text, line, rule) in texts {
+        assert!(rt;
+            is_fault(read_opening(rt.alloc(), text), line, rule),
+            "line {line} rule {rule}"
+        );
+    }
+    Ok(())
+}

@@ -1,7 +1,7 @@
 use Rattle.std.proofs.Common.{◌≡◌, ◌-◌, true, false, List, ℕ, length, take, drop, ap, sym, subst, ◌∙◌}
 use Rattle.check_mode.specs.Parts.{is_end}
 use Rattle.check_mode.proofs.Cuts.{IsBehind, one_more, scenario_before, journal_behind, all_scenario, no_journal}
-use Rattle.check_mode.proofs.parts.parts.Goals as goal
+use Rattle.check_mode.proofs.inputs.parts.Goals as goal
 
 pub returns-then-is_end-clause-scenario : goal.returns-then-is_end-clause-scenario
 returns-then-is_end-clause-scenario c =

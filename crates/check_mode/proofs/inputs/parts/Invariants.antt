@@ -1,6 +1,6 @@
 use Rattle.std.proofs.Common.{length}
 use Rattle.check_mode.proofs.Cuts.{IsBehind}
-use Rattle.check_mode.proofs.parts.parts.Given as goal
+use Rattle.check_mode.proofs.inputs.parts.Given as goal
 
 -- no line before the rest ends the scenario
 abbrev pub invariant-loop-at : goal.invariant-loop-at
