@@ -1,0 +1,78 @@
+#!/usr/bin/env bash
+# Usage: bench/board.sh
+# Times calls of the board by hand, as v_drive makes them: a row that is unloaded and loaded again where 1,024 and where 65,536
+# rows are loaded, and a thread that is checked out and given back where 16 and where 16,000 threads stand. A call's time is
+# the difference between a long list and one without those calls. The ratios should be small: a row's cost is logarithmic
+# in what is loaded, and threads that aren't loaded cost a checkout nothing.
+set -euo pipefail
+top="$(cd "$(dirname "$0")/.." && pwd)"
+place="$(mktemp -d)"
+trap 'rm -rf "$place"' EXIT
+
+# Microseconds that the list takes, the least of five runs; its answers are left in the file answers.
+timed() {
+    local start end least=
+    for _ in 1 2 3 4 5; do
+        start=$(date +%s%N)
+        "$top/drive" < "$place/list" > "$place/answers"
+        end=$(date +%s%N)
+        [[ -n $least ]] && ((least <= (end - start) / 1000)) || least=$(((end - start) / 1000))
+    done
+    echo "$least"
+}
+
+machine() {
+    echo 'mem 16'
+    echo 'kernel 0'
+    for group in $(seq 0 15); do echo "right 0 $group rw"; done
+    echo 'space 0 0'
+}
+
+# rows N CYCLES: so many rows are loaded, and the first leaves and comes back so often.
+rows() {
+    machine
+    awk -v rows="$1" -v cycles="$2" 'BEGIN {
+        for (i = 0; i < rows; i++) print "map 0", i, i % 2048, "r"
+        print "end\nseal\nload space 0 K0.0 0"
+        for (i = 0; i < rows; i++) print "load row", 0, "K0.0 S0.1", i, "-"
+        # the seal and the space have the first two serials
+        serial = 2
+        for (i = 0; i < cycles; i++) {
+            print "unload 0 K0.0 M0." serial
+            print "load row", 0, "K0.0 S0.1", 0, "-"
+            serial = rows + 2 + i
+        }
+    }'
+}
+
+# threads N CYCLES: so many threads stand, sixteen of them loaded, and one is checked out and given back so often.
+threads() {
+    machine
+    awk -v threads="$1" -v cycles="$2" 'BEGIN {
+        for (i = 0; i < threads; i++) print "thread", i, 0, 0
+        print "map 0 0 0 rx\nend\nseal\nload space 0 K0.0 0"
+        print "load row", 0, "K0.0 S0.1", 0, "-"
+        for (i = 0; i < 16; i++) print "load thread 0 K0.0 S0.1", i
+        for (i = 0; i < cycles; i++) print "checkout 0\nleave 0"
+    }'
+}
+
+# compare WHAT SMALL LARGE CYCLES: times both, and prints their ratio.
+compare() {
+    local size base whole refused
+    local -a each=()
+    for size in "$2" "$3"; do
+        "$1" "$size" 0 > "$place/list"
+        base=$(timed)
+        "$1" "$size" "$4" > "$place/list"
+        whole=$(timed)
+        refused=$(grep -c '^refused\|^operation fault\|^scenario fault\|^no ' "$place/answers" || true)
+        each+=($(((whole - base) * 1000 / $4)))
+        echo "$size $1: ${each[-1]} ns for each of $4 pairs of calls ($refused refused)"
+    done
+    awk -v small="${each[0]}" -v large="${each[1]}" 'BEGIN { if (small > 0) print "ratio", large / small; else print "too few calls to tell" }'
+}
+
+"$top/build"
+compare rows 1024 65536 20000
+compare threads 16 16000 40000

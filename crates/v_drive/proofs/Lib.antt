@@ -1,0 +1,3 @@
+mod Declaring
+mod Taking
+mod Answering

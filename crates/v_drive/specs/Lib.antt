@@ -1,0 +1,4 @@
+pub mod Openings
+pub mod Lines
+pub mod Endings
+pub mod Dues
