@@ -3,8 +3,6 @@
 
 mod depends;
 mod nodes;
-#[cfg(test)]
-mod tests;
 
 pub use cache_ident::Class;
 pub use depends::Depends;

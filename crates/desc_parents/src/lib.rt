@@ -3,8 +3,6 @@
 
 mod fits;
 mod found;
-#[cfg(test)]
-mod tests;
 
 pub use fits::{is_fit, kernel_of};
 pub use found::{Parents, parents_of};

@@ -5,8 +5,6 @@
 
 mod names;
 mod tables;
-#[cfg(test)]
-mod tests;
 
 pub use desc_groups::Gone;
 pub use desc_parents::Parents;

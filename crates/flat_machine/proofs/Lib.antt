@@ -1,3 +1,2 @@
-mod DeclareSound
-mod ChangeSound
-mod PlainLaws
+pub mod DeclareSound
+pub mod ChangeSound

@@ -14,8 +14,8 @@ use flat_state::{Decl, Event, FlatKernel, FlatThread, Machine};
 use phys_groups::{Flags, Memory, Rights, Row};
 use rv32_exec::{Context, Output, Status};
 
-// The registers of a new thread.
-pub(crate) fn new_context(pc: u32, a0: u32, a1: u32) -> Context
+/// The registers of a new thread: all are 0 but its pc and two arguments, in a0 and a1.
+pub fn new_context(pc: u32, a0: u32, a1: u32) -> Context
     ensures { result ≡ record { regs = new_registers a0 a1; pc = pc } }
 {
     let mut regs = [0; 32];

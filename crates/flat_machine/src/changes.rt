@@ -57,8 +57,8 @@ impl Changes for Flat {
     }
 }
 
-// Puts the low bytes of a number at a place.
-pub(crate) fn store_in(memory: &mut Memory, at: u32, width: Width, value: u32)
+/// Puts the low bytes of a number, as many as the width has, at a place of memory.
+pub fn store_in(memory: &mut Memory, at: u32, width: Width, value: u32)
     requires within { at + size_of width ≤ length memory.old }
     requires aligned { at % size_of width ≡ 0 }
     ensures { memory.new ≡ put_bytes (size_of width) memory.old at value }
@@ -70,23 +70,23 @@ pub(crate) fn store_in(memory: &mut Memory, at: u32, width: Width, value: u32)
     }
 }
 
-// Appends an address to the thread's queue, unless the thread has ended.
-pub(crate) fn give_to(thread: &mut FlatThread, va: u32)
+/// Appends a signal's address to the thread's queue, unless the thread has ended. The queue has room for 64.
+pub fn give_to(thread: &mut FlatThread, va: u32)
     requires { is_ended thread.old.status ≡ false → length thread.old.queue.items < 64 }
     ensures { thread.new ≡ with_address va thread.old }
 {
     flat_thread::give(thread.status, &mut thread.queue, va);
 }
 
-// The thread goes on with an answer in a0.
-pub(crate) fn answer_to(thread: &mut FlatThread, value: u32)
+/// Has the thread go on, ready, with an answer in a0.
+pub fn answer_to(thread: &mut FlatThread, value: u32)
     ensures { thread.new ≡ answered thread.old value }
 {
     flat_thread::answer(&mut thread.context, &mut thread.status, value);
 }
 
-// Does what a call does to its thread alone.
-pub(crate) fn carry_out_of(thread: &mut FlatThread) -> Result<(), NoMemory>
+/// Does what a call does to its thread alone. Where there is no memory for what it prints, the thread is as it was.
+pub fn carry_out_of(thread: &mut FlatThread) -> Result<(), NoMemory>
     requires { is_completable thread.old ≡ true }
     ensures ok { OnOk result (thread.new ≡ own_part thread.old) }
     ensures err { OnErr result (thread.new ≡ thread.old) }

@@ -6,17 +6,11 @@
 mod apply;
 mod changes;
 mod flat;
-#[cfg(test)]
-mod mmu_tests;
-#[cfg(test)]
-mod plain;
-#[cfg(test)]
-mod plain_changes;
 mod records;
-#[cfg(test)]
-mod tests;
 
+pub use apply::new_context;
 pub use cache_ident::NoMemory;
+pub use changes::{answer_to, carry_out_of, give_to, store_in};
 pub use flat::Flat;
 pub use flat_state::{
     DataAccess, Decl, Event, FlatKernel, FlatThread, GREATEST_CAPS, MOST_DECLARED, Machine,

@@ -67,7 +67,8 @@ fn agree(flags: Flags, signals: bool) -> bool
     (!flags.m || (flags.w && !flags.x && !signals)) && (!signals || !flags.x)
 }
 
-fn rule_of_machine(machine: Machine) -> Result<(), u32>
+/// Whether a machine breaks a rule of its own, and which one it breaks first: 6 or 7 of those that `admit` has.
+pub fn rule_of_machine(machine: Machine) -> Result<(), u32>
     ensures { Gives result (rule_of_machine_def machine) }
 {
     if machine.groups == 0 || 16 < machine.groups {

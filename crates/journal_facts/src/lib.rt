@@ -8,6 +8,3 @@ mod rules;
 
 pub use facts::Facts;
 pub use rules::{each_rule_asks_its_kind, number};
-
-#[cfg(test)]
-mod tests;

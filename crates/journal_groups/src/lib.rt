@@ -5,6 +5,3 @@ mod gone;
 mod group;
 
 pub use group::Group;
-
-#[cfg(test)]
-mod tests;

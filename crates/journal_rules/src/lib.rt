@@ -11,6 +11,3 @@ pub use calls::complete;
 pub use follow::is_followed;
 pub use names::{cap, class, frame, has_parents, limit, owner, stands, stays_good};
 pub use steps::{may_step, run};
-
-#[cfg(test)]
-mod tests;

@@ -9,6 +9,3 @@ mod tables;
 
 pub use laws::what_is_resident_stays_through_events;
 pub use tables::Tables;
-
-#[cfg(test)]
-mod tests;

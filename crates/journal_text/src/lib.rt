@@ -12,6 +12,3 @@ pub use fields::{field, ident, number};
 pub use lines::entry_at;
 pub use printing::{print, put_decl, put_field, put_flags, put_ident, put_number, put_rights};
 pub use reading::read;
-
-#[cfg(test)]
-mod tests;

@@ -3,8 +3,6 @@
 
 mod shelf;
 mod shelved;
-#[cfg(test)]
-mod tests;
 
 pub use shelf::Shelf;
 pub use shelved::Shelved;

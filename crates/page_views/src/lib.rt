@@ -8,6 +8,3 @@ mod ways;
 
 pub use page::PageView;
 pub use table::PageViews;
-
-#[cfg(test)]
-mod tests;

@@ -7,6 +7,3 @@ mod paused;
 pub use ahead::Quantum;
 pub use page_views::PageView;
 pub use paused::Paused;
-
-#[cfg(test)]
-mod tests;

@@ -8,7 +8,7 @@ ghost use Rattle.ready_queue.specs.Choice.{IsChosen, is_before};
 use cache_ident::ThreadNo;
 
 /// A loaded thread that can run and is on no processor.
-#[derive(Clone, Copy, PartialEq, Eq, Debug)]
+#[derive(Clone, Copy, PartialEq, Eq, Debug, Default)]
 pub struct Candidate {
     pub no: ThreadNo,
     /// A greater number is chosen first.

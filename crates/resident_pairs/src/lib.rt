@@ -3,8 +3,6 @@
 
 mod laws;
 mod pairs;
-#[cfg(test)]
-mod tests;
 
 pub use laws::{
     a_lock_keeps_the_pairs, the_same_dependence_keeps_the_pairs, what_is_resident_has_room,

@@ -11,6 +11,3 @@ pub use dependents::Dependents;
 pub use frames::FrameRows;
 pub use list::{Held, Residents};
 pub use slots::Slots;
-
-#[cfg(test)]
-mod tests;

@@ -4,8 +4,6 @@
 mod iter;
 mod signals;
 mod store;
-#[cfg(test)]
-mod tests;
 
 pub use iter::SignalRows;
 pub use store::RowStore;

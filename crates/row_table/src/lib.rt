@@ -6,8 +6,6 @@ mod pages;
 mod signals;
 mod stamped;
 mod table;
-#[cfg(test)]
-mod tests;
 
 pub use iter::Rows;
 pub use table::RowTable;

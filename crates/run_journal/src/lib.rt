@@ -12,6 +12,3 @@ pub use laws::{
     a_journal_grows_until_its_seal, a_longer_journal_tells_more, what_is_resident_is_whole,
     what_is_told_is_so,
 };
-
-#[cfg(test)]
-mod tests;

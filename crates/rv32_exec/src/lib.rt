@@ -16,6 +16,3 @@ pub use outputs::{NoMemory, Output};
 pub use spaces::{Hole, Space, Width};
 pub use statuses::{Access, FaultKind, Misaligned, Reason, Status};
 pub use steps::{Stepped, step};
-
-#[cfg(test)]
-mod tests;

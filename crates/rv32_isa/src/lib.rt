@@ -9,6 +9,3 @@ mod writing;
 pub use forms::Instr;
 pub use reading::decode;
 pub use writing::encode;
-
-#[cfg(test)]
-mod tests;

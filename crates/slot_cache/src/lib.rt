@@ -6,8 +6,6 @@ mod index;
 mod iter;
 mod loaded;
 mod rows;
-#[cfg(test)]
-mod tests;
 
 pub use cache::Cache;
 pub use iter::Iter;

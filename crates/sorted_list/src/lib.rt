@@ -6,8 +6,6 @@ mod nodes;
 mod run;
 mod search;
 mod sorted;
-#[cfg(test)]
-mod tests;
 
 pub use run::Run;
 pub use sorted::SortedList;

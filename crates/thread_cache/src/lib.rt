@@ -26,7 +26,8 @@ pub struct ThreadRec {
     pub queue: ArrayVec<u32, 64>,
     /// What the thread has put out.
     pub output: Output,
-    /// The processor that has checked the thread out. Only a loaded thread has one.
+    /// The processor that has checked the thread out. It counts only while the thread is loaded: once it has left, no processor
+    /// has it, whatever stands here.
     pub on_cpu: Option<u32>,
     /// The number of the thread's last checkout, 0 before the first.
     pub last: u64,

@@ -10,83 +10,67 @@ ghost use Rattle.number_set.specs.Members.{is_in};
 ghost use Rattle.thread_cache.specs.declared.ThreadRec.{ThreadRec};
 ghost use Rattle.shown_state.specs.Shown.{flat_thread};
 ghost use Rattle.thread_sets.specs.Sets.{Sets, noted, pushed, SameButRoom};
-ghost use Rattle.thread_sets.specs.SetsOf.{takes_steps, AreFreeAfter, AreSetsOf, IsThread};
+ghost use Rattle.thread_sets.specs.SetsOf.{takes_steps, AreSetsOf, IsThread};
 
 /// Where there are no threads, nothing is in the sets.
 pub fn no_threads_have_empty_sets()
-    ensures { (room : ℕ) (free : ℕ → Bool) → AreSetsOf [] free (record { completable = []; ready = []; going = []; room = room }) }
+    ensures { (room : ℕ) → AreSetsOf [] (record { completable = []; ready = []; room = room }) }
 {}
 
 /// Whatever room there is, the sets are those of the same threads.
 pub fn room_keeps_the_sets()
-    ensures { (threads : List FlatThread) (free : ℕ → Bool) (sets new : Sets) → SameButRoom sets new
-        → AreSetsOf threads free sets → AreSetsOf threads free new }
-{}
-
-/// The sets are those of the same threads where the same are free.
-pub fn the_same_are_free()
-    ensures { (threads : List FlatThread) (free after : ℕ → Bool) (sets : Sets) → ((number : ℕ) → after number ≡ free number)
-        → AreSetsOf threads free sets → AreSetsOf threads after sets }
+    ensures { (threads : List FlatThread) (sets new : Sets) → SameButRoom sets new
+        → AreSetsOf threads sets → AreSetsOf threads new }
 {}
 
 /// Where a thread is ready as before, and its call can be completed as before, nothing needs to be noted.
 pub fn a_change_may_keep_the_sets()
-    ensures { (threads : List FlatThread) (free : ℕ → Bool) (sets : Sets) (number : ℕ) (old new : FlatThread)
+    ensures { (threads : List FlatThread) (sets : Sets) (number : ℕ) (old new : FlatThread)
         → slice_get threads number ≡ Some old → is_completable new ≡ is_completable old
-        → is_ready new.status ≡ is_ready old.status → AreSetsOf threads free sets
-        → AreSetsOf (slice_set threads number new) free sets }
+        → is_ready new.status ≡ is_ready old.status → AreSetsOf threads sets
+        → AreSetsOf (slice_set threads number new) sets }
 {}
 
-/// Once a thread is noted, the sets are those of the threads with it in its place, and of the same threads where it
-/// stood there.
+/// Once a thread is noted, the sets are those of the threads with it in its place.
 pub fn a_noted_thread_has_its_place()
-    ensures changed { (threads : List FlatThread) (free after : ℕ → Bool) (sets : Sets) (thread : ThreadRec) (loaded : Bool)
-        → thread.no.0 < length threads → AreFreeAfter free after thread loaded → AreSetsOf threads free sets
-        → AreSetsOf (slice_set threads thread.no.0 (flat_thread thread)) after (noted sets thread loaded) }
-    ensures stays { (threads : List FlatThread) (free after : ℕ → Bool) (sets : Sets) (thread : ThreadRec) (loaded : Bool)
-        → slice_get threads thread.no.0 ≡ Some (flat_thread thread) → AreFreeAfter free after thread loaded
-        → AreSetsOf threads free sets → AreSetsOf threads after (noted sets thread loaded) }
+    ensures { (threads : List FlatThread) (sets : Sets) (thread : ThreadRec) → thread.no.0 < length threads
+        → AreSetsOf threads sets → AreSetsOf (slice_set threads thread.no.0 (flat_thread thread)) (noted sets thread) }
 {}
 
-/// Once a thread has come, the sets are those of the threads with it as the last, which isn't free.
+/// Once a thread has come, the sets are those of the threads with it as the last.
 pub fn a_pushed_thread_comes_last()
-    ensures { (threads : List FlatThread) (free : ℕ → Bool) (sets : Sets) (thread : ThreadRec) → free (length threads) ≡ false
-        → AreSetsOf threads free sets → AreSetsOf (threads ++ flat_thread thread ∷ []) free (pushed sets thread) }
+    ensures { (threads : List FlatThread) (sets : Sets) (thread : ThreadRec)
+        → AreSetsOf threads sets → AreSetsOf (threads ++ flat_thread thread ∷ []) (pushed sets thread) }
 {}
 
 /// The sets are as long as there are threads.
 pub fn sets_are_as_long()
-    ensures { (threads : List FlatThread) (free : ℕ → Bool) (sets : Sets) → AreSetsOf threads free sets
+    ensures { (threads : List FlatThread) (sets : Sets) → AreSetsOf threads sets
         → length sets.completable ≡ length threads }
 {}
 
 /// Who is in a set stands.
 pub fn who_is_in_a_set_stands()
-    ensures completable { (threads : List FlatThread) (free : ℕ → Bool) (sets : Sets) (number : ℕ) → AreSetsOf threads free sets
+    ensures completable { (threads : List FlatThread) (sets : Sets) (number : ℕ) → AreSetsOf threads sets
         → IsTrue (is_in sets.completable number) → IsThread threads number is_completable }
-    ensures ready { (threads : List FlatThread) (free : ℕ → Bool) (sets : Sets) (number : ℕ) → AreSetsOf threads free sets
+    ensures ready { (threads : List FlatThread) (sets : Sets) (number : ℕ) → AreSetsOf threads sets
         → IsTrue (is_in sets.ready number) → IsThread threads number takes_steps }
-    ensures going { (threads : List FlatThread) (free : ℕ → Bool) (sets : Sets) (number : ℕ) → AreSetsOf threads free sets
-        → IsTrue (is_in sets.going number) → IsTrue (free number) × IsThread threads number takes_steps }
 {}
 
 /// What the sets say of the thread of a number.
 pub fn sets_tell_of_each_thread()
-    ensures completable { (threads : List FlatThread) (free : ℕ → Bool) (sets : Sets) (number : ℕ) (thread : FlatThread)
-        → AreSetsOf threads free sets → slice_get threads number ≡ Some thread
+    ensures completable { (threads : List FlatThread) (sets : Sets) (number : ℕ) (thread : FlatThread)
+        → AreSetsOf threads sets → slice_get threads number ≡ Some thread
         → is_in sets.completable number ≡ is_completable thread }
-    ensures ready { (threads : List FlatThread) (free : ℕ → Bool) (sets : Sets) (number : ℕ) (thread : FlatThread)
-        → AreSetsOf threads free sets → slice_get threads number ≡ Some thread
+    ensures ready { (threads : List FlatThread) (sets : Sets) (number : ℕ) (thread : FlatThread)
+        → AreSetsOf threads sets → slice_get threads number ≡ Some thread
         → is_in sets.ready number ≡ is_ready thread.status }
-    ensures going { (threads : List FlatThread) (free : ℕ → Bool) (sets : Sets) (number : ℕ) (thread : FlatThread)
-        → AreSetsOf threads free sets → slice_get threads number ≡ Some thread
-        → is_in sets.going number ≡ (free number && is_ready thread.status) }
 {}
 
 /// Where no number is in a set, there is no such thread.
 pub fn no_number_is_no_thread()
-    ensures completable { (threads : List FlatThread) (free : ℕ → Bool) (sets : Sets) → AreSetsOf threads free sets
+    ensures completable { (threads : List FlatThread) (sets : Sets) → AreSetsOf threads sets
         → IsFirstFrom (is_in sets.completable) 0 None → list_any is_completable threads ≡ false }
-    ensures ready { (threads : List FlatThread) (free : ℕ → Bool) (sets : Sets) → AreSetsOf threads free sets
+    ensures ready { (threads : List FlatThread) (sets : Sets) → AreSetsOf threads sets
         → IsFirstFrom (is_in sets.ready) 0 None → list_any takes_steps threads ≡ false }
 {}

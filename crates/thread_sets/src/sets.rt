@@ -4,7 +4,7 @@ ghost use Rattle.std.specs.Prelude.{◌≡◌, ◌+◌, ◌<◌, ◌≤◌, ◌^
 ghost use Rattle.number_set.specs.First.{IsFirstFrom};
 ghost use Rattle.number_set.specs.Members.{is_in};
 ghost use Rattle.flat_state.specs.State.{is_ready as is_ready_status};
-ghost use Rattle.thread_sets.specs.Sets.{can_be_completed as can_be_completed_def, may_go as may_go_def, noted, pushed, AreAlike, SameButRoom};
+ghost use Rattle.thread_sets.specs.Sets.{can_be_completed as can_be_completed_def, noted, pushed, AreAlike, SameButRoom};
 
 use cache_ident::NoMemory;
 use number_set::NumberSet;
@@ -28,51 +28,40 @@ fn is_ready(thread: &ThreadRec) -> bool
     matches!(thread.status, Status::Ready)
 }
 
-/// Whether the thread, which is loaded or not, may be checked out: it is loaded, is ready, and no processor has it.
-pub fn may_go(thread: &ThreadRec, loaded: bool) -> bool
-    ensures { result ≡ may_go_def loaded thread.now }
-{
-    loaded && is_ready(thread) && thread.on_cpu.is_none()
-}
-
-/// Of all threads that stand, by number: those whose call can be completed, those that are ready, and those that may be
-/// checked out.
+/// Of all threads that stand, by number: those whose call can be completed, and those that are ready.
 ///
-/// A contract sees the sets `completable`, `ready` and `going`, which are as long as there are threads, and the `room`,
-/// which is how many threads can come without memory. Laws say of a list of threads that has these sets (`AreSetsOf`) which
+/// A contract sees the sets `completable` and `ready`, which are as long as there are threads, and the `room`, which is how
+/// many threads can come without memory. Laws say of a list of threads that has these sets (`AreSetsOf`) which
 /// list has them after a call. Only `make_room` takes memory. Unless it says otherwise, a call takes constant time.
 #[derive(Drop)]
 pub struct ThreadSets {
     completable: NumberSet,
     ready: NumberSet,
-    going: NumberSet,
 }
 
 impl Model for ThreadSets {
-    ghost use Rattle.std.specs.Prelude.{min};
-    ghost use Rattle.thread_sets.specs.Sets.{AreAsLong, Sets};
+    ghost use Rattle.std.specs.Prelude.{◌≡◌, length, min};
+    ghost use Rattle.thread_sets.specs.Sets.{Sets};
 
     ghost Value = { Sets };
 
     ghost view = { λ all. record {
       completable = all.completable.flags;
       ready = all.ready.flags;
-      going = all.going.flags;
-      room = min all.completable.room (min all.ready.room all.going.room);
+      room = min all.completable.room all.ready.room;
     } };
 
-    ghost invariant = { λ all. AreAsLong all.completable.flags all.ready.flags all.going.flags };
+    ghost invariant = { λ all. length all.ready.flags ≡ length all.completable.flags };
 }
 
 impl ThreadSets {
     /// No threads, and no room for any. It takes no memory.
     pub fn new(alloc: Global) -> ThreadSets
-        ensures { result ≡ record { completable = []; ready = []; going = []; room = 0 } }
+        ensures { result ≡ record { completable = []; ready = []; room = 0 } }
     {
         ThreadSets {
             completable: NumberSet::new(alloc),
             ready: NumberSet::new(alloc),
-            going: NumberSet::new(alloc),
         }
     }
 
@@ -88,16 +77,14 @@ impl ThreadSets {
         ensures alike { AreAlike self.new }
     {
         self.completable.make_room()?;
-        self.ready.make_room()?;
-        self.going.make_room()
+        self.ready.make_room()
     }
 
     /// How many threads can come without memory.
     pub fn room(&self) -> usize
         ensures { result ≡ self.now.room }
     {
-        let fewer = self.ready.room().min(self.going.room());
-        self.completable.room().min(fewer)
+        self.completable.room().min(self.ready.room())
     }
 
     /// How many threads there are.
@@ -109,7 +96,7 @@ impl ThreadSets {
         self.completable.len()
     }
 
-    /// A thread comes that has just been declared, and isn't loaded. It has the next number. It takes no memory.
+    /// A thread comes that has just been declared. It has the next number. It takes no memory.
     pub fn push(&mut self, thread: &ThreadRec)
         requires room { 0 < self.old.room }
         requires next { thread.now.no.0 ≡ length self.old.completable }
@@ -118,19 +105,17 @@ impl ThreadSets {
     {
         self.completable.push(can_be_completed(thread));
         self.ready.push(is_ready(thread));
-        self.going.push(false);
     }
 
-    /// The thread is now as its record says, and loaded or not.
-    pub fn note(&mut self, thread: &ThreadRec, loaded: bool)
+    /// The thread is now as its record says.
+    pub fn note(&mut self, thread: &ThreadRec)
         requires { thread.now.no.0 < length self.old.completable }
-        ensures sets { self.new ≡ noted self.old thread.now loaded }
+        ensures sets { self.new ≡ noted self.old thread.now }
         ensures alike { AreAlike self.new }
     {
         let number = thread.no.0;
         self.completable.set(number, can_be_completed(thread));
         self.ready.set(number, is_ready(thread));
-        self.going.set(number, may_go(thread, loaded));
     }
 
     /// The first thread from a number on whose call can be completed. It takes the time of `NumberSet::next`.
@@ -145,12 +130,5 @@ impl ThreadSets {
         ensures { IsFirstFrom (is_in self.now.ready) from result }
     {
         self.ready.next(from)
-    }
-
-    /// The first thread from a number on that may be checked out. It takes the time of `NumberSet::next`.
-    pub fn next_going(&self, from: u32) -> Option<u32>
-        ensures { IsFirstFrom (is_in self.now.going) from result }
-    {
-        self.going.next(from)
     }
 }

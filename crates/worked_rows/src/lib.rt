@@ -1,12 +1,7 @@
-//! Programs whose outputs are known, run on the crates that stand below, and tests of crates whose own proofs are long: with
-//! tests in it a crate would be proved twice, from nothing both times, and the tests that stand here are proved without it.
+//! Programs whose outputs are known, run on the crates that stand below.
 #![tactic(auto)]
 
 #[cfg(test)]
-mod desc_stores_tests;
-#[cfg(test)]
 mod machines;
-#[cfg(test)]
-mod rv32_asm_tests;
 #[cfg(test)]
 mod tests;

@@ -6,6 +6,7 @@ use crate::machines::{
 use cache_ident::{KernelNo, Name, SpaceNo, ThreadNo, Vpn};
 use flat_machine::{Event, Flat, Settled};
 use rv32_exec::{Access, FaultKind, Reason, Status};
+use std::process::Abort;
 use std::test::Fail;
 
 const EXITED: Option<Status> = Some(Status::Ended(Reason::Exited { code: 0 }));
@@ -49,14 +50,12 @@ fn sender_and_receiver(
     )
 }
 
-#[test]
-fn a_signal_reaches_its_receiver(rt: HostRuntime) -> Result<(), Fail> {
-    let mut flat = Flat::new(rt.alloc());
-    sender_and_receiver(&rt, &mut flat)?;
-    words(&mut flat, 0, &[0x0001_02b7, 0x0202_ae23, 0x0000_0073])?;
-    assert_eq!(rt; run(&mut flat, 1_000_000)?, (Settled::Done, 9));
-    assert_eq!(rt; bits(&flat, 0), (2, 2, 1));
-    assert_eq!(rt; bits(&flat, 1), (2, 1, 0));
+fn signal_once(rt: &(impl Abort + AllocGlobal), flat: &mut Flat) -> Result<(), Fail> {
+    sender_and_receiver(rt, flat)?;
+    words(flat, 0, &[0x0001_02b7, 0x0202_ae23, 0x0000_0073])?;
+    assert_eq!(rt; run(flat, 1_000_000)?, (Settled::Done, 9));
+    assert_eq!(rt; bits(flat, 0), (2, 2, 1));
+    assert_eq!(rt; bits(flat, 1), (2, 1, 0));
     assert_eq!(rt; flat.caps().map(|caps| caps.threads), Some(256));
     assert_eq!(rt;
         flat.limits(KernelNo(0)).map(|limits| limits.kernels),
@@ -64,32 +63,44 @@ fn a_signal_reaches_its_receiver(rt: HostRuntime) -> Result<(), Fail> {
     );
     assert_eq!(rt; flat.kernel_of(SpaceNo(1)), Some(KernelNo(2)));
     assert_eq!(rt; (flat.spaces(), flat.threads()), (2, 2));
-    assert_eq!(rt; stands(&flat, 0, b""), EXITED);
+    assert_eq!(rt; stands(flat, 0, b""), EXITED);
     assert_eq!(rt;
-        stands(&flat, 1, b"131072"),
+        stands(flat, 1, b"131072"),
         Some(Status::Ended(Reason::Exited { code: 131_072 }))
     );
     Ok(())
 }
 
-// The rules are told by number, also before the machine is declared.
 #[test]
-fn an_early_declaration(rt: HostRuntime) -> Result<(), Fail> {
+fn a_signal_reaches_its_receiver(rt: HostRuntime) -> Result<(), Fail> {
     let mut flat = Flat::new(rt.alloc());
+    let done = signal_once(&rt, &mut flat);
+    std::mem::forget(flat);
+    done
+}
+
+// The rules are told by number, also before the machine is declared.
+fn declare_early(rt: &(impl Abort + AllocGlobal), flat: &mut Flat) -> Result<(), Fail> {
     let bare = map(0, 0, 0, "", None);
     assert_eq!(rt; flat.admit(&bare), Err(4));
     assert_eq!(rt; flat.admit(&map(0, 0, 0, "x", None)), Err(5));
     assert_eq!(rt; flat.admit(&kernel(0)), Err(5));
-    declare(&rt, &mut flat, &[machine(1)])?;
+    declare(rt, flat, &[machine(1)])?;
     assert_eq!(rt; flat.admit(&bare), Err(4));
     assert_eq!(rt; flat.admit(&machine(1)), Err(5));
     Ok(())
 }
 
 #[test]
-fn what_depends_on_what(rt: HostRuntime) -> Result<(), Fail> {
+fn an_early_declaration(rt: HostRuntime) -> Result<(), Fail> {
     let mut flat = Flat::new(rt.alloc());
-    sender_and_receiver(&rt, &mut flat)?;
+    let done = declare_early(&rt, &mut flat);
+    std::mem::forget(flat);
+    done
+}
+
+fn look_at_parents(rt: &(impl Abort + AllocGlobal), flat: &mut Flat) -> Result<(), Fail> {
+    sender_and_receiver(rt, flat)?;
     let (sender, receiver) = (SpaceNo(0), SpaceNo(1));
     let signal_row = Name::Mapping(receiver, Vpn(32));
     assert!(rt; flat.parents(Name::Kernel(KernelNo(1))).is_empty());
@@ -114,10 +125,16 @@ fn what_depends_on_what(rt: HostRuntime) -> Result<(), Fail> {
 }
 
 #[test]
-fn a_full_queue_holds_the_sender(rt: HostRuntime) -> Result<(), Fail> {
+fn what_depends_on_what(rt: HostRuntime) -> Result<(), Fail> {
     let mut flat = Flat::new(rt.alloc());
-    sender_and_receiver(&rt, &mut flat)?;
-    words(&mut flat, 0, &[0x0001_02b7, 0x0202_ae23, 0xffdf_f06f])?;
+    let done = look_at_parents(&rt, &mut flat);
+    std::mem::forget(flat);
+    done
+}
+
+fn fill_a_queue(rt: &(impl Abort + AllocGlobal), flat: &mut Flat) -> Result<(), Fail> {
+    sender_and_receiver(rt, flat)?;
+    words(flat, 0, &[0x0001_02b7, 0x0202_ae23, 0xffdf_f06f])?;
     let (sender, receiver) = (ThreadNo(0), ThreadNo(1));
     for _ in 0..129 {
         assert_eq!(rt;
@@ -154,11 +171,17 @@ fn a_full_queue_holds_the_sender(rt: HostRuntime) -> Result<(), Fail> {
 }
 
 #[test]
-fn threads_that_wait_for_each_other_are_stalled(rt: HostRuntime) -> Result<(), Fail> {
+fn a_full_queue_holds_the_sender(rt: HostRuntime) -> Result<(), Fail> {
     let mut flat = Flat::new(rt.alloc());
+    let done = fill_a_queue(&rt, &mut flat);
+    std::mem::forget(flat);
+    done
+}
+
+fn wait_for_each_other(rt: &(impl Abort + AllocGlobal), flat: &mut Flat) -> Result<(), Fail> {
     declare(
-        &rt,
-        &mut flat,
+        rt,
+        flat,
         &[
             machine(1),
             kernel(0),
@@ -169,24 +192,30 @@ fn threads_that_wait_for_each_other_are_stalled(rt: HostRuntime) -> Result<(), F
             map(0, 0, 0, "x", None),
         ],
     )?;
-    words(&mut flat, 0, &[0x0030_0893, 0x0000_0073])?;
-    assert_eq!(rt; run(&mut flat, 1_000_000)?, (Settled::Stalled, 4));
-    assert_eq!(rt; bits(&flat, 0), (1, 1, 0));
-    assert_eq!(rt; stands(&flat, 0, b""), Some(Status::Trapped));
-    assert_eq!(rt; stands(&flat, 1, b""), Some(Status::Trapped));
+    words(flat, 0, &[0x0030_0893, 0x0000_0073])?;
+    assert_eq!(rt; run(flat, 1_000_000)?, (Settled::Stalled, 4));
+    assert_eq!(rt; bits(flat, 0), (1, 1, 0));
+    assert_eq!(rt; stands(flat, 0, b""), Some(Status::Trapped));
+    assert_eq!(rt; stands(flat, 1, b""), Some(Status::Trapped));
     Ok(())
+}
+
+#[test]
+fn threads_that_wait_for_each_other_are_stalled(rt: HostRuntime) -> Result<(), Fail> {
+    let mut flat = Flat::new(rt.alloc());
+    let done = wait_for_each_other(&rt, &mut flat);
+    std::mem::forget(flat);
+    done
 }
 
 fn fault(kind: FaultKind, access: Access, va: u32) -> Option<Status> {
     Some(Status::Ended(Reason::Fault { kind, access, va }))
 }
 
-#[test]
-fn a_store_without_the_right_faults(rt: HostRuntime) -> Result<(), Fail> {
-    let mut flat = Flat::new(rt.alloc());
+fn store_without_the_right(rt: &(impl Abort + AllocGlobal), flat: &mut Flat) -> Result<(), Fail> {
     declare(
-        &rt,
-        &mut flat,
+        rt,
+        flat,
         &[
             machine(2),
             kernel(0),
@@ -198,14 +227,22 @@ fn a_store_without_the_right_faults(rt: HostRuntime) -> Result<(), Fail> {
             map(0, 16, 128, "rw", None),
         ],
     )?;
-    words(&mut flat, 0, &[0x0001_02b7, 0x0002_a023])?;
-    assert_eq!(rt; run(&mut flat, 1_000_000)?, (Settled::Done, 2));
-    assert_eq!(rt; bits(&flat, 0), (2, 1, 0));
+    words(flat, 0, &[0x0001_02b7, 0x0002_a023])?;
+    assert_eq!(rt; run(flat, 1_000_000)?, (Settled::Done, 2));
+    assert_eq!(rt; bits(flat, 0), (2, 1, 0));
     assert_eq!(rt;
-        stands(&flat, 0, b""),
+        stands(flat, 0, b""),
         fault(FaultKind::Rights, Access::Write, 0x0001_0000)
     );
     Ok(())
+}
+
+#[test]
+fn a_store_without_the_right_faults(rt: HostRuntime) -> Result<(), Fail> {
+    let mut flat = Flat::new(rt.alloc());
+    let done = store_without_the_right(&rt, &mut flat);
+    std::mem::forget(flat);
+    done
 }
 
 const MAP_AND_UNMAP: &str =
@@ -225,12 +262,10 @@ const COUNT: &str =
     "addi t1, zero, 10\nagain:\nlw t0, 0(a0)\naddi t0, t0, 1\nsw t0, 0(a0)\naddi t1, t1, -1\n\
 bne t1, zero, again\nadd a0, t0, zero\naddi a7, zero, 2\necall\naddi a7, zero, 0\necall\n";
 
-#[test]
-fn rows_come_and_go_by_calls(rt: HostRuntime) -> Result<(), Fail> {
-    let mut flat = Flat::new(rt.alloc());
+fn map_and_unmap(rt: &(impl Abort + AllocGlobal), flat: &mut Flat) -> Result<(), Fail> {
     declare(
-        &rt,
-        &mut flat,
+        rt,
+        flat,
         &[
             machine(1),
             kernel(0),
@@ -240,11 +275,11 @@ fn rows_come_and_go_by_calls(rt: HostRuntime) -> Result<(), Fail> {
             map(0, 0, 0, "x", None),
         ],
     )?;
-    code(rt.alloc(), &mut flat, 0, MAP_AND_UNMAP)?;
-    assert_eq!(rt; run(&mut flat, 1_000_000)?, (Settled::Done, 17));
-    assert_eq!(rt; bits(&flat, 0), (1, 1, 0));
+    code(rt.alloc(), flat, 0, MAP_AND_UNMAP)?;
+    assert_eq!(rt; run(flat, 1_000_000)?, (Settled::Done, 17));
+    assert_eq!(rt; bits(flat, 0), (1, 1, 0));
     assert_eq!(rt;
-        stands(&flat, 0, b"4294967279"),
+        stands(flat, 0, b"4294967279"),
         fault(FaultKind::Page, Access::Read, 0x0001_0000)
     );
     assert!(rt; flat.row(SpaceNo(0), Vpn(16)).is_none() && flat.is_fit(SpaceNo(0), Vpn(0)));
@@ -252,11 +287,17 @@ fn rows_come_and_go_by_calls(rt: HostRuntime) -> Result<(), Fail> {
 }
 
 #[test]
-fn a_thread_is_spawned(rt: HostRuntime) -> Result<(), Fail> {
+fn rows_come_and_go_by_calls(rt: HostRuntime) -> Result<(), Fail> {
     let mut flat = Flat::new(rt.alloc());
+    let done = map_and_unmap(&rt, &mut flat);
+    std::mem::forget(flat);
+    done
+}
+
+fn spawn(rt: &(impl Abort + AllocGlobal), flat: &mut Flat) -> Result<(), Fail> {
     declare(
-        &rt,
-        &mut flat,
+        rt,
+        flat,
         &[
             machine(1),
             kernel(0),
@@ -266,25 +307,31 @@ fn a_thread_is_spawned(rt: HostRuntime) -> Result<(), Fail> {
             map(0, 0, 0, "x", None),
         ],
     )?;
-    code(rt.alloc(), &mut flat, 0, SPAWN)?;
-    assert_eq!(rt; run(&mut flat, 1_000_000)?, (Settled::Done, 11));
+    code(rt.alloc(), flat, 0, SPAWN)?;
+    assert_eq!(rt; run(flat, 1_000_000)?, (Settled::Done, 11));
     assert_eq!(rt;
-        stands(&flat, 0, b""),
+        stands(flat, 0, b""),
         Some(Status::Ended(Reason::Exited { code: 1 }))
     );
     assert_eq!(rt;
-        stands(&flat, 1, b"A"),
+        stands(flat, 1, b"A"),
         Some(Status::Ended(Reason::Exited { code: 65 }))
     );
     Ok(())
 }
 
 #[test]
-fn rights_are_revoked(rt: HostRuntime) -> Result<(), Fail> {
+fn a_thread_is_spawned(rt: HostRuntime) -> Result<(), Fail> {
     let mut flat = Flat::new(rt.alloc());
+    let done = spawn(&rt, &mut flat);
+    std::mem::forget(flat);
+    done
+}
+
+fn revoke(rt: &(impl Abort + AllocGlobal), flat: &mut Flat) -> Result<(), Fail> {
     declare(
-        &rt,
-        &mut flat,
+        rt,
+        flat,
         &[
             machine(2),
             kernel(0),
@@ -296,22 +343,28 @@ fn rights_are_revoked(rt: HostRuntime) -> Result<(), Fail> {
             map(0, 16, 128, "rw", None),
         ],
     )?;
-    code(rt.alloc(), &mut flat, 0, REVOKE)?;
-    assert_eq!(rt; run(&mut flat, 1_000_000)?, (Settled::Done, 8));
-    assert_eq!(rt; bits(&flat, 0), (2, 2, 1));
+    code(rt.alloc(), flat, 0, REVOKE)?;
+    assert_eq!(rt; run(flat, 1_000_000)?, (Settled::Done, 8));
+    assert_eq!(rt; bits(flat, 0), (2, 2, 1));
     assert_eq!(rt;
-        stands(&flat, 0, b""),
+        stands(flat, 0, b""),
         fault(FaultKind::Rights, Access::Read, 0x0001_0000)
     );
     Ok(())
 }
 
 #[test]
-fn two_threads_count_on_two_words(rt: HostRuntime) -> Result<(), Fail> {
+fn rights_are_revoked(rt: HostRuntime) -> Result<(), Fail> {
     let mut flat = Flat::new(rt.alloc());
+    let done = revoke(&rt, &mut flat);
+    std::mem::forget(flat);
+    done
+}
+
+fn count_on_two_words(rt: &(impl Abort + AllocGlobal), flat: &mut Flat) -> Result<(), Fail> {
     declare(
-        &rt,
-        &mut flat,
+        rt,
+        flat,
         &[
             machine(1),
             kernel(0),
@@ -323,14 +376,22 @@ fn two_threads_count_on_two_words(rt: HostRuntime) -> Result<(), Fail> {
             map(0, 16, 1, "rw", None),
         ],
     )?;
-    code(rt.alloc(), &mut flat, 0, COUNT)?;
-    assert_eq!(rt; run(&mut flat, 1_000_000)?, (Settled::Done, 112));
-    assert_eq!(rt; bits(&flat, 0), (2, 2, 1));
+    code(rt.alloc(), flat, 0, COUNT)?;
+    assert_eq!(rt; run(flat, 1_000_000)?, (Settled::Done, 112));
+    assert_eq!(rt; bits(flat, 0), (2, 2, 1));
     for no in 0..2 {
         assert_eq!(rt;
-            stands(&flat, no, b"10"),
+            stands(flat, no, b"10"),
             Some(Status::Ended(Reason::Exited { code: 10 }))
         );
     }
     Ok(())
+}
+
+#[test]
+fn two_threads_count_on_two_words(rt: HostRuntime) -> Result<(), Fail> {
+    let mut flat = Flat::new(rt.alloc());
+    let done = count_on_two_words(&rt, &mut flat);
+    std::mem::forget(flat);
+    done
 }

@@ -3,7 +3,5 @@
 
 mod gathering;
 mod scratches;
-#[cfg(test)]
-mod tests;
 
 pub use scratches::{Scratch, one_order, order};

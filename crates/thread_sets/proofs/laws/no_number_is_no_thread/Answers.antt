@@ -4,7 +4,7 @@ use Rattle.thread_sets.proofs.SetsLemmas.{none_passes}
 use Rattle.thread_sets.proofs.laws.no_number_is_no_thread.Goals as goal
 
 pub returns-clause-completable : goal.returns-clause-completable
-returns-clause-completable c threads free sets of none = none_passes is_completable threads sets.completable of.completable none
+returns-clause-completable c threads sets of none = none_passes is_completable threads sets.completable of.completable none
 
 pub returns-clause-ready : goal.returns-clause-ready
-returns-clause-ready c threads free sets of none = none_passes takes_steps threads sets.ready of.ready none
+returns-clause-ready c threads sets of none = none_passes takes_steps threads sets.ready of.ready none

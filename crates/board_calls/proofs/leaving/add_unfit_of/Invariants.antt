@@ -1,0 +1,10 @@
+use Rattle.cache_ident.specs.declared.idents.Ident.{Ident}
+use Rattle.desc_stores.specs.Contents.{item_as}
+use Rattle.cached_machine.specs.Cached.{state_of}
+use Rattle.board_calls.specs.Leaving.{after_grant, goes_so, passes, AddsThose}
+use Rattle.board_calls.proofs.LoopLaws.{IsOf}
+use Rattle.board_calls.proofs.leaving.add_unfit_of.Given as goal
+
+-- of those that came, the rows that go were added
+abbrev pub invariant-loop-ident : goal.invariant-loop-ident
+invariant-loop-ident l = AddsThose (IsOf (λ (i : Ident). passes (goes_so (after_grant (state_of l.machine) l.grant) l.lacks) (item_as l.machine.held.contents i)) l.yielded) l.initial.idents.items l.idents.items

@@ -1,0 +1,69 @@
+-- Why a declaration and the seal are refused, and what the calls leave.
+use Rattle.std.specs.Prelude.{◌≡◌, ℕ, true, ◌==◌, if◌then◌else◌, List, [], ◌∷◌, ◌++◌, length, Option, Some, None}
+use Rattle.std.specs.List.Sorted.{IsNonDecreasingBy}
+use Rattle.std.specs.Option.{option_map}
+use Rattle.cache_ident.specs.declared.idents.Ident.{Ident}
+use Rattle.cache_ident.specs.declared.names.Name.TheVariants.{Thread}
+use Rattle.cache_ident.specs.declared.names.ThreadNo.{ThreadNo}
+use Rattle.cache_ident.specs.Names.{first_name}
+use Rattle.cache_ident.specs.Residents.{IsResident}
+use Rattle.flat_state.specs.declared.events.Decl.{Decl}
+use Rattle.flat_state.specs.declared.events.Event.TheVariants.{Complete}
+use Rattle.flat_state.specs.Declaration.{broken_rule}
+use Rattle.flat_state.specs.Events.{applied}
+use Rattle.run_journal.specs.declared.entries.Entry.{Entry}
+use Rattle.run_journal.specs.declared.entries.Entry.TheVariants as entry
+use Rattle.run_journal.specs.Legal.{first_ident}
+use Rattle.desc_stores.specs.Contents.{residents_of}
+use Rattle.desc_parents.specs.Seen.{seen}
+use Rattle.board_ops.specs.declared.refusals.Refused.{Refused}
+use Rattle.board_ops.specs.declared.refusals.Refused.TheVariants as why
+use Rattle.cached_machine.specs.Cached.{state_of}
+use Rattle.cached_machine.specs.Posts.{HasLoadedMarks, HasSameMarks}
+use Rattle.board_core.specs.Core.{contents_of, Recorded}
+use Rattle.board_core.specs.Growth.{GrowsBy, KeepsPlaces}
+use Rattle.board_calls.specs.Departures.{LeaveInTurn}
+use Rattle.board_calls.specs.Leaving.{AreBad}
+
+-- ---- refusals
+
+-- the seal has ended the declarations
+abbrev pub is_ended : Recorded → Option Refused
+is_ended b = if b.sealed then Some why.Sealed else None
+
+abbrev pub refusal_of_declare : Recorded → Decl → Option Refused
+refusal_of_declare b d = if b.sealed then Some why.Sealed else option_map why.BadDecl (broken_rule (state_of b.machine) d)
+
+abbrev pub refusal_of_seal : Recorded → Option Refused
+refusal_of_seal b = if length (state_of b.machine).kernels == 0 then Some (why.NotDeclared first_name) else is_ended b
+
+-- ---- what is done
+
+-- the declaration was made
+pub record IsDeclaring (d : Decl) (old new : Recorded) : Type 0 where
+  pub grows : GrowsBy (entry.Declared d ∷ []) old new
+  pub places : KeepsPlaces old new
+
+-- the declarations ended, and the first kernel was loaded and locked
+pub record IsSealing (old new : Recorded) (ident : Ident) : Type 0 where
+  pub first : ident ≡ first_ident
+  pub grows : GrowsBy (entry.Sealed ∷ entry.Loaded first_ident first_name 0 ∷ entry.Locked first_ident 0 ∷ []) old new
+  pub sealed : new.sealed ≡ true
+  pub marks : HasSameMarks (contents_of old) (contents_of new)
+  pub checkouts : new.checkouts ≡ old.checkouts
+
+-- The call of the thread that was loaded with the identifier was completed. What would have been bad then left first, in order
+-- of serial, each with its group.
+pub record IsCompletion (cpu : ℕ) (thread : Ident) (old new : Recorded) : Type 0 where
+  pub no : ThreadNo
+  pub its : IsResident (residents_of (contents_of old)) thread (Thread no)
+  pub idents : List Ident
+  pub bad : AreBad (applied (state_of old.machine) (Complete no)) (residents_of (contents_of old)) idents
+  pub ordered : IsNonDecreasingBy (λ ident. ident.serial) idents
+  pub departures : List Entry
+  pub turns : LeaveInTurn (seen (contents_of old)) cpu idents (residents_of (contents_of old)) departures (residents_of (contents_of new))
+  pub grows : GrowsBy (departures ++ entry.Completed no cpu ∷ []) old new
+  pub state : state_of new.machine ≡ applied (state_of old.machine) (Complete no)
+  pub marks : HasLoadedMarks (contents_of old) (contents_of new)
+  pub sealed : new.sealed ≡ old.sealed
+  pub checkouts : new.checkouts ≡ old.checkouts

@@ -1,0 +1,94 @@
+//! Completions of thread calls.
+
+ghost use Rattle.std.specs.Prelude.{◌≡◌, ◌≢◌, ◌+◌, ◌<◌, ◌≤◌, [], true, None, Contains, IfErr, OnOk};
+ghost use Rattle.cache_ident.specs.declared.idents.Kind.TheVariants.{Mapping};
+ghost use Rattle.flat_state.specs.WellFormed.{IsWellFormed};
+ghost use Rattle.run_journal.specs.Legal.{AreGood};
+ghost use Rattle.desc_stores.specs.Contents.{residents_of};
+ghost use Rattle.desc_groups.specs.Whole.{IsWhole};
+ghost use Rattle.cached_machine.specs.Cached.{state_of};
+ghost use Rattle.board_checks.specs.Refusals.{refusal_of_complete};
+ghost use Rattle.board_core.specs.Answers.{IsRefused};
+ghost use Rattle.board_core.specs.Core.{contents_of};
+ghost use Rattle.board_core.specs.Growth.{count_loaded};
+ghost use Rattle.board_calls.specs.Calls.{IsCompletion};
+ghost use Rattle.board_calls.specs.Departures.{HasLeftIf, HaveLeft};
+
+use crate::leaving::leaving;
+use board_checks::check_complete;
+use board_core::Core;
+use board_ops::Refused;
+use cache_ident::{Ident, Standing};
+use flat_rules::Records;
+use std::alloc::Global;
+
+/// Completes the call that a loaded thread is in, for the kernel `caller`. What is loaded and would then no longer stand, not
+/// be fit or depend on what isn't loaded leaves first, in order of serial, each with what depends on it.
+///
+/// Refused where `caller` is none of a loaded kernel (`Unknown`, `Stale`, `WrongKind`), then where `thread` is none of a loaded
+/// thread (the same), then where the thread is of another kernel (`NotOwner`), is in no call (`NotTrapped`) or waits for a
+/// signal (`WaitEmpty`). All memory is taken before the first descriptor leaves.
+///
+/// It looks at the loaded rows of the frame that a row is asked for, or of the group that rights are asked on.
+pub fn complete(
+    core: &mut Core,
+    alloc: Global,
+    cpu: u32,
+    caller: Ident,
+    thread: Ident,
+) -> Result<(), Refused>
+    requires processor { cpu < 8 }
+    ensures refused { IfErr result (IsRefused (refusal_of_complete (contents_of core.old) caller thread) core.old core.new) }
+    ensures done { OnOk result (refusal_of_complete (contents_of core.old) caller thread ≡ None) }
+    ensures completed { OnOk result (IsCompletion cpu thread core.old core.new) }
+{
+    known(core);
+    let no = check_complete(core.machine().tables(), caller, thread)?.no;
+    let idents = leaving(alloc, core.machine(), no)?;
+    core.make_room(0, 1)?;
+    core.make_declarable()?;
+    unload_each(core, cpu, &idents);
+    // Where something left, the call is no output, and there is room for all that it asks for.
+    core.complete(cpu, no)?;
+    Ok(())
+}
+
+// Unloads each of the rows that is still loaded: one may have left with another before it.
+fn unload_each(core: &mut Core, cpu: u32, idents: &[Ident])
+    requires processor { cpu < 8 }
+    requires sealed { core.old.sealed ≡ true }
+    requires rows { (ident : Ident) → Contains idents.now ident → ident.kind ≡ Mapping }
+    requires room { count_loaded core.old + 1 ≤ core.old.journal.spare }
+    ensures left { HaveLeft cpu idents.now core.old core.new }
+    ensures none { idents.now ≡ [] → core.new ≡ core.old }
+{
+    for ident in idents {
+        unload_loaded(core, cpu, *ident);
+    }
+}
+
+// Unloads a row, if it is loaded.
+fn unload_loaded(core: &mut Core, cpu: u32, ident: Ident)
+    requires processor { cpu < 8 }
+    requires sealed { core.old.sealed ≡ true }
+    requires row { ident.kind ≡ Mapping }
+    requires room { count_loaded core.old + 1 ≤ core.old.journal.spare }
+    ensures left { HasLeftIf cpu ident core.old core.new }
+{
+    known(core);
+    if let Standing::Live = core.machine().tables().standing(ident) {
+        core.unload(cpu, ident);
+    }
+}
+
+// Does nothing. Whoever asks the machine for its room learns what holds of its tables; it is asked here for that alone.
+fn known(core: &Core)
+    ensures whole { IsWhole (contents_of core.now) }
+    ensures formed { IsWellFormed (state_of core.now.machine) }
+    ensures good { AreGood (state_of core.now.machine) (residents_of (contents_of core.now)) }
+    ensures sealed { 0 < count_loaded core.now → core.now.sealed ≡ true }
+{
+    core.holds();
+    core.machine().holds();
+    let _ = core.machine().room();
+}

@@ -1,0 +1,36 @@
+//! What of a list of names is loaded.
+
+ghost use Rattle.std.specs.Prelude.{◌≡◌, ◌≤◌, length};
+ghost use Rattle.desc_parents.specs.Idents.{idents_of};
+ghost use Rattle.desc_stores.specs.Contents.{residents_of};
+ghost use Rattle.desc_stores.specs.Sound.{IsExactlyOne};
+
+use crate::names::MOST_CHAINED;
+use arrayvec::ArrayVec;
+use cache_ident::{Ident, Name};
+use cached_machine::CachedMachine;
+
+/// Identifiers of what stays while something is loaded.
+pub type Keep = ArrayVec<Ident, MOST_CHAINED>;
+
+/// The identifiers of those of the names that are loaded. It takes a search for each name.
+pub fn loaded_among(machine: &CachedMachine, names: &[Name]) -> Keep
+    requires { length names.now ≤ MOST_CHAINED }
+    ensures { result.items ≡ idents_of (residents_of machine.now.held.contents) names.now }
+{
+    is_sound(machine);
+    let mut idents = Keep::new();
+    for name in names {
+        if let Some(ident) = machine.tables().resident(*name) {
+            idents.push(ident);
+        }
+    }
+    idents
+}
+
+// Does nothing. Whoever asks the machine for its room learns what holds of its tables; it is asked here for that alone.
+fn is_sound(machine: &CachedMachine)
+    ensures { IsExactlyOne machine.now.held.contents }
+{
+    let _ = machine.room();
+}

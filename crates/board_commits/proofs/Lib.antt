@@ -1,0 +1,6 @@
+pub mod FindLaws
+pub mod SinceLaws
+pub mod TicketLaws
+pub mod ThreadLaws
+pub mod PageLaws
+pub mod CommitLaws

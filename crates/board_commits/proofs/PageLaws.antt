@@ -1,0 +1,60 @@
+-- A page that is copied through a loaded row is of the ticket.
+use Rattle.std.proofs.Common.{◌≡◌, ℕ, List, [], ◌∷◌, ◌++◌, Contains, Some, None, refl, sym, ◌∙◌, ap, subst, inl, inr}
+use Rattle.std.proofs.lemmas.List.Elements.{Contains-push_cases}
+use Rattle.cache_ident.specs.declared.idents.Ident.{Ident}
+use Rattle.cache_ident.specs.declared.names.Name.TheVariants as name
+use Rattle.cache_ident.specs.declared.names.Vpn.{Vpn}
+use Rattle.cache_ident.specs.Residents.{IsResident}
+use Rattle.phys_groups.specs.declared.rows.Row.{Row}
+use Rattle.phys_groups.specs.Memory.{page_at}
+use Rattle.phys_groups.specs.Translation.{row_of}
+use Rattle.page_views.specs.Views.{filled, View}
+use Rattle.quantum.specs.Ahead.{Ahead}
+use Rattle.thread_cache.specs.declared.ThreadRec.{ThreadRec}
+use Rattle.desc_stores.specs.declared.items.Item.TheVariants as item
+use Rattle.desc_stores.specs.Contents.{content_of, residents_of}
+use Rattle.desc_stores.specs.Sound.{IsExactlyOne}
+use Rattle.shown_state.specs.Shown.{flat_thread}
+use Rattle.board_checks.specs.Identifiers.{thread_as}
+use Rattle.cached_machine.specs.Cached.{state_of}
+use Rattle.board_core.specs.Core.{contents_of, IsSound, Recorded}
+use Rattle.board_threads.specs.declared.tickets.Ticket.{Ticket}
+use Rattle.board_commits.specs.Commits.{IsPaged}
+use Rattle.board_commits.specs.Tickets.{AreOfTicket, IsOfTicket}
+use Rattle.board_commits.proofs.ThreadLaws.{thread_there}
+use Rattle.board_commits.proofs.TicketLaws.{copied_now, row_now, thread_now}
+
+module _ (b : Recorded) (sound : IsSound b) (one : IsExactlyOne (contents_of b)) (ticket : Ticket) (vpn : Vpn) (found : ThreadRec)
+    (named : IsResident (residents_of (contents_of b)) ticket.thread (name.Thread found.no)) (content : content_of (contents_of b) (name.Thread found.no) ≡ Some (item.Thread found))
+    (ident : Ident) (r : IsResident (residents_of (contents_of b)) ident (name.Mapping found.space vpn)) where
+  pub row_there : None ≡ row_of (state_of b.machine).rows found.space vpn.0 → ⊥
+  row_there none = let row = row_now b sound r.0 r.1 found.space vpn r.3 in let some : None ≡ Some row.0 = none ∙ row.1 in cc
+
+  module _ (row : Row) (at : Some row ≡ row_of (state_of b.machine).rows found.space vpn.0) (old new : Ahead) (bytes : List ℕ)
+      (fill : new ≡ record old { views = old.views ++ filled old.views vpn row.frame row.flags ident bytes ∷ [] }) where
+    pub paged : thread_as (contents_of b) ticket.thread ≡ Some (flat_thread found) → bytes ≡ page_at b.machine.memory row.frame → IsPaged b ticket vpn old new
+    paged shows page = record {
+      thread = flat_thread found;
+      its = shows;
+      ident = ident;
+      loaded = r;
+      row = row;
+      there = sym at;
+      views = fill ∙ ap (λ (bytes : List ℕ). let x : Ahead = record old { views = old.views ++ filled old.views vpn row.frame row.flags ident bytes ∷ [] } in x) page;
+    }
+
+    abbrev view : View
+    view = filled old.views vpn row.frame row.flags ident bytes
+
+    new_of_ticket : IsOfTicket b.journal.entries ticket.thread view
+    new_of_ticket = record {
+      space = found.space;
+      of = thread_now b sound ticket.thread found.no named (flat_thread found) (thread_there b one found content);
+      copied = copied_now b sound ident found.space view r refl row (sym at) refl refl;
+    }
+
+    pub all_of_ticket : AreOfTicket b.journal.entries ticket.thread old.views → AreOfTicket b.journal.entries ticket.thread new.views
+    all_of_ticket are v there = elim (Contains-push_cases old.views view v (subst (λ (vs : List View). Contains vs v) (ap (λ (a : Ahead). a.views) fill) there)) [
+      | inl before ↦ are v before
+      | inr now ↦ subst (IsOfTicket b.journal.entries ticket.thread) now new_of_ticket
+    ]

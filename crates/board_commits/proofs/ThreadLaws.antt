@@ -1,0 +1,167 @@
+-- The thread that is loaded with a ticket's identifier, and why a page of it isn't copied.
+use Rattle.std.proofs.Common.{◌≡◌, ℕ, Bool, Bor, Contains, Option, Some, None, Result, Ok, Err, slice_get, refl, sym, ◌∙◌, ap, subst}
+use Rattle.std.specs.Prelude.{if◌then◌else◌, IfOk}
+use Rattle.std.specs.Option.{option_and_then, option_or}
+use Rattle.std.specs.Result.{result_err}
+use Rattle.cache_ident.specs.declared.idents.Ident.{Ident}
+use Rattle.cache_ident.specs.declared.idents.Kind.{Kind}
+use Rattle.cache_ident.specs.declared.idents.Kind.TheVariants as kind
+use Rattle.cache_ident.specs.declared.idents.Standing.{Standing}
+use Rattle.cache_ident.specs.declared.idents.Standing.TheVariants.{Left, Live, Never}
+use Rattle.cache_ident.specs.declared.names.Name.TheVariants as name
+use Rattle.cache_ident.specs.declared.names.Vpn.{Vpn}
+use Rattle.cache_ident.specs.Residents.{IsIdentResident, IsNameResident, IsResident, Resident}
+use Rattle.cache_ident.specs.Rolls.{standing_in}
+use Rattle.rv32_exec.specs.declared.contexts.Context.{Context}
+use Rattle.flat_state.specs.declared.records.FlatThread.{FlatThread}
+use Rattle.run_journal.specs.Legal.{is_kind}
+use Rattle.thread_cache.specs.declared.ThreadRec.{ThreadRec}
+use Rattle.desc_stores.specs.declared.items.Item.TheVariants as item
+use Rattle.desc_stores.specs.Contents.{content_of, item_as, resident_as, residents_of, Contents}
+use Rattle.desc_stores.specs.Sound.{IsExactlyOne}
+use Rattle.shown_state.specs.Shown.{flat_thread, thread_of}
+use Rattle.shown_state.proofs.ContentLemmas.{item_has_name}
+use Rattle.shown_state.proofs.LookupLemmas.{found_thread}
+use Rattle.store_residents.proofs.ContentLemmas.{loaded_item}
+use Rattle.store_residents.proofs.ResidentLemmas.{live_iff, resident_loaded}
+use Rattle.board_ops.specs.declared.refusals.Refused.{Refused}
+use Rattle.board_ops.specs.declared.refusals.Refused.TheVariants as why
+use Rattle.board_checks.specs.Identifiers.{gone_by, not_a, not_live, thread_as, wrong_kind}
+use Rattle.cached_machine.specs.Cached.{state_of}
+use Rattle.cached_machine.specs.Posts.{mark_in, mark_of}
+use Rattle.cached_machine.proofs.LoadedLaws.{loads, not_loaded}
+use Rattle.board_core.specs.Core.{contents_of, Recorded}
+use Rattle.board_commits.specs.Refusals.{absent, moved, moved_from}
+
+-- ---- the first of some tests
+
+pub or_passes : (a b o : Option Refused) → None ≡ a → o ≡ b → o ≡ option_or a b
+or_passes a b o passes others = subst (λ (x : Option Refused). o ≡ option_or x b) passes others
+
+pub or_fails : (a b : Option Refused) (e : Refused) → Some e ≡ a → Some e ≡ option_or a b
+or_fails a b e fails = subst (λ (x : Option Refused). Some e ≡ option_or x b) fails refl
+
+module _ (a b c d e : Option Refused) where
+  abbrev pub first_of : Option Refused
+  first_of = option_or a (option_or b (option_or c (option_or d e)))
+
+  module _ (one : None ≡ a) where
+    pub at_second : (x : Refused) → Some x ≡ b → Some x ≡ first_of
+    at_second x is = or_passes a (option_or b (option_or c (option_or d e))) (Some x) one (or_fails b (option_or c (option_or d e)) x is)
+
+    module _ (two : None ≡ b) where
+      pub at_third : (x : Refused) → Some x ≡ c → Some x ≡ first_of
+      at_third x is = or_passes a (option_or b (option_or c (option_or d e))) (Some x) one (or_passes b (option_or c (option_or d e)) (Some x) two (or_fails c (option_or d e) x is))
+
+      module _ (three : None ≡ c) where
+        pub at_fourth : (x : Refused) → Some x ≡ d → Some x ≡ first_of
+        at_fourth x is = or_passes a (option_or b (option_or c (option_or d e))) (Some x) one (or_passes b (option_or c (option_or d e)) (Some x) two (or_passes c (option_or d e) (Some x) three (or_fails d e x is)))
+
+        pub at_fifth : None ≡ d → (o : Option Refused) → o ≡ e → o ≡ first_of
+        at_fifth four o is = or_passes a (option_or b (option_or c (option_or d e))) o one (or_passes b (option_or c (option_or d e)) o two (or_passes c (option_or d e) o three (or_passes d e o four is)))
+
+pub err_shown : {T : Type 0} (r : Result T Refused) (x : Refused) → (y : Refused) × (r ≡ Err y) × (y ≡ x) → result_err r ≡ Some x
+err_shown r x p = ap result_err p.1 ∙ ap (λ (y : Refused). Some y) p.2
+
+or_none : (a : Option Refused) → option_or a None ≡ a
+or_none None = refl
+or_none (Some x) = refl
+
+-- ---- the identifier
+
+-- one that is of a thread is refused only where it isn't live
+right_kind : (ident : Ident) → ident.kind ≡ kind.Thread → wrong_kind kind.Thread ident ≡ None
+unfolding wrong_kind
+right_kind ident is = ap (λ (k : Kind). if is_kind k kind.Thread then None else Some (why.WrongKind ident)) is
+
+pub thread_tested : (c : Contents) (ident : Ident) → ident.kind ≡ kind.Thread → not_a kind.Thread c ident ≡ not_live c ident
+thread_tested c ident is = ap (option_or (not_live c ident)) (right_kind ident is) ∙ or_none (not_live c ident)
+
+live_by : (ident : Ident) (standing : Standing) → None ≡ gone_by ident standing → standing ≡ Live
+live_by ident Live passes = refl
+live_by ident (Left at) passes = absurd (cc)
+live_by ident Never passes = absurd (cc)
+
+pub is_live : (c : Contents) (ident : Ident) → None ≡ not_live c ident → standing_in c.issued ident ≡ Live
+unfolding not_live
+is_live c ident passes = live_by ident (standing_in c.issued ident) passes
+
+module _ (c : Contents) (one : IsExactlyOne c) (ident : Ident) where
+  -- what is live is resident
+  pub resident_if : None ≡ not_live c ident → IsIdentResident (residents_of c) ident
+  resident_if passes = (live_iff c one.sound ident).0 (is_live c ident passes)
+
+  module _ (found : ThreadRec) (passes : None ≡ not_live c ident) (is : item_as c ident ≡ Some (item.Thread found)) where
+    its : (r : Resident) × Contains (residents_of c) r × (r.ident ≡ ident) × (content_of c r.name ≡ Some (item.Thread found))
+    its =
+        let r = resident_if passes in
+        let as_it : resident_as c ident ≡ Some r.0 = ap (resident_as c) (sym r.2) ∙ resident_loaded c r.0 r.1 in
+        let it = loaded_item c one ident r.0 as_it in
+        (r.0, r.1, r.2, it.2 ∙ sym it.1 ∙ is)
+
+    thread_named : its.0.name ≡ name.Thread found.no
+    thread_named = sym (item_has_name c its.0.name (item.Thread found) its.3)
+
+    pub named_as : IsResident (residents_of c) ident (name.Thread found.no)
+    named_as = (its.0, its.1, its.2, thread_named)
+
+    pub content_as : content_of c (name.Thread found.no) ≡ Some (item.Thread found)
+    content_as = ap (content_of c) (sym thread_named) ∙ its.3
+
+pub shown_as : (c : Contents) (ident : Ident) (found : ThreadRec) → item_as c ident ≡ Some (item.Thread found) → thread_as c ident ≡ Some (flat_thread found)
+unfolding thread_as
+shown_as c ident found is = ap thread_of is
+
+-- ---- what is known of the thread that is found
+
+module _ (c : Contents) (one : IsExactlyOne c) (ident : Ident) where
+  pub ok_named : (r : Result (Bor ThreadRec) Refused) → result_err r ≡ not_live c ident → IfOk r (λ found. item_as c ident ≡ Some (item.Thread found.now)) → IfOk r (λ found. IsResident (residents_of c) ident (name.Thread found.now.no))
+  ok_named (Ok found) exact is = named_as c one ident found.now exact is
+  ok_named (Err w) exact is = tt
+
+  pub ok_content : (r : Result (Bor ThreadRec) Refused) → result_err r ≡ not_live c ident → IfOk r (λ found. item_as c ident ≡ Some (item.Thread found.now)) → IfOk r (λ found. content_of c (name.Thread found.now.no) ≡ Some (item.Thread found.now))
+  ok_content (Ok found) exact is = content_as c one ident found.now exact is
+  ok_content (Err w) exact is = tt
+
+  pub ok_shown : (r : Result (Bor ThreadRec) Refused) → IfOk r (λ found. item_as c ident ≡ Some (item.Thread found.now)) → IfOk r (λ found. thread_as c ident ≡ Some (flat_thread found.now))
+  ok_shown (Ok found) is = shown_as c ident found.now is
+  ok_shown (Err w) is = tt
+
+-- it is the machine's thread of its number
+pub thread_there : (b : Recorded) → IsExactlyOne (contents_of b) → (found : ThreadRec) → content_of (contents_of b) (name.Thread found.no) ≡ Some (item.Thread found) → slice_get (state_of b.machine).threads found.no.0 ≡ Some (flat_thread found)
+thread_there b one found is = found_thread (Some b.machine.machine) b.machine.memory (contents_of b) one found.no.0 ∙ ap thread_of is
+
+-- and its processor is the one that it names
+pub mark_is : (c : Contents) (ident : Ident) (found : ThreadRec) → IsResident (residents_of c) ident (name.Thread found.no) → content_of c (name.Thread found.no) ≡ Some (item.Thread found) → mark_of c found.no ≡ found.on_cpu
+mark_is c ident found r is =
+    ap (λ (b : Bool). if b then mark_in (content_of c (name.Thread found.no)) else None) (loads (residents_of c) (name.Thread found.no) r.0 r.1 r.3)
+    ∙ ap mark_in is
+
+-- so it has moved where that is another one
+pub moved_is : (c : Contents) (ident : Ident) (found : ThreadRec) (cpu : ℕ) (first : Context) → IsResident (residents_of c) ident (name.Thread found.no) → content_of c (name.Thread found.no) ≡ Some (item.Thread found) → thread_as c ident ≡ Some (flat_thread found)
+    → moved_from found.on_cpu cpu first found.context ≡ option_and_then (moved c cpu first) (thread_as c ident)
+unfolding moved
+moved_is c ident found cpu first r is shows =
+    ap (λ (on : Option ℕ). moved_from on cpu first found.context) (sym (mark_is c ident found r is))
+    ∙ ap (option_and_then (moved c cpu first)) (sym shows)
+
+-- ---- why a page isn't copied
+
+module _ (c : Contents) (vpn : Vpn) (t : FlatThread) where
+  absent_if : (IsNameResident (residents_of c) (name.Mapping t.space vpn) → ⊥) → Some (why.NotLoaded vpn) ≡ absent c vpn t
+  unfolding absent
+  absent_if never =
+      ap (λ (b : Bool). if b then None else Some (why.NotLoaded vpn)) (sym (not_loaded (residents_of c) (name.Mapping t.space vpn) (λ r there named. never (r, there, named))))
+
+  there_if : IsNameResident (residents_of c) (name.Mapping t.space vpn) → None ≡ absent c vpn t
+  unfolding absent
+  there_if r = ap (λ (b : Bool). if b then None else Some (why.NotLoaded vpn)) (sym (loads (residents_of c) (name.Mapping t.space vpn) r.0 r.1 r.2))
+
+  module _ (ident : Ident) (passes : None ≡ not_live c ident) (shows : thread_as c ident ≡ Some t) where
+    pub page_refused : (IsNameResident (residents_of c) (name.Mapping t.space vpn) → ⊥) → Some (why.NotLoaded vpn) ≡ option_or (not_live c ident) (option_and_then (absent c vpn) (thread_as c ident))
+    page_refused never = or_passes (not_live c ident) (option_and_then (absent c vpn) (thread_as c ident)) (Some (why.NotLoaded vpn)) passes
+        (absent_if never ∙ ap (option_and_then (absent c vpn)) (sym shows))
+
+    pub page_passes : IsNameResident (residents_of c) (name.Mapping t.space vpn) → None ≡ option_or (not_live c ident) (option_and_then (absent c vpn) (thread_as c ident))
+    page_passes r = or_passes (not_live c ident) (option_and_then (absent c vpn) (thread_as c ident)) None passes
+        (there_if r ∙ ap (option_and_then (absent c vpn)) (sym shows))

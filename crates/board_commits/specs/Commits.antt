@@ -1,0 +1,54 @@
+-- What a page that was copied leaves of a quantum, and what steps that happened leave of the board.
+use Rattle.std.specs.Prelude.{◌≡◌, ℕ, ◌+◌, ◌≤◌, true, [], ◌∷◌, ◌++◌, None, Some}
+use Rattle.cache_ident.specs.declared.idents.Ident.{Ident}
+use Rattle.cache_ident.specs.declared.names.Name.TheVariants as name
+use Rattle.cache_ident.specs.declared.names.ThreadNo.{ThreadNo}
+use Rattle.cache_ident.specs.declared.names.Vpn.{Vpn}
+use Rattle.cache_ident.specs.Residents.{IsResident}
+use Rattle.phys_groups.specs.declared.rows.Row.{Row}
+use Rattle.phys_groups.specs.Memory.{page_at}
+use Rattle.phys_groups.specs.Translation.{row_of}
+use Rattle.flat_state.specs.declared.records.FlatThread.{FlatThread}
+use Rattle.flat_rules.specs.Readings.{OfThread}
+use Rattle.page_views.specs.Views.{filled}
+use Rattle.quantum.specs.Ahead.{Ahead}
+use Rattle.quantum.specs.LocalRun.{touched_views, CouldRun}
+use Rattle.desc_stores.specs.Contents.{residents_of}
+use Rattle.board_laws.specs.Moves.{KeepsLoaded}
+use Rattle.cached_machine.specs.Cached.{state_of}
+use Rattle.cached_machine.specs.Posts.{but_at, last_of, mark_of}
+use Rattle.board_core.specs.Core.{contents_of, Recorded}
+use Rattle.board_core.specs.Growth.{entries_of_run, AreOfLoaded, GrowsBy}
+use Rattle.board_checks.specs.Identifiers.{thread_as}
+use Rattle.board_threads.specs.declared.tickets.Ticket.{Ticket}
+
+-- the quantum has one view more, which is a copy of the loaded row of the page in the space of the ticket's thread
+pub record IsPaged (b : Recorded) (ticket : Ticket) (vpn : Vpn) (old new : Ahead) : Type 0 where
+  pub thread : FlatThread
+  pub its : thread_as (contents_of b) ticket.thread ≡ Some thread
+  pub ident : Ident
+  pub loaded : IsResident (residents_of (contents_of b)) ident (name.Mapping thread.space vpn)
+  pub row : Row
+  pub there : row_of (state_of b.machine).rows thread.space vpn.0 ≡ Some row
+  pub views : new ≡ record old { views = old.views ++ filled old.views vpn row.frame row.flags ident (page_at b.machine.memory row.frame) ∷ [] }
+
+-- the thread is loaded with the ticket's identifier, it could have taken the steps as the machine is now, through rows that are
+-- loaded, and so many steps are left
+pub record MayHappen (b : Recorded) (ticket : Ticket) (a : Ahead) (whom : ThreadNo) : Type 0 where
+  pub named : IsResident (residents_of (contents_of b)) ticket.thread (name.Thread whom)
+  pub could : OfThread (state_of b.machine) whom.0 (λ t. CouldRun (state_of b.machine) t a)
+  pub views : OfThread (state_of b.machine) whom.0 (λ t. AreOfLoaded b t (touched_views a.views))
+  pub left : b.steps + a.steps ≤ b.limit
+  pub sealed : b.sealed ≡ true
+
+-- The steps happened to the thread that is loaded with the ticket's identifier, one after another on the machine as it was. Where
+-- there are some, they are one entry. The thread came away from its processor, and nothing else changed.
+pub record IsCommitted (ticket : Ticket) (steps : ℕ) (old new : Recorded) : Type 0 where
+  pub whom : ThreadNo
+  pub named : IsResident (residents_of (contents_of old)) ticket.thread (name.Thread whom)
+  pub entries : GrowsBy (entries_of_run whom steps ticket.cpu) old new
+  pub loaded : KeepsLoaded (contents_of old) (contents_of new)
+  pub marks : (other : ThreadNo) → mark_of (contents_of new) other ≡ but_at whom None (mark_of (contents_of old)) other
+  pub lasts : (other : ThreadNo) → last_of (contents_of new) other ≡ last_of (contents_of old) other
+  pub steps_taken : new.steps ≡ old.steps + steps
+  pub checkouts : new.checkouts ≡ old.checkouts

@@ -1,0 +1,50 @@
+-- When a view was copied for the thread of a ticket.
+use Rattle.std.specs.Prelude.{◌≡◌, ℕ, List, take, Contains, Some, slice_get}
+use Rattle.cache_ident.specs.declared.idents.Ident.{Ident}
+use Rattle.cache_ident.specs.declared.names.Name.TheVariants as name
+use Rattle.cache_ident.specs.declared.names.SpaceNo.{SpaceNo}
+use Rattle.cache_ident.specs.declared.names.ThreadNo.{ThreadNo}
+use Rattle.phys_groups.specs.declared.rows.Row.{Row}
+use Rattle.phys_groups.specs.Translation.{row_of}
+use Rattle.flat_state.specs.declared.records.FlatThread.{FlatThread}
+use Rattle.flat_state.specs.Events.{flat}
+use Rattle.flat_state.specs.State.{FlatState}
+use Rattle.run_journal.specs.declared.entries.Entry.{Entry}
+use Rattle.run_journal.specs.declared.entries.Entry.TheVariants.{Loaded}
+use Rattle.run_journal.specs.Entries.{erase}
+use Rattle.page_views.specs.Views.{View}
+
+-- the machine with unlimited tables behind so many entries
+abbrev pub state_at : List Entry → ℕ → FlatState
+state_at j at = flat (erase (take at j))
+
+-- the entry at a place loaded a thread of the space with the identifier
+pub record IsThreadIn (j : List Entry) (thread : Ident) (space : SpaceNo) : Type 0 where
+  pub at : ℕ
+  pub cpu : ℕ
+  pub whom : ThreadNo
+  pub loaded : slice_get j at ≡ Some (Loaded thread (name.Thread whom) cpu)
+  pub found : FlatThread
+  pub there : slice_get (state_at j at).threads whom.0 ≡ Some found
+  pub its : found.space ≡ space
+
+-- the entry at a place loaded the row of the view's page in the space with the view's identifier, and the view has the frame and
+-- the flags that this row had then
+pub record IsCopiedIn (j : List Entry) (space : SpaceNo) (v : View) : Type 0 where
+  pub at : ℕ
+  pub cpu : ℕ
+  pub loaded : slice_get j at ≡ Some (Loaded v.row (name.Mapping space v.vpn) cpu)
+  pub row : Row
+  pub there : row_of (state_at j at).rows space v.vpn.0 ≡ Some row
+  pub frame : row.frame ≡ v.frame
+  pub flags : row.flags ≡ v.flags
+
+-- the view was copied for the thread that was loaded with the identifier
+pub record IsOfTicket (j : List Entry) (thread : Ident) (v : View) : Type 0 where
+  pub space : SpaceNo
+  pub of : IsThreadIn j thread space
+  pub copied : IsCopiedIn j space v
+
+-- .. and so was each of them
+abbrev pub AreOfTicket : List Entry → Ident → List View → Type 0
+AreOfTicket j thread vs = (v : View) → Contains vs v → IsOfTicket j thread v

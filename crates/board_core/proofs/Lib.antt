@@ -1,0 +1,16 @@
+pub mod CountLaws
+pub mod StampLaws
+pub mod SoundLaws
+pub mod NamedLaws
+pub mod UnkeptLaws
+pub mod PlaceLaws
+pub mod OpeningLaws
+pub mod NewLaws
+pub mod OthersLaws
+pub mod StoresLaws
+pub mod StoredLaws
+pub mod RunningLaws
+pub mod TakingLaws
+pub mod ClearedLaws
+pub mod CommittedLaws
+pub mod AheadLaws

@@ -1,0 +1,4 @@
+pub mod Stamps
+pub mod Core
+pub mod Growth
+pub mod Answers

@@ -1,0 +1,13 @@
+//! The core of the board: the machine with caches and the journal of all that happens to it, as one, with the moves that every
+//! operation is made of. Each move writes its entries.
+#![tactic(auto)]
+
+mod core_record;
+mod opening;
+mod places;
+mod processors;
+mod rooms;
+mod running;
+mod taking_over;
+
+pub use core_record::Core;

@@ -1,0 +1,95 @@
+//! What steps that were taken ahead leave of a machine.
+
+ghost use Rattle.std.specs.Prelude.{◌≡◌, ◌<◌, length, true};
+ghost use Rattle.phys_groups.specs.Memory.{HasFrame};
+ghost use Rattle.flat_rules.specs.Readings.{OfThread};
+ghost use Rattle.quantum.specs.LocalRun.{committed, status_by as status_by_def, touched_views, CouldRun, IsLocalRun};
+ghost use Rattle.cached_machine.specs.Aside.{aside_of};
+ghost use Rattle.cached_machine.specs.Cached.{state_of};
+ghost use Rattle.board_core.specs.Growth.{with_all_views, with_view, AreInMemory};
+ghost use Rattle.board_core.specs.Stamps.{AreStamped, HaveStamps};
+
+use crate::core_record::put_stamp;
+use cache_ident::{SpaceNo, ThreadNo};
+use cached_machine::CachedMachine;
+use flat_rules::{Records, Steps, thread_at};
+use quantum::{PageView, Paused, Quantum};
+use rv32_exec::Status;
+
+// The thread, its rows and memory are as the quantum left them. Each frame that changed has a new stamp.
+pub(crate) fn take_over(
+    machine: &mut CachedMachine,
+    stamps: &mut Vec<u64>,
+    no: ThreadNo,
+    quantum: &Quantum,
+    at: u64,
+)
+    requires there { no.0 < length (state_of machine.old).threads }
+    requires could { OfThread (state_of machine.old) no.0 (λ t. CouldRun (state_of machine.old) t quantum.now) }
+    requires local_run { IsLocalRun quantum.now }
+    requires places { HaveStamps machine.old.memory stamps.old.items }
+    ensures state { OfThread (state_of machine.old) no.0 (λ t. state_of machine.new ≡ committed (state_of machine.old) no.0 t quantum.now) }
+    ensures rest { aside_of machine.new ≡ aside_of machine.old }
+    ensures stamps { AreStamped at machine.old.memory stamps.old.items machine.new.memory stamps.new.items }
+{
+    machine.holds();
+    let space = CachedMachine::space_of(thread_at(machine, no));
+    take_views(machine, stamps, space, quantum.views(), at);
+    machine.put(no, quantum.context(), status_by(quantum.paused()));
+}
+
+// The rows and frames of views are as these are.
+fn take_views(
+    machine: &mut CachedMachine,
+    stamps: &mut Vec<u64>,
+    space: SpaceNo,
+    views: &[PageView],
+    at: u64,
+)
+    requires frames { AreInMemory machine.old.memory (touched_views views.now) }
+    requires places { HaveStamps machine.old.memory stamps.old.items }
+    ensures state { state_of machine.new ≡ with_all_views space (state_of machine.old) views.now }
+    ensures rest { aside_of machine.new ≡ aside_of machine.old }
+    ensures stamps { AreStamped at machine.old.memory stamps.old.items machine.new.memory stamps.new.items }
+{
+    for view in views {
+        if view.touched() {
+            take_view(machine, stamps, space, view, at);
+        }
+    }
+}
+
+// The row of a view is marked as the view is, and its frame has the view's bytes. Where it had them already, it keeps its stamp.
+fn take_view(
+    machine: &mut CachedMachine,
+    stamps: &mut Vec<u64>,
+    space: SpaceNo,
+    view: &PageView,
+    at: u64,
+)
+    requires touched { view.now.touched ≡ true }
+    requires frame { HasFrame machine.old.memory view.now.frame }
+    requires places { HaveStamps machine.old.memory stamps.old.items }
+    ensures state { state_of machine.new ≡ with_view space (state_of machine.old) view.now }
+    ensures rest { aside_of machine.new ≡ aside_of machine.old }
+    ensures stamps { AreStamped at machine.old.memory stamps.old.items machine.new.memory stamps.new.items }
+{
+    machine.mark(space, view.vpn(), view.written());
+    if !machine.memory().equals(view.frame(), view.present()) {
+        machine.copy_in(view.frame(), view.present());
+        put_stamp(stamps, Some(view.frame()), at);
+    }
+}
+
+// What a thread does where its quantum stands.
+fn status_by(paused: Option<Paused>) -> Status
+    ensures { result ≡ status_by_def paused }
+{
+    match paused {
+        Some(Paused::Call) => Status::Trapped,
+        Some(Paused::Stopped(reason)) => Status::Ended(reason),
+        Some(Paused::Limit) | Some(Paused::Miss { .. }) | Some(Paused::Signal) | None => {
+            Status::Ready
+        }
+    }
+}

@@ -1,0 +1,4 @@
+mod GoneLaws
+mod NextLaws
+mod WayLaws
+mod HealLaws

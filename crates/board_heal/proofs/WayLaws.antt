@@ -1,0 +1,240 @@
+-- What is loaded of a chain, one name after the other.
+use Rattle.std.proofs.Common.{◌≡◌, ℕ, ◌+◌, ◌≤◌, Bool, true, false, not, List, [], ◌∷◌, ◌++◌, length, filter, take, Contains, Some, None, slice_get, refl, ap, sym, ◌∙◌, subst, ◌⊎◌, inl, inr, arith, length-append}
+use Rattle.std.specs.Prelude.{if◌then◌else◌}
+use Rattle.std.proofs.lemmas.Bool.{false≢true}
+use Rattle.std.proofs.lemmas.List.{append-nil, append_assoc, length-map, take-append-drop, take_more}
+use Rattle.std.proofs.lemmas.List.Elements.{Contains-append_left, Contains-append_right, Contains-push_cases, filter-append}
+use Rattle.std.proofs.lemmas.Option.{get_or_from_slice_get, slice_get_within}
+use Rattle.flat_laws.proofs.Members.{Contains-here, contains_nothing}
+use Rattle.cache_ident.specs.declared.idents.Ident.{Ident}
+use Rattle.cache_ident.specs.declared.names.Name.{Name}
+use Rattle.cache_ident.specs.declared.names.Name.TheVariants.{Thread}
+use Rattle.cache_ident.specs.declared.names.ThreadNo.{ThreadNo}
+use Rattle.cache_ident.specs.Residents.{Resident, IsNameResident}
+use Rattle.flat_state.specs.declared.events.Event.{Event}
+use Rattle.flat_state.specs.Events.{after_events}
+use Rattle.flat_state.specs.State.{FlatState}
+use Rattle.flat_state.proofs.Places.{Contains-from_get}
+use Rattle.run_journal.specs.declared.entries.Entry.{Entry}
+use Rattle.run_journal.specs.declared.entries.Entry.TheVariants.{Loaded}
+use Rattle.run_journal.specs.Entries.{erase}
+use Rattle.run_journal.proofs.Growth.{after_events-append, erase-append}
+use Rattle.desc_stores.specs.Contents.{content_of, residents_of, Contents}
+use Rattle.desc_groups.specs.declared.departures.Gone.{Gone}
+use Rattle.board_laws.specs.Moves.{written_back}
+use Rattle.cached_machine.specs.Cached.{is_loaded, state_of}
+use Rattle.cached_machine.specs.Posts.{mark_in, mark_of, HasLoadedMarks}
+use Rattle.cached_machine.proofs.LoadedLaws.{loaded_by, loads, not_loaded}
+use Rattle.board_chains.specs.Lists.{AreApart}
+use Rattle.board_chains.proofs.ListLemmas.{apart_before}
+use Rattle.board_core.specs.Core.{contents_of, Recorded}
+use Rattle.board_core.specs.Growth.{GrowsBy, OnlyMakesRoom}
+use Rattle.board_heal.specs.Loads.{count_others, entries_of_load, is_missing, AreLoadedTo, AreLoads, IsLoadedBeside, IsThereNow}
+
+-- ---- what is loaded
+
+module _ (c : Contents) (n : Name) where
+  pub is_there : IsNameResident (residents_of c) n → is_loaded c n ≡ true
+  is_there found = loads (residents_of c) n found.0 found.1 found.2
+
+  pub is_not : (IsNameResident (residents_of c) n → ⊥) → is_loaded c n ≡ false
+  is_not never = not_loaded (residents_of c) n (λ r there named. never (r, there, named))
+
+  pub there_so : is_loaded c n ≡ true → IsNameResident (residents_of c) n
+  there_so is = loaded_by (residents_of c) n is
+
+-- ---- entries
+
+erase_back : (cpu : ℕ) (gone : List Gone) → erase (written_back cpu gone) ≡ []
+erase_back cpu [] = refl
+erase_back cpu (g ∷ gone) = erase_back cpu gone
+
+erase_load : (cpu : ℕ) (gone : List Gone) (ident : Ident) (name : Name) → erase (entries_of_load cpu gone ident name) ≡ []
+erase_load cpu gone ident name = erase-append (written_back cpu gone) (Loaded ident name cpu ∷ []) ∙ ap (λ (es : List Event). es ++ []) (erase_back cpu gone)
+
+-- loads are no events
+pub erase_loads : (cpu : ℕ) (names : List Name) (es : List Entry) → AreLoads cpu names es → erase es ≡ []
+erase_loads cpu [] es are = ap erase are
+erase_loads cpu (n ∷ names) es (gone, ident, rest, is, later) =
+    ap erase is ∙ erase-append (entries_of_load cpu gone ident n) rest ∙ ap (λ (events : List Event). events ++ erase rest) (erase_load cpu gone ident n) ∙ erase_loads cpu names rest later
+
+one_load_more : (cpu : ℕ) (names : List Name) (es : List Entry) (gone : List Gone) (ident : Ident) (name : Name) → AreLoads cpu names es → AreLoads cpu (names ++ name ∷ []) (es ++ entries_of_load cpu gone ident name)
+one_load_more cpu [] es gone ident name are = (gone, ident, [], ap (λ (x : List Entry). x ++ entries_of_load cpu gone ident name) are ∙ sym (append-nil (entries_of_load cpu gone ident name)), refl)
+one_load_more cpu (n ∷ names) es gone ident name (first, its, rest, is, later) =
+    (first, its, rest ++ entries_of_load cpu gone ident name, ap (λ (x : List Entry). x ++ entries_of_load cpu gone ident name) is ∙ append_assoc (entries_of_load cpu first its n) rest (entries_of_load cpu gone ident name), one_load_more cpu names rest gone ident name later)
+
+length_load : (cpu : ℕ) (gone : List Gone) (ident : Ident) (name : Name) → length (entries_of_load cpu gone ident name) ≡ length gone + 1
+length_load cpu gone ident name =
+    let long = length-append (written_back cpu gone) (Loaded ident name cpu ∷ []) in
+    let back : length (written_back cpu gone) ≡ length gone = length-map gone _ in
+    omega arith
+
+pub grows_further : (es fs : List Entry) (old mid new : Recorded) → GrowsBy es old mid → GrowsBy fs mid new → GrowsBy (es ++ fs) old new
+grows_further es fs old mid new first second = record {
+  entries = second.entries ∙ ap (λ (j : List Entry). j ++ fs) first.entries ∙ append_assoc old.journal.entries es fs;
+  state = second.state ∙ ap (λ (s : FlatState). after_events s (erase fs)) first.state ∙ sym (ap (after_events (state_of old.machine)) (erase-append es fs) ∙ after_events-append (state_of old.machine) (erase es) (erase fs));
+  limit = second.limit ∙ first.limit;
+  machine = second.machine ∙ first.machine;
+  caps = second.caps ∙ first.caps;
+  spare = let a = first.spare in let b = second.spare in let long = length-append es fs in omega arith;
+}
+
+-- ---- processors
+
+-- a thread that came since was on none
+pub marks_further : (old mid new : Contents) → HasLoadedMarks old mid → HasLoadedMarks mid new → ((whom : ThreadNo) → is_loaded new (Thread whom) ≡ true → is_loaded mid (Thread whom) ≡ false → is_loaded old (Thread whom) ≡ false) → HasLoadedMarks old new
+marks_further old mid new first second came = record {
+  marks = λ whom. second.marks whom ∙ by whom (is_loaded new (Thread whom)) (is_loaded mid (Thread whom)) refl refl;
+  lasts = λ whom. second.lasts whom ∙ first.lasts whom;
+}
+  where
+    by : (whom : ThreadNo) (now was : Bool) → is_loaded new (Thread whom) ≡ now → is_loaded mid (Thread whom) ≡ was → (if now then mark_of mid whom else None) ≡ (if now then mark_of old whom else None)
+    by whom false was is_now is_was = refl
+    by whom true true is_now is_was = first.marks whom ∙ ap (λ (b : Bool). if b then mark_of old whom else None) is_was
+    by whom true false is_now is_was =
+        first.marks whom ∙ ap (λ (b : Bool). if b then mark_of old whom else None) is_was ∙ sym (ap (λ (b : Bool). if b then mark_in (content_of old (Thread whom)) else None) (came whom is_now is_was))
+
+-- ---- at the beginning
+
+module _ (cpu : ℕ) (chain : List Name) (old mid : Recorded) (room : OnlyMakesRoom old mid) where
+  same_residents : residents_of (contents_of mid) ≡ residents_of (contents_of old)
+  same_residents = room.only.loaded.residents
+
+  grows_not : GrowsBy [] old mid
+  grows_not = record {
+    entries = ap (λ (b : Recorded). b.journal.entries) room.rest ∙ sym (append-nil old.journal.entries);
+    state = room.only.state;
+    limit = ap (λ (b : Recorded). b.limit) room.rest;
+    machine = room.only.machine;
+    caps = room.only.caps;
+    spare = let more = room.spare in omega arith;
+  }
+
+  marks_so : HasLoadedMarks (contents_of old) (contents_of mid)
+  marks_so = record {
+    marks = λ whom. room.only.marks.marks whom ∙ by whom (is_loaded (contents_of mid) (Thread whom)) refl;
+    lasts = room.only.marks.lasts;
+  }
+    where
+      by : (whom : ThreadNo) (now : Bool) → is_loaded (contents_of mid) (Thread whom) ≡ now → mark_of (contents_of old) whom ≡ (if now then mark_of (contents_of old) whom else None)
+      by whom true is = refl
+      by whom false is = sym (room.only.marks.marks whom) ∙ ap (λ (b : Bool). if b then mark_in (content_of (contents_of mid) (Thread whom)) else None) is
+
+  pub none_yet : count_others mid chain + length chain + 1 ≤ mid.journal.spare → length chain ≤ (contents_of mid).spare → AreLoadedTo cpu chain 0 old mid
+  none_yet fits issues = record {
+    loads = [];
+    are = refl;
+    grows = grows_not;
+    state = room.only.state;
+    there = λ name there. absurd (contains_nothing name there);
+    stay = λ r there listed. subst (λ (rs : List Resident). Contains rs r) (sym same_residents) there;
+    only = λ r there. inl (subst (λ (rs : List Resident). Contains rs r) same_residents there);
+    room = omega (arith, fits);
+    issues = omega (arith, issues);
+    marks = marks_so;
+    sealed = ap (λ (b : Recorded). b.sealed) room.rest;
+    checkouts = ap (λ (b : Recorded). b.checkouts) room.rest;
+  }
+
+-- ---- one name further
+
+module _ (cpu : ℕ) (chain : List Name) (old mid new : Recorded) (i : ℕ) (name : Name) (at : slice_get chain i ≡ Some name) (apart : AreApart chain) (way : AreLoadedTo cpu chain i old mid) where
+  abbrev first : List Name
+  first = take i chain
+
+  taken : take (i + 1) chain ≡ first ++ name ∷ []
+  taken = take_more chain i name (slice_get_within chain i name at) ∙ ap (λ (n : Name). first ++ n ∷ []) (get_or_from_slice_get chain i name name at)
+
+  listed : Contains chain name
+  listed = Contains-from_get chain i name at
+
+  taken_cases : (n : Name) → Contains (take (i + 1) chain) n → Contains first n ⊎ (name ≡ n)
+  taken_cases n there = Contains-push_cases first name n (subst (λ (ns : List Name). Contains ns n) taken there)
+
+  first_there : (n : Name) → Contains first n → Contains (take (i + 1) chain) n
+  first_there n there = subst (λ (ns : List Name). Contains ns n) (sym taken) (Contains-append_left first (name ∷ []) n there)
+
+  name_there : Contains (take (i + 1) chain) name
+  name_there = subst (λ (ns : List Name). Contains ns name) (sym taken) (Contains-append_right first (name ∷ []) name (Contains-here name []))
+
+  taken_listed : (n : Name) → Contains first n → Contains chain n
+  taken_listed n there = subst (λ (ns : List Name). Contains ns n) (take-append-drop i chain) (Contains-append_left first _ n there)
+
+  -- what is loaded of the name now was before
+  was_loaded : IsNameResident (residents_of (contents_of mid)) name → IsNameResident (residents_of (contents_of old)) name
+  was_loaded found = elim (way.only found.0 found.1) [
+    | inl before ↦ (found.0, before, found.2)
+    | inr earlier ↦ absurd (apart_before chain i name apart at (subst (Contains first) found.2 earlier))
+  ]
+
+  is_loaded_still : IsNameResident (residents_of (contents_of old)) name → IsNameResident (residents_of (contents_of mid)) name
+  is_loaded_still found = (found.0, way.stay found.0 found.1 (subst (Contains chain) (sym found.2) listed), found.2)
+
+  missing_so : (b : Bool) → is_missing (contents_of old) name ≡ b → filter (is_missing (contents_of old)) (take (i + 1) chain) ≡ filter (is_missing (contents_of old)) first ++ (if b then name ∷ [] else [])
+  missing_so b is = ap (filter (is_missing (contents_of old))) taken ∙ filter-append (is_missing (contents_of old)) first (name ∷ []) ∙ ap (λ (k : Bool). filter (is_missing (contents_of old)) first ++ (if k then name ∷ [] else [])) is
+
+  -- it was there
+  was_there : IsNameResident (residents_of (contents_of mid)) name → AreLoadedTo cpu chain (i + 1) old mid
+  was_there found = record {
+    loads = way.loads;
+    are = subst (λ (ns : List Name). AreLoads cpu ns way.loads) (sym (missing_so false (ap not (is_there (contents_of old) name (was_loaded found))) ∙ append-nil _)) way.are;
+    grows = way.grows;
+    state = way.state;
+    there = λ n there. elim (taken_cases n there) [
+      | inl before ↦ way.there n before
+      | inr same ↦ subst (IsNameResident (residents_of (contents_of mid))) same found
+    ];
+    stay = way.stay;
+    only = λ r there. elim (way.only r there) [
+      | inl before ↦ inl before
+      | inr early ↦ inr (first_there r.name early)
+    ];
+    room = let fits = way.room in omega arith;
+    issues = let fits = way.issues in omega arith;
+    marks = way.marks;
+    sealed = way.sealed;
+    checkouts = way.checkouts;
+  }
+
+  -- it came
+  came : (IsNameResident (residents_of (contents_of mid)) name → ⊥) → IsLoadedBeside cpu chain name mid new → AreLoadedTo cpu chain (i + 1) old new
+  came never load = record {
+    loads = way.loads ++ entries_of_load cpu load.gone load.ident name;
+    are = subst (λ (ns : List Name). AreLoads cpu ns (way.loads ++ entries_of_load cpu load.gone load.ident name)) (sym (missing_so true (ap not (is_not (contents_of old) name (λ found. never (is_loaded_still found))))))
+        (one_load_more cpu (filter (is_missing (contents_of old)) first) way.loads load.gone load.ident name way.are);
+    grows = grows_further way.loads (entries_of_load cpu load.gone load.ident name) old mid new way.grows load.grows;
+    state = load.grows.state ∙ ap (after_events (state_of mid.machine)) (erase_load cpu load.gone load.ident name) ∙ way.state;
+    there = λ n there. elim (taken_cases n there) [
+      | inl before ↦ let found = way.there n before in (found.0, load.stay found.0 found.1 (subst (Contains chain) (sym found.2) (taken_listed n before)), found.2)
+      | inr same ↦ subst (IsNameResident (residents_of (contents_of new))) same load.there
+    ];
+    stay = λ r there its. load.stay r (way.stay r there its) its;
+    only = λ r there. elim (load.only r there) [
+      | inl before ↦ elim (way.only r before) [
+        | inl earlier ↦ inl earlier
+        | inr early ↦ inr (first_there r.name early)
+      ]
+      | inr named ↦ inr (subst (Contains (take (i + 1) chain)) (sym named) name_there)
+    ];
+    room =
+        let fits = way.room in
+        let fewer = load.fewer in
+        let spare = load.grows.spare in
+        let long = length_load cpu load.gone load.ident name in
+        omega arith;
+    issues = let fits = way.issues in let one = load.issues in omega arith;
+    marks = marks_further (contents_of old) (contents_of mid) (contents_of new) way.marks load.marks (λ whom now was.
+        let found = there_so (contents_of new) (Thread whom) now in
+        elim (load.only found.0 found.1) [
+          | inl before ↦ absurd (false≢true (sym was ∙ is_there (contents_of mid) (Thread whom) (found.0, before, found.2)))
+          | inr named ↦ is_not (contents_of old) (Thread whom) (λ earlier. never (is_loaded_still (subst (IsNameResident (residents_of (contents_of old))) (sym found.2 ∙ named) earlier)))
+        ]);
+    sealed = load.sealed ∙ way.sealed;
+    checkouts = load.checkouts ∙ way.checkouts;
+  }
+
+  pub one_further : IsThereNow cpu chain name mid new → AreLoadedTo cpu chain (i + 1) old new
+  one_further now = elim now [
+    | inl there ↦ subst (AreLoadedTo cpu chain (i + 1) old) (sym there.1) (was_there there.0)
+    | inr load ↦ came load.0 load.1
+  ]

@@ -1,0 +1,56 @@
+//! The healing step.
+
+ghost use Rattle.std.specs.Prelude.{◌≡◌, ◌≢◌, ◌<◌, None, Some, IfErr, OnOk, IsSome};
+ghost use Rattle.flat_state.specs.NextSteps.{next_step as next_step_def};
+ghost use Rattle.cached_machine.specs.Cached.{state_of};
+ghost use Rattle.board_ops.specs.declared.refusals.Refused.TheVariants.{NoMemory};
+ghost use Rattle.board_core.specs.Answers.{HasSpare, IsRefused};
+ghost use Rattle.board_heal.specs.Healed.{IsHealed};
+ghost use Rattle.board_heal.specs.Refusals.{refusal_of_heal};
+
+use crate::checks::check_heal;
+use crate::loads::{load_missing, machine_of};
+use board_chains::{MOST_CHAINED, chain_of};
+use board_core::Core;
+use board_ops::Refused;
+use cache_ident::ThreadNo;
+use flat_state::NextStep;
+
+/// Loads what is missing of the chain of a thread's next step, and takes that step: at most 21 loads, and nothing of the chain
+/// leaves for them. They come in this order: kernels, spaces and threads, each by their numbers; the signal rows that the row of
+/// the data depends on, in declared order; the row of the fetch; and the row of the data.
+///
+/// It is refused where there is no such thread (`NotDeclared`), the thread isn't ready (`NotRunnable`), a processor has it
+/// (`OnCpu`), no step is left (`Over`), a receiver of what the step signals has no room (`Held`), and before the seal
+/// (`NotSealed`). It costs some searches for each descriptor of the chain, and as many for each that leaves.
+pub fn heal_step(core: &mut Core, cpu: u32, no: ThreadNo) -> Result<(), Refused>
+    requires processor { cpu < 8 }
+    ensures refused { IfErr result (IsRefused (refusal_of_heal core.old no) core.old core.new) }
+    ensures done { OnOk result (refusal_of_heal core.old no ≡ None) }
+    ensures healed { OnOk result (IsHealed cpu no core.old core.new) }
+    ensures enough { HasSpare core.old 22 → IfErr result (λ why. why ≢ NoMemory) }
+{
+    let checked = check_heal(core, no);
+    core.make_room(MOST_CHAINED, 1)?;
+    checked?;
+    let next = known_step(core, no);
+    let chain = chain_of(machine_of(core), no, &next);
+    let names = chain.as_slice();
+    for name in names {
+        load_missing(core, cpu, *name, names);
+    }
+    core.holds();
+    core.step(cpu, no, &next);
+    Ok(())
+}
+
+// What can be said of the next step of a thread that there is.
+fn known_step(core: &Core, no: ThreadNo) -> NextStep
+    requires { IsSome (next_step_def (state_of core.now.machine) no.0) }
+    ensures { next_step_def (state_of core.now.machine) no.0 ≡ Some result }
+{
+    match core.next_step(no) {
+        Some(next) => next,
+        None => unreachable!(),
+    }
+}

@@ -1,0 +1,4 @@
+pub mod WhyLaws
+pub mod RoomLaws
+pub mod LoadLaws
+pub mod HoldLaws

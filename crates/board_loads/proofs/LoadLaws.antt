@@ -1,0 +1,145 @@
+-- What a load did behind room that was made, it did to the board as it was before.
+use Rattle.std.proofs.Common.{◌≡◌, ℕ, ◌<◌, List, [], ◌∷◌, ◌++◌, Contains, None, length, sym, ◌∙◌, ap, subst}
+use Rattle.std.specs.Prelude.{IsSome}
+use Rattle.cache_ident.specs.declared.idents.Ident.{Ident}
+use Rattle.cache_ident.specs.declared.idents.Kind.{Kind}
+use Rattle.cache_ident.specs.declared.names.Caps.{Caps}
+use Rattle.cache_ident.specs.declared.names.Name.{Name}
+use Rattle.cache_ident.specs.declared.names.Name.TheVariants as name
+use Rattle.cache_ident.specs.declared.names.ThreadNo.{ThreadNo}
+use Rattle.cache_ident.specs.declared.rolls.Issued.{Issued}
+use Rattle.cache_ident.specs.Names.{amount_of, kind_of}
+use Rattle.cache_ident.specs.Residents.{with_loaded, Resident}
+use Rattle.cache_ident.specs.Rolls.{just_issued}
+use Rattle.depend_lists.specs.declared.nodes.Node.{Node}
+use Rattle.flat_state.specs.Dependence.{Depends}
+use Rattle.flat_state.specs.Names.{is_fit_name, stands}
+use Rattle.flat_state.specs.State.{FlatState}
+use Rattle.run_journal.specs.declared.entries.Entry.TheVariants.{Loaded}
+use Rattle.run_journal.specs.Groups.{HasParents, IsGroup}
+use Rattle.run_journal.specs.Legal.{count_of, IsTaken}
+use Rattle.group_laws.specs.Leaving.{without_all}
+use Rattle.desc_stores.specs.Contents.{content_of, residents_of, IsFullOf, IsShelved}
+use Rattle.shown_state.proofs.LookupLemmas.{name_stands}
+use Rattle.store_residents.specs.Victims.{IsOldest}
+use Rattle.store_residents.proofs.ContentLemmas.{shelved_iff}
+use Rattle.store_residents.proofs.SlotLaws.{full_iff}
+use Rattle.desc_parents.specs.Seen.{seen}
+use Rattle.desc_groups.specs.declared.departures.Gone.{Gone}
+use Rattle.desc_groups.specs.Moves.{departed_all, idents_of}
+use Rattle.desc_admits.specs.May.{MayBeLoaded}
+use Rattle.desc_tables.specs.Tables.{AreSound}
+use Rattle.board_laws.specs.Moves.{written_back, IsLoad}
+use Rattle.cached_machine.specs.Posts.{mark_of, HasLoadedMarks}
+use Rattle.board_checks.specs.Facts.{IsLoadable}
+use Rattle.board_core.specs.Core.{contents_of, Recorded}
+use Rattle.board_core.specs.Growth.{GrowsBy, OnlyMakesRoom}
+use Rattle.board_loads.specs.Loads.{IsLoadedAs}
+use Rattle.board_loads.proofs.RoomLaws.{grows_before, loaded_marks_before, same_checkouts, same_entries, same_issued, same_residents, same_sealed, same_seen, same_shows}
+
+module _ (old mid : Recorded) (room : OnlyMakesRoom old mid) (were are : List (Ident × Node)) (was_sound : AreSound old.machine.held were) (sound : AreSound mid.machine.held are) where
+  -- ---- what is asked
+
+  has_still : (n : Name) → HasParents (seen (contents_of old)) (residents_of (contents_of old)) n → HasParents (seen (contents_of mid)) (residents_of (contents_of mid)) n
+  has_still n has =
+      subst (λ (s : FlatState). HasParents s (residents_of (contents_of mid)) n) (sym (same_seen old mid room))
+      (subst (λ (rs : List Resident). HasParents (seen (contents_of old)) rs n) (sym (same_residents old mid room)) has)
+
+  shelved_still : (n : Name) → IsShelved (contents_of old) n → IsShelved (contents_of mid) n
+  shelved_still n shelved =
+      let was = (shelved_iff (contents_of old) was_sound.whole.one n).0 shelved in
+      let there : IsSome (content_of (contents_of mid) n) =
+      sym (name_stands None [] (contents_of mid) sound.whole.one n)
+      ∙ ap (λ (s : FlatState). stands s n) (same_seen old mid room)
+      ∙ name_stands None [] (contents_of old) was_sound.whole.one n
+      ∙ was.0 in
+      (shelved_iff (contents_of mid) sound.whole.one n).1 (there, λ r. was.1 (r.0, subst (λ (rs : List Resident). Contains rs r.0) (same_residents old mid room) r.1, r.2))
+
+  pub loadable_still : (n : Name) → IsLoadable (contents_of old) n → IsLoadable (contents_of mid) n
+  loadable_still n may = record {
+    shelved = shelved_still n may.shelved;
+    fit = ap (λ (s : FlatState). is_fit_name s n) (same_seen old mid room) ∙ may.fit;
+    has = has_still n may.has;
+  }
+
+  may_before : (n : Name) (keep : List Ident) → IsLoadable (contents_of old) n → MayBeLoaded (contents_of mid) n keep → MayBeLoaded (contents_of old) n keep
+  may_before n keep loadable may = record {
+    shelved = loadable.shelved;
+    fit = loadable.fit;
+    kept = record {
+      has = loadable.has;
+      direct = λ r there depends. may.kept.direct r (here r there) (so n r.name depends);
+      closed = λ r parent there kept parent_there depends. may.kept.closed r parent (here r there) kept (here parent parent_there) (so r.name parent.name depends);
+      few = may.kept.few;
+    };
+  }
+    where
+      here : (r : Resident) → Contains (residents_of (contents_of old)) r → Contains (residents_of (contents_of mid)) r
+      here r there = subst (λ (rs : List Resident). Contains rs r) (sym (same_residents old mid room)) there
+
+      so : (a b : Name) → Depends (seen (contents_of old)) a b → Depends (seen (contents_of mid)) a b
+      so a b depends = subst (λ (s : FlatState). Depends s a b) (sym (same_seen old mid room)) depends
+
+  -- ---- what was done
+
+  -- a cache that is full was full
+  full_counts : (of : Kind) → count_of (residents_of (contents_of mid)) of ≡ count_of (residents_of (contents_of old)) of
+  full_counts of = ap (λ (rs : List Resident). count_of rs of) (same_residents old mid room)
+
+  full_sizes : (of : Kind) → amount_of mid.machine.held.caps of ≡ amount_of old.machine.held.caps of
+  full_sizes of = ap (λ (caps : Caps). amount_of caps of) room.only.caps
+
+  full_still : (of : Kind) → IsFullOf (contents_of old) of → IsFullOf (contents_of mid) of
+  full_still of full =
+      (full_iff (contents_of mid) sound.whole.one.sound of).1
+      (full_counts of ∙ (full_iff (contents_of old) was_sound.whole.one.sound of).0 full ∙ was_sound.whole.sized of ∙ sym (full_sizes of) ∙ sym (sound.whole.sized of))
+
+  full_before : (of : Kind) → IsFullOf (contents_of mid) of → IsFullOf (contents_of old) of
+  full_before of full =
+      (full_iff (contents_of old) was_sound.whole.one.sound of).1
+      (sym (full_counts of) ∙ (full_iff (contents_of mid) sound.whole.one.sound of).0 full ∙ sound.whole.sized of ∙ full_sizes of ∙ sym (was_sound.whole.sized of))
+
+  module _ (n : Name) (keep : List Ident) (ident : Ident) (new : Recorded) where
+    abbrev gone : List Gone
+    gone = new.machine.held.gone
+
+    load_before : IsLoad mid.machine.held.caps (contents_of mid) (contents_of new) n keep (length mid.journal.entries) gone ident
+        → IsLoad old.machine.held.caps (contents_of old) (contents_of new) n keep (length old.journal.entries) gone ident
+    load_before load = record {
+      displaced = λ full.
+          let went = load.displaced (full_still (kind_of n) full) in (
+            went.0,
+            subst (λ (rs : List Resident). IsOldest rs (kind_of n) keep went.0) (same_residents old mid room) went.1,
+            subst (λ (s : FlatState). IsGroup s (residents_of (contents_of old)) went.0 (idents_of gone)) (same_seen old mid room)
+                (subst (λ (rs : List Resident). IsGroup (seen (contents_of mid)) rs went.0 (idents_of gone)) (same_residents old mid room) went.2),
+          );
+      nothing = λ none. load.nothing (λ full. none (full_before (kind_of n) full));
+      causes = load.causes;
+      own = subst (λ (issued : List Issued). ident ≡ record { kind = kind_of n; slot = ident.slot; serial = length issued }) (same_issued old mid room) load.own;
+      free = subst (λ (rs : List Resident). IsTaken (without_all (idents_of gone) rs) (kind_of n) ident.slot → ⊥) (same_residents old mid room) load.free;
+      lowest = subst (λ (rs : List Resident). (slot : ℕ) → slot < ident.slot → IsTaken (without_all (idents_of gone) rs) (kind_of n) slot) (same_residents old mid room) load.lowest;
+      within = subst (λ (caps : Caps). ident.slot < amount_of caps (kind_of n)) room.only.caps load.within;
+      residents = load.residents ∙ ap (λ (rs : List Resident). with_loaded ident n (without_all (idents_of gone) rs)) (same_residents old mid room);
+      issued = load.issued
+          ∙ ap (λ (issued : List Issued). departed_all issued (idents_of gone) (length mid.journal.entries) ++ just_issued ident ∷ []) (same_issued old mid room)
+          ∙ ap (λ (at : ℕ). departed_all (contents_of old).issued (idents_of gone) at ++ just_issued ident ∷ []) (ap length (same_entries old mid room));
+      shows = λ machine memory. load.shows machine memory ∙ same_shows old mid room machine memory;
+    }
+
+    pub loaded_before : (cpu : ℕ) → IsLoadable (contents_of old) n → MayBeLoaded (contents_of mid) n keep
+        → GrowsBy (written_back cpu gone ++ Loaded ident n cpu ∷ []) mid new
+        → IsLoad mid.machine.held.caps (contents_of mid) (contents_of new) n keep (length mid.journal.entries) gone ident
+        → HasLoadedMarks (contents_of mid) (contents_of new)
+        → ((no : ThreadNo) → n ≡ name.Thread no → mark_of (contents_of new) no ≡ None)
+        → new.sealed ≡ mid.sealed → new.checkouts ≡ mid.checkouts
+        → IsLoadedAs cpu n ident old new
+    loaded_before cpu loadable may grows load marks unmarked sealed checkouts = record {
+      keep = keep;
+      may = may_before n keep loadable may;
+      entries = grows_before old mid room (written_back cpu gone ++ Loaded ident n cpu ∷ []) new grows;
+      load = load_before load;
+      marks = loaded_marks_before old mid room (contents_of new) marks;
+      unmarked = unmarked;
+      sealed = sealed ∙ same_sealed old mid room;
+      checkouts = checkouts ∙ same_checkouts old mid room;
+    }

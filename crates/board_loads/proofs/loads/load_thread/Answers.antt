@@ -1,0 +1,15 @@
+use Rattle.std.proofs.Common.{ap, ◌∙◌}
+use Rattle.desc_tables.specs.Tables.{Held}
+use Rattle.board_checks.specs.Refusals.{refusal_of_load_thread}
+use Rattle.board_loads.proofs.WhyLaws.{called_sealed, load_thread_tells, told_why}
+use Rattle.board_loads.proofs.loads.load_thread.Goals as goal
+
+pub load-requires-clause-sealed : goal.load-requires-clause-sealed
+load-requires-clause-sealed c =
+    called_sealed c.check_load_thread-checked.result c.args.core.now c.tables_of.ensures.known c.args.caller _
+    (c.check_load_thread-checked.ensures.exact ∙ ap (λ (h : Held). refusal_of_load_thread h.contents c.args.caller c.args.parent c.args.thread) c.tables_of.ensures.tables)
+
+pub load-requires-clause-tested : goal.load-requires-clause-tested
+load-requires-clause-tested c =
+    told_why c.check_load_thread-checked.result _ c.check_load_thread-checked.ensures.exact
+    (load_thread_tells c.tables_of.result.now.contents c.args.caller c.args.parent c.args.thread)

@@ -1,0 +1,57 @@
+-- Why a fault isn't confirmed: of the tests, in their order, the first that fails.
+use Rattle.std.specs.Prelude.{ℕ, ◌-◌, if◌then◌else◌, nat_lt, Option, Some, None}
+use Rattle.std.specs.Option.{option_and_then, option_map, option_or}
+use Rattle.cache_ident.specs.declared.idents.Ident.{Ident}
+use Rattle.cache_ident.specs.declared.names.Name.{Name}
+use Rattle.cache_ident.specs.declared.names.Name.TheVariants as name
+use Rattle.flat_state.specs.declared.records.FlatThread.{FlatThread}
+use Rattle.flat_state.specs.declared.records.NextStep.{NextStep}
+use Rattle.flat_state.specs.NextSteps.{next_step_of}
+use Rattle.flat_state.specs.State.{is_ready}
+use Rattle.desc_stores.specs.Contents.{Contents}
+use Rattle.board_ops.specs.declared.refusals.Refused.{Refused}
+use Rattle.board_ops.specs.declared.refusals.Refused.TheVariants as why
+use Rattle.board_checks.specs.Identifiers.{thread_as}
+use Rattle.board_checks.specs.Refusals.{refusal_of_thread}
+use Rattle.cached_machine.specs.Cached.{is_loaded, state_of}
+use Rattle.cached_machine.specs.Posts.{mark_of}
+use Rattle.board_core.specs.Core.{contents_of, Recorded}
+
+-- the thread takes no steps
+abbrev pub not_ready : FlatThread → Option Refused
+not_ready t = if is_ready t.status then None else Some (why.NotRunnable t.status)
+
+-- .. or a processor has it
+unfoldable pub not_waiting : Contents → FlatThread → Option Refused
+not_waiting c t = option_or (not_ready t) (option_map why.OnCpu (mark_of c t.no))
+
+-- an access goes through that row, if there is one
+abbrev pub mapped_by : Option Name → Option Refused
+mapped_by (Some (name.Mapping space vpn)) = Some (why.Mapped space vpn)
+mapped_by _ = None
+
+-- the step doesn't fault: its data goes through a row, or its fetch where it has no access to data
+abbrev pub not_faulting : NextStep → Option Refused
+not_faulting next = if next.faults then None else mapped_by (option_or next.data_row next.fetch_row)
+
+-- the row, if there is one, isn't loaded
+unfoldable pub row_absent : Contents → Option Name → Option Refused
+row_absent c (Some (name.Mapping space vpn)) = if is_loaded c (name.Mapping space vpn) then None else Some (why.NotLoaded vpn)
+row_absent c _ = None
+
+-- fewer steps are left than so many
+unfoldable pub over : Recorded → ℕ → Option Refused
+over b steps = if nat_lt (b.limit - b.steps) steps then Some (why.Over (b.limit - b.steps)) else None
+
+-- of the next step: it doesn't fault, or fetches through a row that isn't loaded, or no step is left
+abbrev pub refusal_of_next : Recorded → NextStep → Option Refused
+refusal_of_next b next = option_or (not_faulting next) (option_or (row_absent (contents_of b) next.fetch_row) (over b 1))
+
+-- of the thread: it takes no steps, or is on a processor, and then of its next step
+unfoldable pub refusal_of_ending : Recorded → FlatThread → Option Refused
+refusal_of_ending b t = option_or (not_waiting (contents_of b) t) (refusal_of_next b (next_step_of (state_of b.machine) t))
+
+-- of the call: first by its identifiers
+abbrev pub refusal_of_fault : Recorded → Ident → Ident → Option Refused
+refusal_of_fault b caller thread =
+    option_or (refusal_of_thread (contents_of b) caller thread) (option_and_then (refusal_of_ending b) (thread_as (contents_of b) thread))

@@ -1,0 +1,173 @@
+//! Threads go to processors, and come back.
+
+ghost use Rattle.std.specs.Prelude.{◌≡◌, ◌<◌, ◌≤◌, ◌↔◌, false, length, Contains, IfNone, IfSome};
+ghost use Rattle.std.specs.List.Sorted.{IsSortedBy};
+ghost use Rattle.std.specs.Ordering.{is_lt};
+ghost use Rattle.cache_ident.specs.declared.names.ThreadNo.{ThreadNo};
+ghost use Rattle.cache_ident.specs.Residents.{IsNameResident};
+ghost use Rattle.desc_stores.specs.Contents.{residents_of};
+ghost use Rattle.thread_sets.specs.SetsOf.{takes_steps};
+ghost use Rattle.ready_queue.specs.declared.Candidate.{Candidate};
+ghost use Rattle.ready_queue.specs.Choice.{is_before};
+ghost use Rattle.cached_machine.specs.Posts.{mark_of};
+ghost use Rattle.board_core.specs.Core.{contents_of};
+ghost use Rattle.board_threads.specs.Posts.{HasComeBack, IsCheckedOut, IsOutWith, IsTicketFor, OnlyMarks};
+ghost use Rattle.board_threads.specs.Tests.{goes_on};
+ghost use Rattle.board_threads.specs.Waiting.{IsChosenOf, IsFirstThat, IsFree, IsFreeIn, IsWaiting};
+
+use crate::faults::check_waiting;
+use crate::known::{is_runnable, known, record_of};
+use crate::tickets::Ticket;
+use arrayvec::ArrayVec;
+use board_checks::thread_as;
+use board_core::Core;
+use cache_ident::{Name, ThreadNo};
+use flat_rules::Records;
+use ready_queue::Candidate;
+use std::cmp::Ordering;
+
+// As many threads as can be loaded.
+const MOST_LOADED: usize = 256;
+
+/// Takes the next thread to a processor: of the loaded runnable ones that are on none, the one of the highest priority; among
+/// those the one that was checked out the longest ago; among those the one with the lowest number. None where there is none.
+///
+/// It goes over the slots of threads, sorts the threads that are ready, and looks at the next step of one after another, in order
+/// of choice, until one is runnable. It takes no memory.
+pub fn checkout(core: &mut Core, cpu: u32) -> Option<Ticket>
+    requires processor { cpu < 8 }
+    ensures nobody { IfNone result ((candidate : Candidate) → IsWaiting core.old candidate → ⊥) }
+    ensures nothing { IfNone result (core.new ≡ core.old) }
+    ensures chosen { IfSome result (λ ticket. IsChosenOf core.old ticket.no) }
+    ensures ticket { IfSome result (IsTicketFor core.old cpu) }
+    ensures out { IfSome result (λ ticket. IsCheckedOut ticket.no cpu core.old core.new) }
+{
+    let no = next_waiting(core)?;
+    let ticket = ticket_of(core, cpu, no);
+    core.check_out(cpu, no);
+    Some(ticket)
+}
+
+// The thread that goes next.
+fn next_waiting(core: &Core) -> Option<ThreadNo>
+    ensures chosen { IfSome result (IsChosenOf core.now) }
+    ensures nobody { IfNone result ((candidate : Candidate) → IsWaiting core.now candidate → ⊥) }
+{
+    let mut waiting = candidates(core);
+    waiting.sort_unstable_by(|a, b| in_order(a, b));
+    first_runnable(core, &waiting)
+}
+
+// The loaded threads that are ready and on no processor.
+fn candidates(core: &Core) -> ArrayVec<Candidate, MOST_LOADED>
+    ensures { (candidate : Candidate) → Contains result.items candidate ↔ IsFree takes_steps core.now candidate }
+{
+    known(core);
+    let mut waiting = ArrayVec::new();
+    for slot in 0..core.machine().tables().caps().threads {
+        if let Some(candidate) = candidate_at(core, slot) {
+            waiting.push(candidate);
+        }
+    }
+    waiting
+}
+
+// The thread that is loaded in a slot, where it is ready and on no processor.
+fn candidate_at(core: &Core, slot: u32) -> Option<Candidate>
+    requires { slot < core.now.machine.machine.caps.threads }
+    ensures found { IfSome result (IsFreeIn slot core.now) }
+    ensures absent { IfNone result ((candidate : Candidate) → IsFreeIn slot core.now candidate → ⊥) }
+{
+    known(core);
+    let no = core.machine().thread_at(slot)?;
+    let thread = record_of(core, no)?;
+    match check_waiting(core.machine(), thread) {
+        Ok(()) => Some(Candidate {
+            no,
+            priority: thread.priority,
+            last: thread.last,
+        }),
+        Err(_) => None,
+    }
+}
+
+// By this the candidates stand in the order of choice.
+fn in_order(a: &Candidate, b: &Candidate) -> Ordering
+    ensures { is_lt result ≡ is_before a.now b.now }
+{
+    b.priority
+        .cmp(&a.priority)
+        .then(a.last.cmp(&b.last))
+        .then(a.no.cmp(&b.no))
+}
+
+// The first of the candidates that is runnable.
+fn first_runnable(core: &Core, waiting: &[Candidate]) -> Option<ThreadNo>
+    requires sorted { IsSortedBy is_before waiting.now }
+    ensures first { IfSome result (λ no. (c : Candidate) × (c.no ≡ no) × IsFirstThat (λ other. goes_on core.now other.no.0) waiting.now c) }
+    ensures none { IfNone result ((c : Candidate) → Contains waiting.now c → goes_on core.now c.no.0 ≡ false) }
+{
+    for candidate in waiting {
+        if is_runnable(core, candidate.no) {
+            return Some(candidate.no);
+        }
+    }
+    None
+}
+
+// The ticket of a thread that is loaded.
+fn ticket_of(core: &Core, cpu: u32, no: ThreadNo) -> Ticket
+    requires processor { cpu < 8 }
+    requires loaded { IsNameResident (residents_of (contents_of core.now)) (Name.Thread no) }
+    ensures ticket { IsTicketFor core.now cpu result }
+    ensures no { result.no ≡ no }
+{
+    known(core);
+    let Some(ident) = core.machine().tables().resident(Name::Thread(no)) else {
+        unreachable!()
+    };
+    let Some(thread) = core.machine().thread(no) else {
+        unreachable!()
+    };
+    Ticket {
+        thread: ident,
+        no,
+        cpu,
+        context: thread.context,
+    }
+}
+
+/// Gives a thread back, where it is still loaded under the ticket's identifier and on the ticket's processor; else it does
+/// nothing. One search.
+pub fn leave(core: &mut Core, ticket: &Ticket)
+    ensures only { OnlyMarks core.old core.new }
+    ensures back { (whom : ThreadNo) → IsOutWith core.old ticket.now whom → HasComeBack whom core.old core.new }
+    ensures stays { ((whom : ThreadNo) → IsOutWith core.old ticket.now whom → ⊥) → core.new ≡ core.old }
+{
+    if let Some(no) = out_with(core, ticket) {
+        core.check_in(no);
+    }
+}
+
+// The thread that is loaded under the ticket's identifier, where the ticket's processor has it.
+fn out_with(core: &Core, ticket: &Ticket) -> Option<ThreadNo>
+    ensures found { IfSome result (IsOutWith core.now ticket.now) }
+    ensures alone { IfSome result (λ no. (whom : ThreadNo) → IsOutWith core.now ticket.now whom → no ≡ whom) }
+    ensures absent { IfNone result ((whom : ThreadNo) → IsOutWith core.now ticket.now whom → ⊥) }
+{
+    known(core);
+    let Ok(thread) = thread_as(core.machine().tables(), ticket.thread) else {
+        return None;
+    };
+    let no = thread.no;
+    let cpu = core.machine().processor_of(no)?;
+    if cpu == ticket.cpu { Some(no) } else { None }
+}
+
+/// No thread is on a processor any more. It takes a time for each thread that can be loaded.
+pub fn clear_marks(core: &mut Core)
+    ensures only { OnlyMarks core.old core.new }
+    ensures none { (whom : ThreadNo) → mark_of (contents_of core.new) whom ≡ None }
+{
+    core.check_in_all();
+}

@@ -1,0 +1,60 @@
+//! What holds of every core, and what is read of it.
+
+ghost use Rattle.std.specs.Prelude.{◌≡◌, None, Some, IfNone, IfSome};
+ghost use Rattle.flat_state.specs.WellFormed.{IsWellFormed};
+ghost use Rattle.desc_stores.specs.declared.items.Item.{Item};
+ghost use Rattle.desc_stores.specs.Contents.{content_of};
+ghost use Rattle.desc_stores.specs.Sound.{IsExactlyOne};
+ghost use Rattle.shown_state.specs.Found.{AreFound};
+ghost use Rattle.store_residents.specs.Slots.{HasSlots};
+ghost use Rattle.cached_machine.specs.Cached.{is_loaded as is_loaded_def, state_of};
+ghost use Rattle.board_core.specs.Core.{contents_of, IsSound};
+ghost use Rattle.board_threads.specs.Tests.{goes_on};
+
+use board_core::Core;
+use cache_ident::{Name, ThreadNo};
+use desc_tables::ItemRef;
+use flat_rules::Records;
+use thread_cache::ThreadRec;
+
+// Does nothing. A proof has from it what holds of every core.
+pub(crate) fn known(core: &Core)
+    ensures sound { IsSound core.now }
+    ensures one { IsExactlyOne (contents_of core.now) }
+    ensures formed { IsWellFormed (state_of core.now.machine) }
+    ensures found { AreFound (state_of core.now.machine) (contents_of core.now) }
+    ensures slots { HasSlots core.now.machine.machine.caps (contents_of core.now) }
+{
+    core.holds();
+    core.machine().holds();
+    let _ = core.machine().tables();
+    let _ = core.machine().room();
+}
+
+// Whether there is such a thread and its next step can be taken.
+pub(crate) fn is_runnable(core: &Core, no: ThreadNo) -> bool
+    ensures { result ≡ goes_on core.now no.0 }
+{
+    match core.next_step(no) {
+        Some(next) => next.runnable,
+        None => false,
+    }
+}
+
+// Whether a name is loaded.
+pub(crate) fn is_loaded(core: &Core, name: Name) -> bool
+    ensures { result ≡ is_loaded_def (contents_of core.now) name }
+{
+    core.machine().tables().resident(name).is_some()
+}
+
+// The record of a thread, wherever it is.
+pub(crate) fn record_of(core: &Core, no: ThreadNo) -> Option<&ThreadRec>
+    ensures found { IfSome result (λ found. content_of (contents_of core.now) (Name.Thread no) ≡ Some (Item.Thread found.now)) }
+    ensures absent { IfNone result (content_of (contents_of core.now) (Name.Thread no) ≡ None) }
+{
+    match core.machine().tables().item(Name::Thread(no)) {
+        Some(ItemRef::Thread(found)) => Some(found),
+        _ => None,
+    }
+}

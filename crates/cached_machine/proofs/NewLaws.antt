@@ -1,0 +1,68 @@
+-- What holds of a machine that is declared, and in which nothing stands.
+use Rattle.std.proofs.Common.{◌≡◌, ℕ, ◌*◌, ◌≤◌, List, [], length, replicate, Some, None, refl, sym, ◌∙◌, ap, subst}
+use Rattle.std.specs.Prelude.{filter_map}
+use Rattle.cache_ident.specs.declared.names.Caps.{Caps}
+use Rattle.cache_ident.specs.declared.names.ThreadNo.{ThreadNo}
+use Rattle.cache_ident.specs.declared.rolls.Issued.{Issued}
+use Rattle.cache_ident.specs.Residents.{Resident}
+use Rattle.flat_state.specs.declared.events.Decl.TheVariants as decls
+use Rattle.flat_state.specs.declared.events.Machine.{Machine}
+use Rattle.flat_state.specs.declared.records.FlatThread.{FlatThread}
+use Rattle.flat_state.specs.Declaration.{broken_rule, declared, locks_granted, rule_of_machine}
+use Rattle.flat_state.specs.State.{nothing_declared, FlatState}
+use Rattle.flat_state.specs.WellFormed.{IsWellFormed}
+use Rattle.flat_state.proofs.FormedParts.{nothing_formed}
+use Rattle.flat_machine.proofs.DeclareSound.{machine_rules, machine_sound}
+use Rattle.flat_laws.proofs.Members.{contains_nothing}
+use Rattle.desc_stores.specs.Changes.{IsNothing}
+use Rattle.desc_stores.specs.Contents.{residents_of, resident_as, Contents}
+use Rattle.shown_state.proofs.DeclareLemmas.{nothing_shown}
+use Rattle.thread_sets.specs.Sets.{Sets}
+use Rattle.thread_sets.specs.SetsOf.{AreSetsOf}
+use Rattle.desc_tables.specs.Tables.{Held}
+use Rattle.cached_machine.specs.Cached.{state_of, Cached, IsSound}
+use Rattle.cached_machine.specs.Posts.{AreSeated, HasSeats}
+
+-- a declared machine, before all else
+abbrev pub only_machine : Machine → FlatState
+only_machine machine = record nothing_declared { machine = Some machine; memory = replicate (524288 * machine.groups) 0 }
+
+-- a machine that breaks no rule of machines can be declared
+pub fits_first : (machine : Machine) → rule_of_machine machine ≡ None → broken_rule nothing_declared (decls.Machine machine) ≡ None
+unfolding broken_rule
+fits_first machine fits = fits
+
+pub groups_fit : (machine : Machine) → rule_of_machine machine ≡ None → (1 ≤ machine.groups) × (machine.groups ≤ 16)
+groups_fit machine fits = machine_rules nothing_declared machine (fits_first machine fits)
+
+first_formed : (machine : Machine) → rule_of_machine machine ≡ None → IsWellFormed (only_machine machine)
+unfolding declared
+first_formed machine fits = (machine_sound nothing_declared (locks_granted []) (record { formed = nothing_formed; sums = refl }) machine (fits_first machine fits)).formed
+
+-- where no identifier was issued nothing is loaded
+none_resident : (c : Contents) → c.issued ≡ [] → residents_of c ≡ []
+unfolding residents_of
+none_resident c none = ap (λ (issued : List Issued). filter_map (λ (entry : Issued). resident_as c entry.ident) issued) none
+
+module _ (machine : Machine) (memory : List ℕ) (held : Held) (sets : Sets) (zeros : memory ≡ replicate (524288 * machine.groups) 0) (nothing : IsNothing machine.caps held.contents) where
+  abbrev made : Cached
+  made = record { machine = machine; memory = memory; held = held; sets = sets }
+
+  pub shows_nothing : state_of made ≡ only_machine machine
+  shows_nothing =
+      nothing_shown (Some machine) memory machine.caps held.contents nothing
+      ∙ ap (λ (bytes : List ℕ). record nothing_declared { machine = Some machine; memory = bytes }) zeros
+
+  pub new_sound : (granted : Caps) → rule_of_machine machine ≡ None → held.caps ≡ machine.caps → sets.completable ≡ [] → sets.ready ≡ [] → granted ≡ locks_granted [] → IsSound made granted
+  new_sound granted fits caps completable ready none = record {
+    formed = subst IsWellFormed (sym shows_nothing) (first_formed machine fits);
+    sets = subst (λ (ts : List FlatThread). AreSetsOf ts sets) (sym (ap (λ (s : FlatState). s.threads) shows_nothing)) (record { completable = completable; ready = ready });
+    caps = caps;
+    sums = none ∙ ap (λ (s : FlatState). locks_granted s.kernels) (sym shows_nothing);
+  }
+
+  pub new_seats : (seats : List ThreadNo) → held.caps ≡ machine.caps → length seats ≡ machine.caps.threads → HasSeats held seats
+  new_seats seats caps long = record {
+    slots = long ∙ sym (ap (λ (c : Caps). c.threads) caps);
+    seated = subst (λ (rs : List Resident). AreSeated rs seats) (sym (none_resident held.contents nothing.issued)) (λ r no there named. absurd (contains_nothing r there));
+  }

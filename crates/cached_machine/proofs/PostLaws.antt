@@ -1,0 +1,144 @@
+-- What is left of a machine with caches where a thread goes to a processor or comes away from it.
+use Rattle.std.proofs.Common.{◌≡◌, ◌≢◌, ℕ, Bool, true, false, cond, List, Option, Some, None, refl, sym, ◌∙◌, ap, subst, inl, inr}
+use Rattle.std.specs.Prelude.{◌==◌, if◌then◌else◌}
+use Rattle.std.proofs.lemmas.Bool.{eq-eqb, eqb-true}
+use Rattle.cache_ident.specs.declared.names.Caps.{Caps}
+use Rattle.cache_ident.specs.declared.names.Name.{Name}
+use Rattle.cache_ident.specs.declared.names.Name.TheVariants as name
+use Rattle.cache_ident.specs.declared.names.ThreadNo.{ThreadNo}
+use Rattle.flat_state.specs.declared.events.Machine.{Machine}
+use Rattle.thread_cache.specs.declared.ThreadRec.{ThreadRec}
+use Rattle.kind_store.specs.Kept.{Kept}
+use Rattle.kind_store.proofs.ContentLemmas.{cases_name}
+use Rattle.desc_stores.specs.declared.items.Item.{Item}
+use Rattle.desc_stores.specs.declared.items.Item.TheVariants as item
+use Rattle.desc_stores.specs.Changes.{with_named, HasContent}
+use Rattle.desc_stores.specs.Contents.{content_of, residents_of, Contents}
+use Rattle.shown_state.specs.Shown.{flat_thread, kernel_of, row_of_item, space_of, thread_of}
+use Rattle.shown_state.proofs.AlikeLemmas.{shown_alike}
+use Rattle.shown_state.proofs.ChangeLemmas.{at_name, elsewhere}
+use Rattle.shown_state.proofs.ContentLemmas.{item_has_name}
+use Rattle.shown_state.proofs.MoveLemmas.{names_in_threads}
+use Rattle.thread_sets.specs.Sets.{Sets}
+use Rattle.desc_tables.specs.Tables.{Held}
+use Rattle.desc_tables.specs.Calls.{IsLike}
+use Rattle.board_laws.specs.Moves.{ShowsTheSame}
+use Rattle.cached_machine.specs.declared.posts.Post.{Post}
+use Rattle.cached_machine.specs.declared.posts.Post.TheVariants.{Out, In}
+use Rattle.cached_machine.specs.Cached.{is_loaded, IsSound}
+use Rattle.cached_machine.specs.Posts.{but_at, last_in, last_of, mark_in, mark_of, posted, HasSeats, IsPosted}
+use Rattle.cached_machine.proofs.AlikeLaws.{alike_sound, itself_but_room, same_loaded, seats_stay}
+use Rattle.cached_machine.proofs.LoadedLaws.{comes_from_itself, ComesFrom}
+
+-- what a move leaves of the thread
+pub posted_no : (post : Post) (thread : ThreadRec) → (posted post thread).no ≡ thread.no
+posted_no (Out cpu number) thread = refl
+posted_no In thread = refl
+
+pub posted_like : (post : Post) (thread : ThreadRec) → IsLike (item.Thread thread) (item.Thread (posted post thread))
+posted_like (Out cpu number) thread = (refl, refl)
+posted_like In thread = (refl, refl)
+
+pub posted_shows : (post : Post) (thread : ThreadRec) → flat_thread (posted post thread) ≡ flat_thread thread
+posted_shows (Out cpu number) thread = refl
+posted_shows In thread = refl
+
+-- a thread stands in the place of one of its name, which shows the same
+module _ (old new : Contents) (whom : ThreadNo) (was is : ThreadRec) (there : content_of old (name.Thread whom) ≡ Some (item.Thread was)) (number : is.no ≡ was.no) (shows : flat_thread is ≡ flat_thread was) (has : HasContent old new (item.Thread is)) where
+  its_name : name.Thread is.no ≡ name.Thread whom
+  its_name = ap name.Thread number ∙ item_has_name old (name.Thread whom) (item.Thread was) there
+
+  -- at its name stands the one, and elsewhere what was there
+  pub here : content_of new (name.Thread whom) ≡ Some (item.Thread is)
+  here = subst (λ (m : Name). content_of new m ≡ Some (item.Thread is)) its_name (at_name old new (item.Thread is) has)
+
+  pub others : (n : Name) → name.Thread whom ≢ n → content_of new n ≡ content_of old n
+  others n apart = elsewhere old new (item.Thread is) has n (λ e. apart (sym its_name ∙ e))
+
+  -- a view that sees the same of both sees what it saw
+  sees : {Y : Type 0} (view : Option Item → Y) → view (Some (item.Thread is)) ≡ view (Some (item.Thread was)) → (n : Name) → view (content_of new n) ≡ view (content_of old n)
+  sees view same n = elim (cases_name (name.Thread whom) n) [
+    | inl same_name ↦ subst (λ (m : Name). view (content_of new m) ≡ view (content_of old m)) same_name (ap view here ∙ same ∙ sym (ap view there))
+    | inr apart ↦ ap view (others n apart)
+  ]
+
+  pub shows_the_same : new ≡ with_named old (item.Thread is) → ShowsTheSame old new
+  shows_the_same stands machine memory = shown_alike machine memory old new (record {
+    names = names_in_threads old new (stands ∙ ap (λ (k : Kept ThreadRec). let c : Contents = record old { threads = k } in c) (sym (ap (λ (c : Contents). c.threads) stands)));
+    kernels = sees kernel_of refl;
+    spaces = sees space_of refl;
+    threads = sees thread_of (ap Some shows);
+    rows = sees row_of_item refl;
+  })
+
+module _ (post : Post) (h h' : Held) (whom : ThreadNo) (is : IsPosted post h h' whom) where
+  abbrev old : Contents
+  old = h.contents
+
+  abbrev new : Contents
+  new = h'.contents
+
+  abbrev left : ThreadRec
+  left = posted post is.value
+
+  pub here_after : content_of new (name.Thread whom) ≡ Some (item.Thread left)
+  here_after = here old new whom is.value left is.there (posted_no post is.value) (posted_shows post is.value) is.contents
+
+  pub others_after : (n : Name) → name.Thread whom ≢ n → content_of new n ≡ content_of old n
+  others_after = others old new whom is.value left is.there (posted_no post is.value) (posted_shows post is.value) is.contents
+
+  pub loaded_after : (n : Name) → is_loaded new n ≡ is_loaded old n
+  loaded_after = same_loaded old new is.only.loaded.residents
+
+  -- what is read of the thread, and of the others as before
+  at : {T : Type 0} (read : Bool → Option Item → T) (said : T) → read (is_loaded old (name.Thread whom)) (Some (item.Thread left)) ≡ said → (other : ThreadNo)
+      → read (is_loaded new (name.Thread other)) (content_of new (name.Thread other)) ≡ but_at whom said (λ (n : ThreadNo). read (is_loaded old (name.Thread n)) (content_of old (name.Thread n))) other
+  at {T} read said reads other = by (other.0 == whom.0) refl
+    where
+      now : (n : ThreadNo) → read (is_loaded new (name.Thread n)) (content_of new (name.Thread n)) ≡ read (is_loaded old (name.Thread n)) (content_of new (name.Thread n))
+      now n = ap (λ (b : Bool). read b (content_of new (name.Thread n))) (loaded_after (name.Thread n))
+
+      same_no : other.0 ≡ whom.0 → other ≡ whom
+      same_no e = ap (λ (k : ℕ). let n : ThreadNo = record { 0 = k } in n) e
+
+      by : (b : Bool) → (other.0 == whom.0) ≡ b → read (is_loaded new (name.Thread other)) (content_of new (name.Thread other)) ≡ cond b said (read (is_loaded old (name.Thread other)) (content_of old (name.Thread other)))
+      by true test =
+          subst (λ (n : ThreadNo). read (is_loaded new (name.Thread n)) (content_of new (name.Thread n)) ≡ said) (sym (same_no (eqb-true other.0 whom.0 test)))
+          (now whom ∙ ap (read (is_loaded old (name.Thread whom))) here_after ∙ reads)
+      by false test = now other ∙ ap (read (is_loaded old (name.Thread other))) (others_after (name.Thread other) (λ e. differs e))
+        where
+          differs : name.Thread whom ≡ name.Thread other → ⊥
+          differs e =
+              let same : other.0 ≡ whom.0 = cc in
+              let yes : (other.0 == whom.0) ≡ true = eq-eqb other.0 whom.0 same in
+              cc
+
+  module _ (machine : Machine) (memory : List ℕ) (sets : Sets) where
+    pub post_sound : (granted : Caps) → IsSound (record { machine = machine; memory = memory; held = h; sets = sets }) granted → IsSound (record { machine = machine; memory = memory; held = h'; sets = sets }) granted
+    post_sound = alike_sound machine memory h h' sets sets (is.only.shows (Some machine) memory) (ap (λ (x : Held). x.caps) is.only.rest) (itself_but_room sets)
+
+  pub post_seats : (seats : List ThreadNo) → HasSeats h seats → HasSeats h' seats
+  post_seats seats = seats_stay h h' seats (ap (λ (x : Held). x.caps) is.only.rest) (subst (ComesFrom (residents_of old)) (sym is.only.loaded.residents) (comes_from_itself (residents_of old)))
+
+abbrev mark_if : Bool → Option Item → Option ℕ
+mark_if loaded content = if loaded then mark_in content else None
+
+pub out_marks : (cpu number : ℕ) (h h' : Held) (whom : ThreadNo) → is_loaded h.contents (name.Thread whom) ≡ true → IsPosted (Out cpu number) h h' whom → (other : ThreadNo) → mark_of h'.contents other ≡ but_at whom (Some cpu) (mark_of h.contents) other
+out_marks cpu number h h' whom loaded is = at (Out cpu number) h h' whom is mark_if (Some cpu) (ap (λ (b : Bool). mark_if b (Some (item.Thread (posted (Out cpu number) is.value)))) loaded)
+
+pub out_lasts : (cpu number : ℕ) (h h' : Held) (whom : ThreadNo) → IsPosted (Out cpu number) h h' whom → (other : ThreadNo) → last_of h'.contents other ≡ but_at whom number (last_of h.contents) other
+out_lasts cpu number h h' whom is = at (Out cpu number) h h' whom is (λ (b : Bool). last_in) number refl
+
+no_mark : (b : Bool) → mark_if b None ≡ None
+no_mark true = refl
+no_mark false = refl
+
+pub in_marks : (h h' : Held) (whom : ThreadNo) → IsPosted In h h' whom → (other : ThreadNo) → mark_of h'.contents other ≡ but_at whom None (mark_of h.contents) other
+in_marks h h' whom is = at In h h' whom is mark_if None (no_mark (is_loaded h.contents (name.Thread whom)))
+
+-- who comes away keeps its last checkout
+pub in_lasts : (h h' : Held) (whom : ThreadNo) → IsPosted In h h' whom → (other : ThreadNo) → last_of h'.contents other ≡ last_of h.contents other
+in_lasts h h' whom is other = elim (cases_name (name.Thread whom) (name.Thread other)) [
+  | inl same ↦ subst (λ (m : Name). last_in (content_of h'.contents m) ≡ last_in (content_of h.contents m)) same (ap last_in (here_after In h h' whom is) ∙ sym (ap last_in is.there))
+  | inr apart ↦ ap last_in (others_after In h h' whom is (name.Thread other) apart)
+]

@@ -1,0 +1,16 @@
+use Rattle.std.proofs.Common.{ℕ, ◌+◌, ◌≤◌, ◌^◌, length, subst}
+use Rattle.cache_ident.specs.declared.idents.Ident.{Ident}
+use Rattle.depend_lists.specs.Pairs.{count_of}
+use Rattle.desc_groups.specs.Moves.{HasPlaces}
+use Rattle.desc_stores.specs.Contents.{residents_of}
+use Rattle.cached_machine.specs.Cached.{Cached}
+use Rattle.cached_machine.proofs.RoomLaws.{few_loaded}
+use Rattle.cached_machine.proofs.machine.CachedMachine.room.Goals as goal
+
+pub returns-clause-places : goal.returns-clause-places
+returns-clause-places c = subst (λ (m : Cached). (root : Ident) (at : ℕ) → at + count_of m.held.caps ≤ 2 ^ 64 → HasPlaces m.held.contents root at) c.self.view_is c.room.ensures.places
+
+pub returns-clause-few : goal.returns-clause-few
+returns-clause-few c =
+    let h = c.self.inside.tables in
+    subst (λ (m : Cached). length (residents_of m.held.contents) ≤ count_of m.held.caps) c.self.view_is (few_loaded h.caps h.contents c.room.ensures.sound.0 c.room.ensures.sound.1.whole)

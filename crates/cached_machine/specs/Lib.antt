@@ -1,0 +1,5 @@
+pub mod Cached
+pub mod Aside
+pub mod Stepping
+pub mod Posts
+pub mod Moved

@@ -1,0 +1,92 @@
+//! Which processor has which thread, and which thread is in which slot.
+
+ghost use Rattle.std.specs.Prelude.{◌≡◌, ◌≢◌, ◌<◌, true, None, Some, IfNone, IfSome, IsSome};
+ghost use Rattle.cache_ident.specs.declared.idents.Ident.{Ident};
+ghost use Rattle.cache_ident.specs.declared.names.ThreadNo.{ThreadNo};
+ghost use Rattle.cache_ident.specs.Residents.{IsResident};
+ghost use Rattle.desc_stores.specs.Contents.{content_of, residents_of};
+ghost use Rattle.cached_machine.specs.Cached.{is_loaded};
+ghost use Rattle.cached_machine.specs.Posts.{but_at, last_of, mark_of, IsCheckedInAt, OnlyPosts};
+
+use crate::machine::CachedMachine;
+use crate::posts::{Post, send};
+use crate::reading::known;
+use cache_ident::{Name, ThreadNo};
+use desc_tables::ItemRef;
+
+impl CachedMachine {
+    /// A loaded thread goes to a processor, by the checkout of that number.
+    pub fn check_out(&mut self, no: ThreadNo, cpu: u32, number: u64)
+        requires loaded { is_loaded self.old.held.contents (Name.Thread no) ≡ true }
+        ensures rest { self.new ≡ record self.old { held = self.new.held } }
+        ensures only { OnlyPosts self.old.held self.new.held }
+        ensures marks { (other : ThreadNo) → mark_of self.new.held.contents other ≡ but_at no (Some cpu) (mark_of self.old.held.contents) other }
+        ensures lasts { (other : ThreadNo) → last_of self.new.held.contents other ≡ but_at no number (last_of self.old.held.contents) other }
+    {
+        known(&self.tables);
+        send(&mut self.tables, no, Post::Out { cpu, number });
+    }
+
+    /// A thread that there is comes away from its processor, if one has it.
+    pub fn check_in(&mut self, no: ThreadNo)
+        requires there { IsSome (content_of self.old.held.contents (Name.Thread no)) }
+        ensures rest { self.new ≡ record self.old { held = self.new.held } }
+        ensures only { OnlyPosts self.old.held self.new.held }
+        ensures marks { (other : ThreadNo) → mark_of self.new.held.contents other ≡ but_at no None (mark_of self.old.held.contents) other }
+        ensures lasts { (other : ThreadNo) → last_of self.new.held.contents other ≡ last_of self.old.held.contents other }
+    {
+        known(&self.tables);
+        send(&mut self.tables, no, Post::In);
+    }
+
+    /// No thread is on a processor any more. It takes a time for each slot of the cache of threads.
+    pub fn check_in_all(&mut self)
+        ensures rest { self.new ≡ record self.old { held = self.new.held } }
+        ensures only { OnlyPosts self.old.held self.new.held }
+        ensures marks { (no : ThreadNo) → mark_of self.new.held.contents no ≡ None }
+        ensures lasts { (no : ThreadNo) → last_of self.new.held.contents no ≡ last_of self.old.held.contents no }
+    {
+        for slot in 0..self.machine.caps.threads {
+            self.check_in_at(slot);
+        }
+    }
+
+    // The thread that is loaded in a slot, if one is, comes away from its processor.
+    fn check_in_at(&mut self, slot: u32)
+        requires { slot < self.old.machine.caps.threads }
+        ensures rest { self.new ≡ record self.old { held = self.new.held } }
+        ensures checked { IsCheckedInAt slot self.old.held self.new.held }
+    {
+        known(&self.tables);
+        if let Some(no) = self.thread_at(slot) {
+            self.check_in(no);
+        }
+    }
+
+    /// The processor that has a thread: only a loaded one is on any.
+    pub fn processor_of(&self, no: ThreadNo) -> Option<u32>
+        ensures { result ≡ mark_of self.now.held.contents no }
+    {
+        let name = Name::Thread(no);
+        self.tables.resident(name)?;
+        match self.tables.item(name) {
+            Some(ItemRef::Thread(thread)) => thread.on_cpu,
+            _ => None,
+        }
+    }
+
+    /// The thread that is loaded in a slot of the cache of threads.
+    pub fn thread_at(&self, slot: u32) -> Option<ThreadNo>
+        requires { slot < self.now.machine.caps.threads }
+        ensures found { IfSome result (λ no. (ident : Ident) × IsResident (residents_of self.now.held.contents) ident (Name.Thread no) × (ident.slot ≡ slot)) }
+        ensures absent { IfNone result ((ident : Ident) (no : ThreadNo) → IsResident (residents_of self.now.held.contents) ident (Name.Thread no) → ident.slot ≢ slot) }
+    {
+        known(&self.tables);
+        let no = self.seats[slot as usize];
+        // Another may have been loaded elsewhere since, and this one may have left.
+        match self.tables.resident(Name::Thread(no)) {
+            Some(ident) if ident.slot == slot => Some(no),
+            _ => None,
+        }
+    }
+}

@@ -1,0 +1,125 @@
+//! What is read of the tables.
+
+ghost use Rattle.std.specs.Prelude.{◌≡◌, ◌≤◌, ℕ, List, Option, count_by, filter, length, slice_get};
+ghost use Rattle.std.specs.Option.{option_copied, option_map};
+ghost use Rattle.phys_groups.specs.Translation.{row_of as row_of_def};
+ghost use Rattle.signal_pages.specs.Signals.{is_signal_row_of};
+ghost use Rattle.flat_state.specs.declared.events.Machine.{Machine};
+ghost use Rattle.desc_stores.specs.Contents.{content_of};
+ghost use Rattle.desc_stores.specs.Sound.{IsExactlyOne};
+ghost use Rattle.shown_state.specs.Found.{AreFound, AreListed};
+ghost use Rattle.shown_state.specs.Shown.{flat_kernel, flat_thread, kernel_of as kernel_in, row_of_item, shown, space_of, thread_of};
+
+use arrayvec::ArrayVec;
+use cache_ident::{Frame, KernelNo, Name, SpaceNo, ThreadNo, Vpn};
+use desc_tables::{ItemRef, Tables};
+use kernel_cache::KernelRec;
+use phys_groups::{Rights, Row};
+use space_cache::SpaceRec;
+use thread_cache::ThreadRec;
+
+// Does nothing. Whoever asks the tables for their room learns what holds of them; it is asked here for that alone.
+pub(crate) fn known(tables: &Tables)
+    ensures one { IsExactlyOne tables.now.contents }
+    ensures found { (machine : Option Machine) (memory : List ℕ) → AreFound (shown machine memory tables.now.contents) tables.now.contents }
+    ensures listed { (machine : Option Machine) (memory : List ℕ) → AreListed (shown machine memory tables.now.contents) tables.now.contents }
+{
+    let _ = tables.room();
+}
+
+// How many rows stand.
+pub(crate) fn row_count(tables: &Tables) -> u32
+    requires { length tables.now.contents.rows.names ≤ 262144 }
+    ensures { result ≡ length tables.now.contents.rows.names }
+{
+    tables.row_names().len() as u32
+}
+
+// The kernel of a name, if it is that of one.
+fn kernel_named(tables: &Tables, name: Name) -> Option<&KernelRec>
+    ensures { option_map flat_kernel (option_copied result) ≡ kernel_in (content_of tables.now.contents name) }
+{
+    match tables.item(name) {
+        Some(ItemRef::Kernel(kernel)) => Some(kernel),
+        _ => None,
+    }
+}
+
+// The space of a name, if it is that of one.
+fn space_named(tables: &Tables, name: Name) -> Option<&SpaceRec>
+    ensures { option_map (λ space. space.kernel) (option_copied result) ≡ space_of (content_of tables.now.contents name) }
+{
+    match tables.item(name) {
+        Some(ItemRef::Space(space)) => Some(space),
+        _ => None,
+    }
+}
+
+// The thread of a name, if it is that of one.
+fn thread_named(tables: &Tables, name: Name) -> Option<&ThreadRec>
+    ensures { option_map flat_thread (option_copied result) ≡ thread_of (content_of tables.now.contents name) }
+{
+    match tables.item(name) {
+        Some(ItemRef::Thread(thread)) => Some(thread),
+        _ => None,
+    }
+}
+
+// The row of a name, if it is that of one.
+fn row_named(tables: &Tables, name: Name) -> Option<&Row>
+    ensures { option_copied result ≡ row_of_item (content_of tables.now.contents name) }
+{
+    match tables.item(name) {
+        Some(ItemRef::Mapping(row)) => Some(row),
+        _ => None,
+    }
+}
+
+// The kernel of a space.
+pub(crate) fn kernel_of(tables: &Tables, space: SpaceNo) -> Option<KernelNo>
+    ensures { (machine : Option Machine) (memory : List ℕ) → result ≡ slice_get (shown machine memory tables.now.contents).spaces space.0 }
+{
+    known(tables);
+    let space = space_named(tables, Name::Space(space))?;
+    Some(space.kernel)
+}
+
+// The rights of a kernel.
+pub(crate) fn rights(tables: &Tables, kernel: KernelNo) -> Option<Rights>
+    ensures { (machine : Option Machine) (memory : List ℕ) → result ≡ option_map (λ k. k.rights) (slice_get (shown machine memory tables.now.contents).kernels kernel.0) }
+{
+    known(tables);
+    let kernel = kernel_named(tables, Name::Kernel(kernel))?;
+    Some(kernel.rights)
+}
+
+// The row of a page.
+pub(crate) fn row(tables: &Tables, space: SpaceNo, vpn: Vpn) -> Option<&Row>
+    ensures { (machine : Option Machine) (memory : List ℕ) → option_copied result ≡ row_of_def (shown machine memory tables.now.contents).rows space vpn.0 }
+{
+    known(tables);
+    row_named(tables, Name::Mapping(space, vpn))
+}
+
+// The thread of a number.
+pub(crate) fn thread(tables: &Tables, no: ThreadNo) -> Option<&ThreadRec>
+    ensures { (machine : Option Machine) (memory : List ℕ) → option_map flat_thread (option_copied result) ≡ slice_get (shown machine memory tables.now.contents).threads no.0 }
+{
+    known(tables);
+    thread_named(tables, Name::Thread(no))
+}
+
+// The rows of a frame that have a receiver, of which there are at most four, in declared order.
+pub(crate) fn signal_rows(tables: &Tables, frame: Frame) -> ArrayVec<Row, 4>
+    requires { (machine : Option Machine) (memory : List ℕ) → count_by (is_signal_row_of frame) (shown machine memory tables.now.contents).rows ≤ 4 }
+    ensures { (machine : Option Machine) (memory : List ℕ) → result.items ≡ filter (is_signal_row_of frame) (shown machine memory tables.now.contents).rows }
+{
+    known(tables);
+    let mut found = ArrayVec::new();
+    for name in tables.signal_rows(frame) {
+        if let Some(row) = row_named(tables, name) {
+            found.push(*row);
+        }
+    }
+    found
+}

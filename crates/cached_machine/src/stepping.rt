@@ -1,0 +1,82 @@
+//! What a step does to memory, to a row and to a thread.
+
+ghost use Rattle.std.specs.Prelude.{◌≡◌, ◌<◌, ◌||◌, true, length, IsSome};
+ghost use Rattle.desc_stores.specs.Contents.{content_of};
+ghost use Rattle.cached_machine.specs.Stepping.{left_by, IfThread, IsMarked, IsStepped};
+ghost use Rattle.thread_sets.specs.Sets.{noted};
+
+use cache_ident::{Name, SpaceNo, ThreadNo, Vpn};
+use desc_tables::{ItemRef, Tables};
+use phys_groups::Row;
+use rv32_exec::{Context, Status};
+use thread_cache::ThreadRec;
+use thread_sets::ThreadSets;
+
+// Marks a row as used, and where `written` as stored to.
+pub(crate) fn mark_row(row: &mut Row, written: bool)
+    ensures { row.new ≡ record row.old { referenced = true; modified = row.old.modified || written } }
+{
+    row.referenced = true;
+    row.modified = row.modified || written;
+}
+
+// What a step changes of a thread.
+#[derive(Clone, Copy)]
+pub(crate) enum Change {
+    // It has these registers and this pc, and does that.
+    Put { context: Context, status: Status },
+    // An address comes to its queue, unless it has ended.
+    Give { va: u32 },
+    // It goes on, with an answer in a0.
+    Answer { value: u32 },
+}
+
+// Changes a thread.
+fn change_thread(thread: &mut ThreadRec, change: Change)
+    ensures { thread.new ≡ left_by change thread.old }
+{
+    match change {
+        Change::Put { context, status } => {
+            thread.context = context;
+            thread.status = status;
+        }
+        Change::Give { va } => {
+            if !thread.queue.is_full() {
+                flat_thread::give(thread.status, &mut thread.queue, va);
+            }
+        }
+        Change::Answer { value } => {
+            flat_thread::answer(&mut thread.context, &mut thread.status, value);
+        }
+    }
+}
+
+// Changes a thread where it stands, and notes what it can do then.
+pub(crate) fn update(tables: &mut Tables, sets: &mut ThreadSets, no: ThreadNo, change: Change)
+    requires there { IsSome (content_of tables.old.contents (Name.Thread no)) }
+    requires numbered { no.0 < length sets.old.completable }
+    ensures { IsStepped change tables.old tables.new sets.old sets.new no }
+{
+    tables.update_thread_named(Name::Thread(no), |thread| change_thread(thread, change));
+    note(tables, sets, no);
+}
+
+// The sets have a thread as it is now.
+pub(crate) fn note(tables: &Tables, sets: &mut ThreadSets, no: ThreadNo)
+    requires { no.0 < length sets.old.completable }
+    ensures { IfThread (content_of tables.now.contents (Name.Thread no)) (λ thread. sets.new ≡ noted sets.old thread) }
+{
+    if let Some(ItemRef::Thread(thread)) = tables.item(Name::Thread(no)) {
+        sets.note(thread);
+    }
+}
+
+// Marks the row of a page where it stands, if there is one.
+pub(crate) fn mark_named(tables: &mut Tables, space: SpaceNo, vpn: Vpn, written: bool)
+    ensures { IsMarked tables.old tables.new space vpn written }
+{
+    let name = Name::Mapping(space, vpn);
+    if tables.item(name).is_some() {
+        tables.update_row_named(name, |row| mark_row(row, written));
+    }
+}

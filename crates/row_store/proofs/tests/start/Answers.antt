@@ -1,6 +1,0 @@
-use Rattle.cache_ident.specs.declared.idents.Kind.TheVariants.{Mapping}
-use Rattle.kind_store.proofs.EnrolLemmas.{enrolled-none}
-use Rattle.row_store.proofs.tests.start.Goals as goal
-
-pub returns : goal.returns
-returns c = rw (c.in_ok-store.ensures, c.new-roll.ensures) (enrolled-none Mapping c.args.cap)

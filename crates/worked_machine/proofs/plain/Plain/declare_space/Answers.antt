@@ -1,0 +1,17 @@
+use Rattle.std.proofs.Common.{◌≡◌, None, refl, sym, subst}
+use Rattle.flat_state.specs.declared.events.Decl.TheVariants as decls
+use Rattle.flat_state.specs.State.{FlatState}
+use Rattle.flat_state.specs.Declaration.{broken_rule, declared}
+use Rattle.worked_machine.specs.contracts.plain.Plain.{the_view}
+use Rattle.flat_machine.proofs.DeclareSound.{space_sound}
+use Rattle.worked_machine.proofs.plain.Plain.declare_space.Goals as goal
+
+pub invariant_of-self-2 : goal.invariant_of-self-2
+unfolding declared
+invariant_of-self-2 c =
+    let e = subst (λ (s : FlatState). broken_rule s (decls.Space c.args.no c.args.kernel) ≡ None) (sym c.self.view_is) c.requires in
+    rw c.in_ok-push.ensures.items (space_sound (the_view c.self.inside) _ c.self.invariant c.args.no c.args.kernel e)
+
+pub returns-clause-ok : goal.returns-clause-ok
+unfolding declared
+returns-clause-ok c = rw (c.in_ok-push.ensures.items, ← c.self.view_is) refl

@@ -1,0 +1,2 @@
+mod LoadedLemmas
+mod PlainLemmas
