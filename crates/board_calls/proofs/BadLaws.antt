@@ -37,21 +37,21 @@ use Rattle.flat_state.specs.WellFormed.{IsWellFormed}
 use Rattle.flat_state.proofs.Finding.{find-contains}
 use Rattle.flat_state.proofs.FormedParts.{breaks_none, other_rule, row_formed}
 use Rattle.flat_state.proofs.Places.{get-append, get-set_other, get-set_same}
-use Rattle.flat_events.specs.declared.asked.Asked.{Asked}
-use Rattle.flat_events.specs.declared.asked.Asked.TheVariants.{Nothing, Refused, Declares, Unmaps}
-use Rattle.flat_events.specs.Asked.{after_asked, CanBeDone}
+use Rattle.board_core.specs.flat_events.specs.declared.asked.Asked.{Asked}
+use Rattle.board_core.specs.flat_events.specs.declared.asked.Asked.TheVariants.{Nothing, Refused, Declares, Unmaps}
+use Rattle.board_core.specs.flat_events.specs.Asked.{after_asked, CanBeDone}
 use Rattle.flat_laws.proofs.EventKeeps.{event_keeps, Keeps}
 use Rattle.flat_laws.proofs.Members.{Contains-filter}
 use Rattle.flat_laws.proofs.ParentLaws.{there_is}
 use Rattle.run_journal.specs.Legal.{AreGood, StaysGood}
 use Rattle.run_journal.proofs.Others.{Contains-from_filter}
-use Rattle.desc_stores.specs.declared.items.Item.TheVariants as item
-use Rattle.desc_stores.specs.Contents.{item_as, residents_of, Contents}
-use Rattle.desc_stores.specs.Sound.{IsExactlyOne}
-use Rattle.store_residents.proofs.ResidentLemmas.{resident_kind}
-use Rattle.cached_machine.specs.Cached.{state_of, Cached}
-use Rattle.cached_machine.proofs.CompleteLaws.{row_gone}
-use Rattle.cached_machine.proofs.GoodLaws.{not_good}
+use Rattle.board_core.specs.desc_stores.specs.declared.items.Item.TheVariants as item
+use Rattle.board_core.specs.desc_stores.specs.Contents.{item_as, residents_of, Contents}
+use Rattle.board_core.specs.desc_stores.specs.Sound.{IsExactlyOne}
+use Rattle.board_core.specs.store_residents.proofs.ResidentLemmas.{resident_kind}
+use Rattle.board_core.specs.cached_machine.specs.Cached.{state_of, Cached}
+use Rattle.board_core.specs.cached_machine.proofs.CompleteLaws.{row_gone}
+use Rattle.board_core.specs.cached_machine.proofs.GoodLaws.{not_good}
 use Rattle.board_calls.specs.declared.leaving.Grant.{Grant}
 use Rattle.board_calls.specs.Leaving.{after_grant, goes_so, is_absent, lacks_rows, AreBad, GoesFor, GoesForDecl, IsBadAs, IsRowGoing, LacksOne}
 use Rattle.board_calls.proofs.GoodLaws.{found, no_row, on_signal, row_class, row_depends, row_fits, signals_resident, stays_good, IsGood}

@@ -32,13 +32,13 @@ use Rattle.run_journal.specs.declared.entries.Entry.{Entry}
 use Rattle.run_journal.specs.Groups.{IsGroup}
 use Rattle.run_journal.specs.Legal.{AreGood}
 use Rattle.run_journal.proofs.Others.{other_ident}
-use Rattle.journal_laws.specs.Leaving.{HaveOneEach}
-use Rattle.group_laws.specs.Leaving.{without_all, AreAgreed}
-use Rattle.group_laws.proofs.FromBelow.{group_leaves}
-use Rattle.group_laws.proofs.Remaining.{stays_without_all, without_all_cases, without_all-push}
-use Rattle.group_laws.proofs.StayingOne.{one_all_left}
-use Rattle.desc_groups.proofs.LeaveLemmas.{ident_of, idents_more, idents_to, one_less, splits}
-use Rattle.board_laws.proofs.Departing.{group_idents}
+use Rattle.board_core.specs.journal_laws.specs.Leaving.{HaveOneEach}
+use Rattle.board_core.specs.group_laws.specs.Leaving.{without_all, AreAgreed}
+use Rattle.board_core.specs.group_laws.proofs.FromBelow.{group_leaves}
+use Rattle.board_core.specs.group_laws.proofs.Remaining.{stays_without_all, without_all_cases, without_all-push}
+use Rattle.board_core.specs.group_laws.proofs.StayingOne.{one_all_left}
+use Rattle.board_core.specs.desc_groups.proofs.LeaveLemmas.{ident_of, idents_more, idents_to, one_less, splits}
+use Rattle.board_core.specs.board_laws.proofs.Departing.{group_idents}
 use Rattle.board_calls.specs.Departures.{LeaveInTurn, LeavesIfThere}
 use Rattle.board_calls.specs.Leaving.{AreBad}
 use Rattle.board_calls.proofs.GoodLaws.{on_each, row_class, row_fits, row_found}

@@ -10,8 +10,8 @@ use Rattle.std.proofs.lemmas.List.Elements.{Contains-append_left, Contains-push,
 use Rattle.cache_ident.specs.declared.idents.Ident.{Ident}
 use Rattle.flat_laws.proofs.Members.{Contains-behind, Contains-cases, Contains-here, contains_nothing}
 use Rattle.cache_ident.specs.declared.names.Frame.{Frame}
-use Rattle.desc_stores.specs.Contents.{residents_of}
-use Rattle.cached_machine.specs.Cached.{state_of, Cached}
+use Rattle.board_core.specs.desc_stores.specs.Contents.{residents_of}
+use Rattle.board_core.specs.cached_machine.specs.Cached.{state_of, Cached}
 use Rattle.board_calls.specs.declared.leaving.Grant.{Grant}
 use Rattle.board_calls.specs.Leaving.{after_grant, goes_so, lacks_rows, AddsThose, IsRowAs, IsRowGoing, IsRowInGroup}
 

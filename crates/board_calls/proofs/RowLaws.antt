@@ -31,22 +31,22 @@ use Rattle.flat_state.proofs.Finding.{find-contains}
 use Rattle.flat_laws.proofs.Members.{Contains-filter}
 use Rattle.flat_laws.proofs.StepSame.{IsSameBut}
 use Rattle.run_journal.specs.Legal.{AreGood}
-use Rattle.desc_stores.specs.declared.items.Item.{Item}
-use Rattle.desc_stores.specs.declared.items.Item.TheVariants as item
-use Rattle.desc_stores.specs.Contents.{content_of, item_as, item_in, resident_as, resident_in, resident_of, residents_of, Contents}
-use Rattle.desc_stores.specs.Items.{name_of}
-use Rattle.desc_stores.specs.Sound.{IsExactlyOne}
-use Rattle.desc_stores.proofs.KindLemmas.{own_ident}
-use Rattle.shown_state.specs.Shown.{row_of_item, shown}
-use Rattle.shown_state.proofs.LookupLemmas.{found_row}
-use Rattle.store_residents.specs.Frames.{IsResidentOn}
-use Rattle.store_residents.proofs.ContentLemmas.{resident_item}
-use Rattle.store_residents.proofs.ResidentLemmas.{loaded_resident, one_each}
-use Rattle.desc_groups.proofs.OwnerLemmas.{name_of_loaded}
-use Rattle.desc_parents.specs.Idents.{ident_of}
-use Rattle.desc_parents.specs.Seen.{seen}
-use Rattle.desc_parents.proofs.IdentLemmas.{ident_back, ident_found, ident_none}
-use Rattle.cached_machine.proofs.GoodLaws.{good_before}
+use Rattle.board_core.specs.desc_stores.specs.declared.items.Item.{Item}
+use Rattle.board_core.specs.desc_stores.specs.declared.items.Item.TheVariants as item
+use Rattle.board_core.specs.desc_stores.specs.Contents.{content_of, item_as, item_in, resident_as, resident_in, resident_of, residents_of, Contents}
+use Rattle.board_core.specs.desc_stores.specs.Items.{name_of}
+use Rattle.board_core.specs.desc_stores.specs.Sound.{IsExactlyOne}
+use Rattle.board_core.specs.desc_stores.proofs.KindLemmas.{own_ident}
+use Rattle.board_core.specs.shown_state.specs.Shown.{row_of_item, shown}
+use Rattle.board_core.specs.shown_state.proofs.LookupLemmas.{found_row}
+use Rattle.board_core.specs.store_residents.specs.Frames.{IsResidentOn}
+use Rattle.board_core.specs.store_residents.proofs.ContentLemmas.{resident_item}
+use Rattle.board_core.specs.store_residents.proofs.ResidentLemmas.{loaded_resident, one_each}
+use Rattle.board_core.specs.desc_groups.proofs.OwnerLemmas.{name_of_loaded}
+use Rattle.board_core.specs.desc_parents.specs.Idents.{ident_of}
+use Rattle.board_core.specs.desc_parents.specs.Seen.{seen}
+use Rattle.board_core.specs.desc_parents.proofs.IdentLemmas.{ident_back, ident_found, ident_none}
+use Rattle.board_core.specs.cached_machine.proofs.GoodLaws.{good_before}
 use Rattle.board_calls.specs.Leaving.{is_absent, passes, IsRowAs}
 use Rattle.board_calls.proofs.LoopLaws.{IsOf}
 

@@ -14,19 +14,19 @@ use Rattle.run_journal.specs.declared.entries.Entry.{Entry}
 use Rattle.run_journal.specs.Entries.{erase}
 use Rattle.run_journal.proofs.Growth.{after_events-append, erase-append}
 use Rattle.kind_store.specs.Changes.{is_name}
-use Rattle.desc_stores.specs.Contents.{residents_of, Contents}
-use Rattle.shown_state.specs.Shown.{shown}
-use Rattle.shown_state.proofs.LookupLemmas.{one_row_a_page}
-use Rattle.store_residents.proofs.ResidentLemmas.{one_each}
-use Rattle.group_laws.proofs.Remaining.{without_all_cases}
-use Rattle.desc_groups.specs.declared.departures.Gone.{Gone}
-use Rattle.desc_groups.specs.Moves.{idents_of}
-use Rattle.desc_groups.specs.Whole.{IsWhole}
-use Rattle.desc_parents.specs.Seen.{seen}
-use Rattle.board_laws.specs.Moves.{written_back, IsUnload}
-use Rattle.cached_machine.specs.Cached.{is_loaded, state_of, Cached}
-use Rattle.cached_machine.specs.Posts.{mark_of, HasLoadedMarks, HasSameMarks}
-use Rattle.cached_machine.proofs.LoadedLaws.{was_loaded, ComesFrom}
+use Rattle.board_core.specs.desc_stores.specs.Contents.{residents_of, Contents}
+use Rattle.board_core.specs.shown_state.specs.Shown.{shown}
+use Rattle.board_core.specs.shown_state.proofs.LookupLemmas.{one_row_a_page}
+use Rattle.board_core.specs.store_residents.proofs.ResidentLemmas.{one_each}
+use Rattle.board_core.specs.group_laws.proofs.Remaining.{without_all_cases}
+use Rattle.board_core.specs.desc_groups.specs.declared.departures.Gone.{Gone}
+use Rattle.board_core.specs.desc_groups.specs.Moves.{idents_of}
+use Rattle.board_core.specs.desc_groups.specs.Whole.{IsWhole}
+use Rattle.board_core.specs.desc_parents.specs.Seen.{seen}
+use Rattle.board_core.specs.board_laws.specs.Moves.{written_back, IsUnload}
+use Rattle.board_core.specs.cached_machine.specs.Cached.{is_loaded, state_of, Cached}
+use Rattle.board_core.specs.cached_machine.specs.Posts.{mark_of, HasLoadedMarks, HasSameMarks}
+use Rattle.board_core.specs.cached_machine.proofs.LoadedLaws.{was_loaded, ComesFrom}
 use Rattle.board_core.specs.Core.{contents_of, Recorded}
 use Rattle.board_core.specs.Growth.{GrowsBy, OnlyMakesRoom}
 use Rattle.board_calls.specs.Departures.{AreDepartures, HasLeftIf, HaveLeft, KeepsRoom, LeaveInTurn, LeavesIfThere}

@@ -14,12 +14,12 @@ use Rattle.flat_state.specs.Events.{applied}
 use Rattle.run_journal.specs.declared.entries.Entry.{Entry}
 use Rattle.run_journal.specs.declared.entries.Entry.TheVariants as entry
 use Rattle.run_journal.specs.Legal.{first_ident}
-use Rattle.desc_stores.specs.Contents.{residents_of}
-use Rattle.desc_parents.specs.Seen.{seen}
-use Rattle.board_ops.specs.declared.refusals.Refused.{Refused}
-use Rattle.board_ops.specs.declared.refusals.Refused.TheVariants as why
-use Rattle.cached_machine.specs.Cached.{state_of}
-use Rattle.cached_machine.specs.Posts.{HasLoadedMarks, HasSameMarks}
+use Rattle.board_core.specs.desc_stores.specs.Contents.{residents_of}
+use Rattle.board_core.specs.desc_parents.specs.Seen.{seen}
+use Rattle.board_core.specs.board_ops.specs.declared.refusals.Refused.{Refused}
+use Rattle.board_core.specs.board_ops.specs.declared.refusals.Refused.TheVariants as why
+use Rattle.board_core.specs.cached_machine.specs.Cached.{state_of}
+use Rattle.board_core.specs.cached_machine.specs.Posts.{HasLoadedMarks, HasSameMarks}
 use Rattle.board_core.specs.Core.{contents_of, Recorded}
 use Rattle.board_core.specs.Growth.{GrowsBy, KeepsPlaces}
 use Rattle.board_calls.specs.Departures.{LeaveInTurn}

@@ -6,14 +6,14 @@ use Rattle.cache_ident.specs.Residents.{Resident, IsIdentResident}
 use Rattle.flat_state.specs.State.{FlatState}
 use Rattle.run_journal.specs.declared.entries.Entry.{Entry}
 use Rattle.run_journal.specs.Groups.{IsGroup}
-use Rattle.desc_stores.specs.Changes.{room_of}
-use Rattle.desc_stores.specs.Contents.{residents_of}
-use Rattle.group_laws.specs.Leaving.{without_all}
-use Rattle.desc_groups.specs.Moves.{gone_as}
-use Rattle.desc_parents.specs.Seen.{seen}
-use Rattle.board_laws.specs.Moves.{written_back}
-use Rattle.cached_machine.specs.Cached.{state_of}
-use Rattle.cached_machine.specs.Posts.{HasLoadedMarks}
+use Rattle.board_core.specs.desc_stores.specs.Changes.{room_of}
+use Rattle.board_core.specs.desc_stores.specs.Contents.{residents_of}
+use Rattle.board_core.specs.group_laws.specs.Leaving.{without_all}
+use Rattle.board_core.specs.desc_groups.specs.Moves.{gone_as}
+use Rattle.board_core.specs.desc_parents.specs.Seen.{seen}
+use Rattle.board_core.specs.board_laws.specs.Moves.{written_back}
+use Rattle.board_core.specs.cached_machine.specs.Cached.{state_of}
+use Rattle.board_core.specs.cached_machine.specs.Posts.{HasLoadedMarks}
 use Rattle.board_core.specs.Core.{contents_of, Recorded}
 use Rattle.board_core.specs.Growth.{count_loaded, GrowsBy}
 

@@ -19,14 +19,14 @@ use Rattle.flat_state.specs.Dependence.{Depends}
 use Rattle.flat_state.specs.Names.{class_of, is_fit_name, stands}
 use Rattle.flat_state.specs.State.{FlatState}
 use Rattle.flat_state.specs.Translation.{is_fit_row, rights_of}
-use Rattle.flat_events.specs.declared.asked.Asked.{Asked}
-use Rattle.flat_events.specs.declared.asked.Asked.TheVariants.{Nothing, Refused, Declares, Unmaps}
+use Rattle.board_core.specs.flat_events.specs.declared.asked.Asked.{Asked}
+use Rattle.board_core.specs.flat_events.specs.declared.asked.Asked.TheVariants.{Nothing, Refused, Declares, Unmaps}
 use Rattle.run_journal.specs.Legal.{StaysGood}
-use Rattle.desc_stores.specs.declared.items.Item.{Item}
-use Rattle.desc_stores.specs.declared.items.Item.TheVariants as item
-use Rattle.desc_stores.specs.Contents.{item_as, residents_of, Contents}
-use Rattle.desc_parents.specs.Idents.{ident_of}
-use Rattle.cached_machine.specs.Cached.{state_of, Cached}
+use Rattle.board_core.specs.desc_stores.specs.declared.items.Item.{Item}
+use Rattle.board_core.specs.desc_stores.specs.declared.items.Item.TheVariants as item
+use Rattle.board_core.specs.desc_stores.specs.Contents.{item_as, residents_of, Contents}
+use Rattle.board_core.specs.desc_parents.specs.Idents.{ident_of}
+use Rattle.board_core.specs.cached_machine.specs.Cached.{state_of, Cached}
 use Rattle.board_calls.specs.declared.leaving.Grant.{Grant}
 
 -- ---- what has to leave

@@ -1,12 +1,12 @@
 //! Declarations and the seal.
 
 ghost use Rattle.std.specs.Prelude.{◌≡◌, ◌≢◌, None, IfErr, IfOk, OnOk};
-ghost use Rattle.board_ops.specs.declared.refusals.Refused.TheVariants.{NoMemory};
+ghost use Rattle.board_core.specs.board_ops.specs.declared.refusals.Refused.TheVariants.{NoMemory};
 ghost use Rattle.board_core.specs.Answers.{HasSpare, IsRefused};
 ghost use Rattle.board_calls.specs.Calls.{refusal_of_declare, refusal_of_seal, IsDeclaring, IsSealing};
 
 use board_core::Core;
-use board_ops::Refused;
+use board_core::board_ops::Refused;
 use cache_ident::{Ident, KernelNo, Name};
 use flat_rules::{Records, admit};
 use flat_state::Decl;

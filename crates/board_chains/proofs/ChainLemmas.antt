@@ -19,8 +19,8 @@ use Rattle.flat_laws.proofs.ShortChains.{AreFew}
 use Rattle.flat_laws.proofs.StepChains.{chain_is_few}
 use Rattle.flat_laws.proofs.WholeChains.{chain_is_whole}
 use Rattle.run_journal.specs.Legal.{is_kind}
-use Rattle.store_residents.proofs.SlotLemmas.{kind_is}
-use Rattle.desc_admits.specs.May.{wanted_of}
+use Rattle.cached_machine.specs.store_residents.proofs.SlotLemmas.{kind_is}
+use Rattle.cached_machine.specs.desc_admits.specs.May.{wanted_of}
 use Rattle.board_chains.specs.Chains.{chain_at, chain_found, HasParents, IsClosed, IsFewByKind, IsPart, StartsWith}
 use Rattle.board_chains.specs.Lists.{has, with_also, AreApart}
 use Rattle.board_chains.proofs.ListLemmas.{also_apart, also_cases, apart_filter, apart_push, fits_in, has_not}

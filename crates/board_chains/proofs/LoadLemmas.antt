@@ -6,9 +6,9 @@ use Rattle.std.proofs.lemmas.List.Elements.{filter_map-append}
 use Rattle.cache_ident.specs.declared.idents.Ident.{Ident}
 use Rattle.cache_ident.specs.declared.names.Name.{Name}
 use Rattle.cache_ident.specs.Residents.{Resident, IsNameResident, IsResident}
-use Rattle.journal_laws.specs.Leaving.{HaveOneEach}
-use Rattle.desc_parents.specs.Idents.{ident_of, idents_of}
-use Rattle.desc_parents.proofs.IdentLemmas.{ident_found, ident_none}
+use Rattle.cached_machine.specs.journal_laws.specs.Leaving.{HaveOneEach}
+use Rattle.cached_machine.specs.desc_parents.specs.Idents.{ident_of, idents_of}
+use Rattle.cached_machine.specs.desc_parents.proofs.IdentLemmas.{ident_found, ident_none}
 
 module _ (rs : List Resident) (have : HaveOneEach rs) (names : List Name) (i : ℕ) (d : Name) (within : i < length names) where
   abbrev name : Name

@@ -1,9 +1,9 @@
 //! What of a list of names is loaded.
 
 ghost use Rattle.std.specs.Prelude.{◌≡◌, ◌≤◌, length};
-ghost use Rattle.desc_parents.specs.Idents.{idents_of};
-ghost use Rattle.desc_stores.specs.Contents.{residents_of};
-ghost use Rattle.desc_stores.specs.Sound.{IsExactlyOne};
+ghost use Rattle.cached_machine.specs.desc_parents.specs.Idents.{idents_of};
+ghost use Rattle.cached_machine.specs.desc_stores.specs.Contents.{residents_of};
+ghost use Rattle.cached_machine.specs.desc_stores.specs.Sound.{IsExactlyOne};
 
 use crate::names::MOST_CHAINED;
 use arrayvec::ArrayVec;

@@ -20,14 +20,14 @@ use Rattle.signal_pages.specs.Signals.{is_signal_row_of}
 use Rattle.flat_state.specs.Names.{is_fit_found}
 use Rattle.flat_state.specs.Translation.{is_fit_row}
 use Rattle.row_store.specs.Kept.{signal_names}
-use Rattle.desc_stores.specs.Contents.{content_of, residents_of, Contents}
-use Rattle.desc_stores.specs.Sound.{IsExactlyOne}
-use Rattle.shown_state.specs.Shown.{row_of_item}
-use Rattle.store_residents.proofs.ResidentLemmas.{one_each}
-use Rattle.desc_parents.specs.Idents.{ident_of}
-use Rattle.desc_parents.specs.Seen.{seen}
-use Rattle.desc_parents.proofs.IdentLemmas.{ident_found, ident_none}
-use Rattle.desc_parents.proofs.RowLemmas.{fit_in, fit_names}
+use Rattle.desc_tables.specs.desc_stores.specs.Contents.{content_of, residents_of, Contents}
+use Rattle.desc_tables.specs.desc_stores.specs.Sound.{IsExactlyOne}
+use Rattle.desc_tables.specs.shown_state.specs.Shown.{row_of_item}
+use Rattle.desc_tables.specs.store_residents.proofs.ResidentLemmas.{one_each}
+use Rattle.desc_tables.specs.desc_parents.specs.Idents.{ident_of}
+use Rattle.desc_tables.specs.desc_parents.specs.Seen.{seen}
+use Rattle.desc_tables.specs.desc_parents.proofs.IdentLemmas.{ident_found, ident_none}
+use Rattle.desc_tables.specs.desc_parents.proofs.RowLemmas.{fit_in, fit_names}
 use Rattle.board_ops.specs.declared.refusals.Refused.TheVariants as why
 use Rattle.board_checks.specs.Facts.{is_missing}
 use Rattle.board_checks.specs.Refusals.{beyond_rights, is_absent, receivers_absent}

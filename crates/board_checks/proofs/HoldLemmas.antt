@@ -18,13 +18,13 @@ use Rattle.flat_state.specs.Names.{stands}
 use Rattle.run_journal.specs.Legal.{limit_of, locked_by}
 use Rattle.kind_store.specs.Changes.{is_name}
 use Rattle.owner_shelf.proofs.NameLemmas.{eq_same}
-use Rattle.desc_stores.specs.declared.items.Item.TheVariants as item
-use Rattle.desc_stores.specs.Contents.{content_of, resident_as, residents_of, Contents, LockIs}
-use Rattle.shown_state.proofs.ContentLemmas.{item_has_name}
-use Rattle.store_residents.proofs.ResidentLemmas.{loaded_resident, resident_loaded}
-use Rattle.desc_parents.specs.Seen.{seen}
-use Rattle.desc_groups.specs.Moves.{MayBeLocked}
-use Rattle.desc_groups.proofs.OwnerLemmas.{kernel_there, limit_is, owner_stands}
+use Rattle.desc_tables.specs.desc_stores.specs.declared.items.Item.TheVariants as item
+use Rattle.desc_tables.specs.desc_stores.specs.Contents.{content_of, resident_as, residents_of, Contents, LockIs}
+use Rattle.desc_tables.specs.shown_state.proofs.ContentLemmas.{item_has_name}
+use Rattle.desc_tables.specs.store_residents.proofs.ResidentLemmas.{loaded_resident, resident_loaded}
+use Rattle.desc_tables.specs.desc_parents.specs.Seen.{seen}
+use Rattle.desc_tables.specs.desc_groups.specs.Moves.{MayBeLocked}
+use Rattle.desc_tables.specs.desc_groups.proofs.OwnerLemmas.{kernel_there, limit_is, owner_stands}
 use Rattle.desc_tables.specs.Tables.{AreSound, Held}
 use Rattle.board_ops.specs.declared.refusals.Refused.{Refused}
 use Rattle.board_ops.specs.declared.refusals.Refused.TheVariants as why

@@ -21,19 +21,19 @@ use Rattle.thread_cache.specs.declared.ThreadRec.{ThreadRec}
 use Rattle.thread_cache.specs.Threads as thread_rec
 use Rattle.kind_store.specs.Rolls.{loaded_as}
 use Rattle.run_journal.specs.Legal.{is_kind}
-use Rattle.desc_stores.specs.declared.items.Item.{Item}
-use Rattle.desc_stores.specs.declared.items.Item.TheVariants as item
-use Rattle.desc_stores.specs.declared.items.ItemRef.{ItemRef}
-use Rattle.desc_stores.specs.declared.items.ItemRef.TheVariants as ref
-use Rattle.desc_stores.specs.Contents.{item_as, item_in, resident_as, resident_in, resident_of, residents_of, Contents}
-use Rattle.desc_stores.specs.Items.{name_of, shown}
-use Rattle.desc_stores.specs.Sound.{IsExactlyOne}
-use Rattle.desc_stores.proofs.KindLemmas.{own_ident}
-use Rattle.shown_state.specs.Shown.{flat_thread, thread_of}
-use Rattle.store_residents.proofs.ContentLemmas.{loaded_item}
-use Rattle.store_residents.proofs.KindLemmas.{live_loaded, loaded_live}
-use Rattle.store_residents.proofs.ResidentLemmas.{loaded_resident}
-use Rattle.desc_groups.proofs.OwnerLemmas.{name_of_loaded}
+use Rattle.desc_tables.specs.desc_stores.specs.declared.items.Item.{Item}
+use Rattle.desc_tables.specs.desc_stores.specs.declared.items.Item.TheVariants as item
+use Rattle.desc_tables.specs.desc_stores.specs.declared.items.ItemRef.{ItemRef}
+use Rattle.desc_tables.specs.desc_stores.specs.declared.items.ItemRef.TheVariants as ref
+use Rattle.desc_tables.specs.desc_stores.specs.Contents.{item_as, item_in, resident_as, resident_in, resident_of, residents_of, Contents}
+use Rattle.desc_tables.specs.desc_stores.specs.Items.{name_of, shown}
+use Rattle.desc_tables.specs.desc_stores.specs.Sound.{IsExactlyOne}
+use Rattle.desc_tables.specs.desc_stores.proofs.KindLemmas.{own_ident}
+use Rattle.desc_tables.specs.shown_state.specs.Shown.{flat_thread, thread_of}
+use Rattle.desc_tables.specs.store_residents.proofs.ContentLemmas.{loaded_item}
+use Rattle.desc_tables.specs.store_residents.proofs.KindLemmas.{live_loaded, loaded_live}
+use Rattle.desc_tables.specs.store_residents.proofs.ResidentLemmas.{loaded_resident}
+use Rattle.desc_tables.specs.desc_groups.proofs.OwnerLemmas.{name_of_loaded}
 use Rattle.flat_state.specs.declared.records.FlatThread.{FlatThread}
 use Rattle.board_ops.specs.declared.refusals.Refused.TheVariants as why
 use Rattle.board_checks.specs.Refusals.{not_completable, not_trapped, wait_empty}

@@ -9,7 +9,7 @@ use Rattle.std.proofs.lemmas.List.Kept.{AllPairs-filter}
 use Rattle.std.proofs.lemmas.List.Quantifiers.{all_pairs_push}
 use Rattle.std.proofs.lemmas.List.Sums.{length-filter}
 use Rattle.flat_laws.proofs.Members.{Contains-behind, Contains-cases, Contains-filter, Contains-filter_map, Contains-here, contains_nothing, length-filter_map}
-use Rattle.group_laws.proofs.Remaining.{pairs_head, pairs_tail}
+use Rattle.desc_tables.specs.group_laws.proofs.Remaining.{pairs_head, pairs_tail}
 use Rattle.cache_ident.specs.declared.idents.Ident.{Ident}
 use Rattle.cache_ident.specs.declared.idents.Kind.{Kind}
 use Rattle.cache_ident.specs.declared.idents.Kind.TheVariants as kind
@@ -24,22 +24,22 @@ use Rattle.flat_laws.specs.Counts.{AtMost}
 use Rattle.flat_laws.proofs.FarParents.{far_is_there, name_is_few}
 use Rattle.flat_laws.proofs.ShortChains.{AreFew}
 use Rattle.run_journal.specs.Legal.{is_kind}
-use Rattle.resident_pairs.specs.Among.{AreParents}
-use Rattle.desc_stores.specs.declared.items.Item.{Item}
-use Rattle.desc_stores.specs.Contents.{item_as, residents_of, Contents}
-use Rattle.desc_stores.specs.Items.{name_of}
-use Rattle.desc_stores.specs.Sound.{IsExactlyOne}
-use Rattle.shown_state.specs.Shown.{shown}
-use Rattle.shown_state.proofs.DependenceLemmas.{same_parents}
-use Rattle.shown_state.proofs.ContentLemmas.{item_has_name}
-use Rattle.store_residents.proofs.ContentLemmas.{loaded_item, resident_item, shelved_iff}
-use Rattle.store_residents.proofs.ResidentLemmas.{one_each, resident_kind, resident_loaded}
-use Rattle.store_residents.proofs.SlotLemmas.{kind_is}
-use Rattle.desc_parents.specs.Idents.{ident_of, idents_of}
-use Rattle.desc_parents.specs.Seen.{seen}
-use Rattle.desc_parents.proofs.IdentLemmas.{ident_found, ident_none}
-use Rattle.desc_admits.specs.Admits.{KeepsParentsAs, KeepsParentsOf}
-use Rattle.desc_admits.specs.May.{kept_of, MayBeLoaded, wanted_of}
+use Rattle.desc_tables.specs.resident_pairs.specs.Among.{AreParents}
+use Rattle.desc_tables.specs.desc_stores.specs.declared.items.Item.{Item}
+use Rattle.desc_tables.specs.desc_stores.specs.Contents.{item_as, residents_of, Contents}
+use Rattle.desc_tables.specs.desc_stores.specs.Items.{name_of}
+use Rattle.desc_tables.specs.desc_stores.specs.Sound.{IsExactlyOne}
+use Rattle.desc_tables.specs.shown_state.specs.Shown.{shown}
+use Rattle.desc_tables.specs.shown_state.proofs.DependenceLemmas.{same_parents}
+use Rattle.desc_tables.specs.shown_state.proofs.ContentLemmas.{item_has_name}
+use Rattle.desc_tables.specs.store_residents.proofs.ContentLemmas.{loaded_item, resident_item, shelved_iff}
+use Rattle.desc_tables.specs.store_residents.proofs.ResidentLemmas.{one_each, resident_kind, resident_loaded}
+use Rattle.desc_tables.specs.store_residents.proofs.SlotLemmas.{kind_is}
+use Rattle.desc_tables.specs.desc_parents.specs.Idents.{ident_of, idents_of}
+use Rattle.desc_tables.specs.desc_parents.specs.Seen.{seen}
+use Rattle.desc_tables.specs.desc_parents.proofs.IdentLemmas.{ident_found, ident_none}
+use Rattle.desc_tables.specs.desc_admits.specs.Admits.{KeepsParentsAs, KeepsParentsOf}
+use Rattle.desc_tables.specs.desc_admits.specs.May.{kept_of, MayBeLoaded, wanted_of}
 use Rattle.board_checks.specs.Facts.{IsFormed, IsLoadable}
 use Rattle.board_checks.specs.Keeps.{HasAlso, IsAbove, IsKept, IsOrIsAbove, StartsWith}
 

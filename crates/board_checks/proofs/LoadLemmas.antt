@@ -27,18 +27,18 @@ use Rattle.flat_state.specs.Translation.{is_fit_row}
 use Rattle.run_journal.specs.Groups.{HasParents}
 use Rattle.kind_store.specs.Changes.{is_name}
 use Rattle.owner_shelf.proofs.NameLemmas.{same_by_eq}
-use Rattle.desc_stores.specs.declared.items.Item.{Item}
-use Rattle.desc_stores.specs.declared.items.Item.TheVariants as item
-use Rattle.desc_stores.specs.Contents.{item_as, residents_of, Contents, IsShelved}
-use Rattle.desc_stores.specs.Sound.{IsExactlyOne}
-use Rattle.shown_state.specs.Shown.{thread_of}
-use Rattle.shown_state.proofs.ContentLemmas.{row_has_name}
-use Rattle.shown_state.proofs.LookupLemmas.{found_row, name_stands}
-use Rattle.store_residents.proofs.ContentLemmas.{shelved_iff}
-use Rattle.store_residents.proofs.ResidentLemmas.{one_each}
-use Rattle.desc_parents.specs.Idents.{ident_of}
-use Rattle.desc_parents.specs.Seen.{seen}
-use Rattle.desc_parents.proofs.IdentLemmas.{ident_back, ident_found, ident_none}
+use Rattle.desc_tables.specs.desc_stores.specs.declared.items.Item.{Item}
+use Rattle.desc_tables.specs.desc_stores.specs.declared.items.Item.TheVariants as item
+use Rattle.desc_tables.specs.desc_stores.specs.Contents.{item_as, residents_of, Contents, IsShelved}
+use Rattle.desc_tables.specs.desc_stores.specs.Sound.{IsExactlyOne}
+use Rattle.desc_tables.specs.shown_state.specs.Shown.{thread_of}
+use Rattle.desc_tables.specs.shown_state.proofs.ContentLemmas.{row_has_name}
+use Rattle.desc_tables.specs.shown_state.proofs.LookupLemmas.{found_row, name_stands}
+use Rattle.desc_tables.specs.store_residents.proofs.ContentLemmas.{shelved_iff}
+use Rattle.desc_tables.specs.store_residents.proofs.ResidentLemmas.{one_each}
+use Rattle.desc_tables.specs.desc_parents.specs.Idents.{ident_of}
+use Rattle.desc_tables.specs.desc_parents.specs.Seen.{seen}
+use Rattle.desc_tables.specs.desc_parents.proofs.IdentLemmas.{ident_back, ident_found, ident_none}
 use Rattle.board_ops.specs.declared.refusals.Refused.{Refused}
 use Rattle.board_ops.specs.declared.refusals.Refused.TheVariants as why
 use Rattle.board_checks.specs.Facts.{IsLoadable}

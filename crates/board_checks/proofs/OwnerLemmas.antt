@@ -15,14 +15,14 @@ use Rattle.flat_state.specs.Dependence.{owner}
 use Rattle.flat_state.specs.Names.{stands}
 use Rattle.flat_state.specs.State.{FlatState}
 use Rattle.flat_state.specs.declared.records.FlatKernel.{FlatKernel}
-use Rattle.desc_stores.specs.declared.items.Item.TheVariants as item
-use Rattle.desc_stores.specs.declared.items.ItemRef.{ItemRef}
-use Rattle.desc_stores.specs.Contents.{content_of, item_as, Contents}
-use Rattle.desc_stores.specs.Items.{shown}
-use Rattle.desc_stores.specs.Sound.{IsExactlyOne}
-use Rattle.shown_state.proofs.ContentLemmas.{same_tests}
-use Rattle.shown_state.proofs.LookupLemmas.{name_stands}
-use Rattle.desc_parents.specs.Seen.{seen}
+use Rattle.desc_tables.specs.desc_stores.specs.declared.items.Item.TheVariants as item
+use Rattle.desc_tables.specs.desc_stores.specs.declared.items.ItemRef.{ItemRef}
+use Rattle.desc_tables.specs.desc_stores.specs.Contents.{content_of, item_as, Contents}
+use Rattle.desc_tables.specs.desc_stores.specs.Items.{shown}
+use Rattle.desc_tables.specs.desc_stores.specs.Sound.{IsExactlyOne}
+use Rattle.desc_tables.specs.shown_state.proofs.ContentLemmas.{same_tests}
+use Rattle.desc_tables.specs.shown_state.proofs.LookupLemmas.{name_stands}
+use Rattle.desc_tables.specs.desc_parents.specs.Seen.{seen}
 use Rattle.board_ops.specs.declared.refusals.Refused.TheVariants as why
 use Rattle.board_checks.specs.Refusals.{not_declared, not_owned, not_owner}
 use Rattle.board_checks.proofs.IdentifierLemmas.{kernel_is}

@@ -5,10 +5,10 @@ use Rattle.flat_state.specs.declared.events.Machine.{Machine}
 use Rattle.flat_state.specs.Names.{is_fit_found, is_fit_name}
 use Rattle.flat_state.specs.WellFormed.{IsWellFormed}
 use Rattle.run_journal.specs.Groups.{HasParents}
-use Rattle.desc_stores.specs.Contents.{content_of, residents_of, Contents, IsShelved}
-use Rattle.shown_state.specs.Shown.{row_of_item, shown}
-use Rattle.desc_parents.specs.Idents.{ident_of}
-use Rattle.desc_parents.specs.Seen.{seen}
+use Rattle.desc_tables.specs.desc_stores.specs.Contents.{content_of, residents_of, Contents, IsShelved}
+use Rattle.desc_tables.specs.shown_state.specs.Shown.{row_of_item, shown}
+use Rattle.desc_tables.specs.desc_parents.specs.Idents.{ident_of}
+use Rattle.desc_tables.specs.desc_parents.specs.Seen.{seen}
 
 -- a name may be loaded, but for what is kept: it stands on the shelf, is fit, and all that it depends on is loaded
 pub record IsLoadable (c : Contents) (name : Name) : Type 0 where

@@ -4,8 +4,8 @@ use Rattle.cache_ident.specs.declared.idents.Ident.{Ident}
 use Rattle.cache_ident.specs.declared.names.Name.{Name}
 use Rattle.cache_ident.specs.Residents.{Resident, IsNameResident}
 use Rattle.flat_state.specs.Dependence.{DependsFar}
-use Rattle.desc_stores.specs.Contents.{residents_of, Contents}
-use Rattle.desc_parents.specs.Seen.{seen}
+use Rattle.desc_tables.specs.desc_stores.specs.Contents.{residents_of, Contents}
+use Rattle.desc_tables.specs.desc_parents.specs.Seen.{seen}
 
 -- the identifier is that of something loaded that the name depends on, over any number of steps
 abbrev pub IsAbove : Contents → Name → Ident → Type 0

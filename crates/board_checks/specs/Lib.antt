@@ -1,3 +1,9 @@
+pub use Rattle.board_ops
+pub use Rattle.desc_tables.specs.desc_groups
+pub use Rattle.desc_tables.specs.desc_parents
+pub use Rattle.desc_tables.specs.desc_stores
+pub use Rattle.desc_tables
+pub use Rattle.desc_tables.specs.shown_state
 pub mod Identifiers
 pub mod Refusals
 pub mod Facts

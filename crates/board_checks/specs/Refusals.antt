@@ -23,9 +23,9 @@ use Rattle.flat_state.specs.State.{is_trapped}
 use Rattle.flat_state.specs.Translation.{is_fit_row}
 use Rattle.run_journal.specs.Legal.{limit_of, locked_by}
 use Rattle.kind_store.specs.Changes.{is_name}
-use Rattle.desc_stores.specs.Contents.{resident_as, residents_of, Contents}
-use Rattle.desc_parents.specs.Idents.{ident_of}
-use Rattle.desc_parents.specs.Seen.{seen}
+use Rattle.desc_tables.specs.desc_stores.specs.Contents.{resident_as, residents_of, Contents}
+use Rattle.desc_tables.specs.desc_parents.specs.Idents.{ident_of}
+use Rattle.desc_tables.specs.desc_parents.specs.Seen.{seen}
 use Rattle.board_ops.specs.declared.refusals.Refused.{Refused}
 use Rattle.board_ops.specs.declared.refusals.Refused.TheVariants as why
 use Rattle.board_checks.specs.Identifiers.{kernel_as, name_as, not_a, not_a_receiver, not_live, receiver_as, space_as, thread_as}

@@ -8,7 +8,7 @@ ghost use Rattle.phys_groups.specs.Rows.{row_name};
 ghost use Rattle.phys_groups.specs.Translation.{right_on};
 ghost use Rattle.signal_pages.specs.Signals.{is_signal_row_of};
 ghost use Rattle.flat_state.specs.Translation.{is_fit_row, rights_of};
-ghost use Rattle.desc_parents.specs.Seen.{seen};
+ghost use Rattle.desc_tables.specs.desc_parents.specs.Seen.{seen};
 ghost use Rattle.board_checks.specs.Refusals.{beyond_rights, is_absent, receivers_absent};
 ghost use Rattle.board_checks.specs.Facts.{is_missing as is_missing_in};
 

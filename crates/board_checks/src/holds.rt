@@ -8,12 +8,12 @@ ghost use Rattle.cache_ident.specs.declared.idents.Standing.TheVariants.{Live};
 ghost use Rattle.cache_ident.specs.Names.{first_name};
 ghost use Rattle.cache_ident.specs.Residents.{IsResident};
 ghost use Rattle.cache_ident.specs.Rolls.{standing_in};
-ghost use Rattle.desc_stores.specs.declared.items.Item.{Item};
-ghost use Rattle.desc_stores.specs.Contents.{content_of, residents_of};
+ghost use Rattle.desc_tables.specs.desc_stores.specs.declared.items.Item.{Item};
+ghost use Rattle.desc_tables.specs.desc_stores.specs.Contents.{content_of, residents_of};
 ghost use Rattle.cache_ident.specs.declared.names.Name.{Name};
 ghost use Rattle.flat_state.specs.Names.{stands};
-ghost use Rattle.desc_parents.specs.Seen.{seen};
-ghost use Rattle.desc_groups.specs.Moves.{MayBeLocked};
+ghost use Rattle.desc_tables.specs.desc_parents.specs.Seen.{seen};
+ghost use Rattle.desc_tables.specs.desc_groups.specs.Moves.{MayBeLocked};
 ghost use Rattle.board_checks.specs.Identifiers.{name_as, not_a, not_live};
 ghost use Rattle.board_checks.specs.Refusals.{at_limit, is_first_kernel, limit_reached, not_owned_as, refusal_of_lock, refusal_of_unload, refusal_of_unlock};
 

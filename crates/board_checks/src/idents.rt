@@ -5,9 +5,9 @@ ghost use Rattle.std.specs.Result.{result_err};
 ghost use Rattle.cache_ident.specs.declared.idents.Kind.TheVariants as kind;
 ghost use Rattle.cache_ident.specs.declared.idents.Standing.TheVariants.{Live};
 ghost use Rattle.cache_ident.specs.Rolls.{standing_in};
-ghost use Rattle.desc_stores.specs.Contents.{item_as};
-ghost use Rattle.desc_stores.specs.Items.{shown};
-ghost use Rattle.desc_stores.specs.declared.items.Item.{Item};
+ghost use Rattle.desc_tables.specs.desc_stores.specs.Contents.{item_as};
+ghost use Rattle.desc_tables.specs.desc_stores.specs.Items.{shown};
+ghost use Rattle.desc_tables.specs.desc_stores.specs.declared.items.Item.{Item};
 ghost use Rattle.board_checks.specs.Identifiers.{not_a, not_a_receiver, not_live, receiver_as as receiver_named};
 
 use crate::owners::is_sound;

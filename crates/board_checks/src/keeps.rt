@@ -2,8 +2,8 @@
 
 ghost use Rattle.std.specs.Prelude.{◌≡◌, ◌↔◌, ◌<◌, length, slice_get, Contains, IsTrue, Some};
 ghost use Rattle.cache_ident.specs.declared.names.Name.{Name};
-ghost use Rattle.desc_admits.specs.Admits.{KeepsParentsAs, KeepsParentsOf};
-ghost use Rattle.desc_admits.specs.May.{MayBeLoaded};
+ghost use Rattle.desc_tables.specs.desc_admits.specs.Admits.{KeepsParentsAs, KeepsParentsOf};
+ghost use Rattle.desc_tables.specs.desc_admits.specs.May.{MayBeLoaded};
 ghost use Rattle.board_checks.specs.Facts.{IsFormed, IsLoadable};
 ghost use Rattle.board_checks.specs.Keeps.{HasAlso, IsAboveSome, IsKept, IsKeptForSome, IsOrIsAbove, StartsWith};
 

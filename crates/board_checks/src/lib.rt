@@ -5,6 +5,9 @@
 //! tested elsewhere. No check takes memory, and each takes a time logarithmic in what is there.
 #![tactic(auto)]
 
+pub use board_ops as board_ops;
+pub use desc_tables as desc_tables;
+
 mod completions;
 mod fits;
 mod holds;

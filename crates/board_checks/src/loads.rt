@@ -5,7 +5,7 @@ ghost use Rattle.std.specs.Option.{option_map};
 ghost use Rattle.std.specs.Result.{result_err};
 ghost use Rattle.cache_ident.specs.declared.names.Name.{Name};
 ghost use Rattle.phys_groups.specs.Translation.{row_of};
-ghost use Rattle.desc_parents.specs.Seen.{seen};
+ghost use Rattle.desc_tables.specs.desc_parents.specs.Seen.{seen};
 ghost use Rattle.board_checks.specs.Facts.{IsLoadable};
 ghost use Rattle.board_checks.specs.Identifiers.{space_as as space_number};
 ghost use Rattle.board_checks.specs.Refusals.{already_loaded, not_declared, refusal_of_load_kernel, refusal_of_load_mapping, refusal_of_load_space, refusal_of_load_thread, wrong_parent};

@@ -7,7 +7,7 @@ ghost use Rattle.cache_ident.specs.declared.idents.Ident.{Ident};
 ghost use Rattle.cache_ident.specs.declared.names.Name.{Name};
 ghost use Rattle.depend_lists.specs.declared.nodes.Node.{Node};
 ghost use Rattle.flat_state.specs.Dependence.{owner as owner_in};
-ghost use Rattle.desc_parents.specs.Seen.{seen};
+ghost use Rattle.desc_tables.specs.desc_parents.specs.Seen.{seen};
 ghost use Rattle.desc_tables.specs.Tables.{AreSound};
 ghost use Rattle.board_checks.specs.Refusals.{not_owner};
 

@@ -13,21 +13,21 @@ use Rattle.rv32_exec.specs.declared.contexts.Context.{Context}
 use Rattle.flat_state.specs.declared.records.FlatThread.{FlatThread}
 use Rattle.flat_laws.proofs.Members.{Contains-filter}
 use Rattle.page_views.specs.Views.{View}
-use Rattle.quantum.specs.Ahead.{Ahead}
-use Rattle.quantum.specs.LocalRun.{touched_views, CouldRun, Shows}
+use Rattle.board_threads.specs.quantum.specs.Ahead.{Ahead}
+use Rattle.board_threads.specs.quantum.specs.LocalRun.{touched_views, CouldRun, Shows}
 use Rattle.thread_cache.specs.declared.ThreadRec.{ThreadRec}
-use Rattle.desc_stores.specs.declared.items.Item.TheVariants as item
-use Rattle.desc_stores.specs.Contents.{content_of, residents_of, Contents}
-use Rattle.desc_stores.specs.Sound.{IsExactlyOne}
-use Rattle.shown_state.specs.Shown.{flat_thread}
-use Rattle.shown_state.proofs.ContentLemmas.{same_tests}
-use Rattle.board_ops.specs.declared.refusals.Refused.{Refused}
-use Rattle.board_ops.specs.declared.refusals.Refused.TheVariants as why
-use Rattle.board_checks.specs.Identifiers.{not_live, thread_as}
-use Rattle.cached_machine.specs.Cached.{state_of}
-use Rattle.cached_machine.specs.Posts.{mark_of}
-use Rattle.board_core.specs.Core.{contents_of, IsSound, Recorded}
-use Rattle.board_core.specs.Growth.{AreInMemory, AreOfLoaded}
+use Rattle.board_threads.specs.desc_stores.specs.declared.items.Item.TheVariants as item
+use Rattle.board_threads.specs.desc_stores.specs.Contents.{content_of, residents_of, Contents}
+use Rattle.board_threads.specs.desc_stores.specs.Sound.{IsExactlyOne}
+use Rattle.board_threads.specs.shown_state.specs.Shown.{flat_thread}
+use Rattle.board_threads.specs.shown_state.proofs.ContentLemmas.{same_tests}
+use Rattle.board_threads.specs.board_ops.specs.declared.refusals.Refused.{Refused}
+use Rattle.board_threads.specs.board_ops.specs.declared.refusals.Refused.TheVariants as why
+use Rattle.board_threads.specs.board_checks.specs.Identifiers.{not_live, thread_as}
+use Rattle.board_threads.specs.cached_machine.specs.Cached.{state_of}
+use Rattle.board_threads.specs.cached_machine.specs.Posts.{mark_of}
+use Rattle.board_threads.specs.board_core.specs.Core.{contents_of, IsSound, Recorded}
+use Rattle.board_threads.specs.board_core.specs.Growth.{AreInMemory, AreOfLoaded}
 use Rattle.board_loads.proofs.WhyLaws.{by_each, by_either, live_tells, sealed_if, IsNoWant}
 use Rattle.board_threads.specs.declared.tickets.Ticket.{Ticket}
 use Rattle.board_commits.specs.Commits.{MayHappen}

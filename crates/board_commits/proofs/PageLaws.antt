@@ -9,15 +9,15 @@ use Rattle.phys_groups.specs.declared.rows.Row.{Row}
 use Rattle.phys_groups.specs.Memory.{page_at}
 use Rattle.phys_groups.specs.Translation.{row_of}
 use Rattle.page_views.specs.Views.{filled, View}
-use Rattle.quantum.specs.Ahead.{Ahead}
+use Rattle.board_threads.specs.quantum.specs.Ahead.{Ahead}
 use Rattle.thread_cache.specs.declared.ThreadRec.{ThreadRec}
-use Rattle.desc_stores.specs.declared.items.Item.TheVariants as item
-use Rattle.desc_stores.specs.Contents.{content_of, residents_of}
-use Rattle.desc_stores.specs.Sound.{IsExactlyOne}
-use Rattle.shown_state.specs.Shown.{flat_thread}
-use Rattle.board_checks.specs.Identifiers.{thread_as}
-use Rattle.cached_machine.specs.Cached.{state_of}
-use Rattle.board_core.specs.Core.{contents_of, IsSound, Recorded}
+use Rattle.board_threads.specs.desc_stores.specs.declared.items.Item.TheVariants as item
+use Rattle.board_threads.specs.desc_stores.specs.Contents.{content_of, residents_of}
+use Rattle.board_threads.specs.desc_stores.specs.Sound.{IsExactlyOne}
+use Rattle.board_threads.specs.shown_state.specs.Shown.{flat_thread}
+use Rattle.board_threads.specs.board_checks.specs.Identifiers.{thread_as}
+use Rattle.board_threads.specs.cached_machine.specs.Cached.{state_of}
+use Rattle.board_threads.specs.board_core.specs.Core.{contents_of, IsSound, Recorded}
 use Rattle.board_threads.specs.declared.tickets.Ticket.{Ticket}
 use Rattle.board_commits.specs.Commits.{IsPaged}
 use Rattle.board_commits.specs.Tickets.{AreOfTicket, IsOfTicket}

@@ -30,7 +30,7 @@ use Rattle.run_journal.specs.Told.{nothing_told, residents_after, residents_from
 use Rattle.run_journal.proofs.Growth.{legal-split, loads_after, residents_told, residents_told_from, state_after, state_from, told_from-append}
 use Rattle.run_journal.proofs.Others.{locked_keeps, other_ident, stays_without, without_cases}
 use Rattle.run_journal.proofs.Whole.{nothing_whole, whole_after, whole_from, IsWhole}
-use Rattle.store_residents.proofs.SlotLaws.{what_is_there}
+use Rattle.board_threads.specs.store_residents.proofs.SlotLaws.{what_is_there}
 use Rattle.board_commits.specs.Tickets.{state_at}
 
 -- ---- a descriptor at two moments

@@ -16,21 +16,21 @@ use Rattle.rv32_exec.specs.declared.contexts.Context.{Context}
 use Rattle.flat_state.specs.declared.records.FlatThread.{FlatThread}
 use Rattle.run_journal.specs.Legal.{is_kind}
 use Rattle.thread_cache.specs.declared.ThreadRec.{ThreadRec}
-use Rattle.desc_stores.specs.declared.items.Item.TheVariants as item
-use Rattle.desc_stores.specs.Contents.{content_of, item_as, resident_as, residents_of, Contents}
-use Rattle.desc_stores.specs.Sound.{IsExactlyOne}
-use Rattle.shown_state.specs.Shown.{flat_thread, thread_of}
-use Rattle.shown_state.proofs.ContentLemmas.{item_has_name}
-use Rattle.shown_state.proofs.LookupLemmas.{found_thread}
-use Rattle.store_residents.proofs.ContentLemmas.{loaded_item}
-use Rattle.store_residents.proofs.ResidentLemmas.{live_iff, resident_loaded}
-use Rattle.board_ops.specs.declared.refusals.Refused.{Refused}
-use Rattle.board_ops.specs.declared.refusals.Refused.TheVariants as why
-use Rattle.board_checks.specs.Identifiers.{gone_by, not_a, not_live, thread_as, wrong_kind}
-use Rattle.cached_machine.specs.Cached.{state_of}
-use Rattle.cached_machine.specs.Posts.{mark_in, mark_of}
-use Rattle.cached_machine.proofs.LoadedLaws.{loads, not_loaded}
-use Rattle.board_core.specs.Core.{contents_of, Recorded}
+use Rattle.board_threads.specs.desc_stores.specs.declared.items.Item.TheVariants as item
+use Rattle.board_threads.specs.desc_stores.specs.Contents.{content_of, item_as, resident_as, residents_of, Contents}
+use Rattle.board_threads.specs.desc_stores.specs.Sound.{IsExactlyOne}
+use Rattle.board_threads.specs.shown_state.specs.Shown.{flat_thread, thread_of}
+use Rattle.board_threads.specs.shown_state.proofs.ContentLemmas.{item_has_name}
+use Rattle.board_threads.specs.shown_state.proofs.LookupLemmas.{found_thread}
+use Rattle.board_threads.specs.store_residents.proofs.ContentLemmas.{loaded_item}
+use Rattle.board_threads.specs.store_residents.proofs.ResidentLemmas.{live_iff, resident_loaded}
+use Rattle.board_threads.specs.board_ops.specs.declared.refusals.Refused.{Refused}
+use Rattle.board_threads.specs.board_ops.specs.declared.refusals.Refused.TheVariants as why
+use Rattle.board_threads.specs.board_checks.specs.Identifiers.{gone_by, not_a, not_live, thread_as, wrong_kind}
+use Rattle.board_threads.specs.cached_machine.specs.Cached.{state_of}
+use Rattle.board_threads.specs.cached_machine.specs.Posts.{mark_in, mark_of}
+use Rattle.board_threads.specs.cached_machine.proofs.LoadedLaws.{loads, not_loaded}
+use Rattle.board_threads.specs.board_core.specs.Core.{contents_of, Recorded}
 use Rattle.board_commits.specs.Refusals.{absent, moved, moved_from}
 
 -- ---- the first of some tests

@@ -21,18 +21,18 @@ use Rattle.flat_state.specs.WellFormed.{IsWellFormed}
 use Rattle.flat_state.proofs.Finding.{find-contains}
 use Rattle.flat_state.proofs.Places.{get-append}
 use Rattle.page_views.specs.Views.{View}
-use Rattle.quantum.specs.LocalRun.{Shows}
+use Rattle.board_threads.specs.quantum.specs.LocalRun.{Shows}
 use Rattle.run_journal.specs.declared.entries.Entry.{Entry}
 use Rattle.run_journal.specs.declared.entries.Entry.TheVariants.{Loaded}
 use Rattle.run_journal.specs.Entries.{erase}
 use Rattle.run_journal.specs.Told.{nothing_told, told}
 use Rattle.run_journal.proofs.Whole.{nothing_whole, whole_from, IsWhole}
-use Rattle.desc_stores.specs.Contents.{residents_of}
-use Rattle.shown_state.specs.Shown.{shown}
-use Rattle.store_residents.proofs.SlotLaws.{what_is_there}
-use Rattle.board_laws.proofs.Growing.{formed_told}
-use Rattle.cached_machine.specs.Cached.{state_of, Cached}
-use Rattle.board_core.specs.Core.{contents_of, IsSound, Recorded}
+use Rattle.board_threads.specs.desc_stores.specs.Contents.{residents_of}
+use Rattle.board_threads.specs.shown_state.specs.Shown.{shown}
+use Rattle.board_threads.specs.store_residents.proofs.SlotLaws.{what_is_there}
+use Rattle.board_threads.specs.board_laws.proofs.Growing.{formed_told}
+use Rattle.board_threads.specs.cached_machine.specs.Cached.{state_of, Cached}
+use Rattle.board_threads.specs.board_core.specs.Core.{contents_of, IsSound, Recorded}
 use Rattle.board_commits.specs.Tickets.{state_at, AreOfTicket, IsCopiedIn, IsThreadIn}
 use Rattle.board_commits.proofs.SinceLaws.{still_as_loaded, was_loaded, IsKept, IsSameRow, IsSameThread}
 

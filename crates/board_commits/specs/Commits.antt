@@ -11,15 +11,15 @@ use Rattle.phys_groups.specs.Translation.{row_of}
 use Rattle.flat_state.specs.declared.records.FlatThread.{FlatThread}
 use Rattle.flat_rules.specs.Readings.{OfThread}
 use Rattle.page_views.specs.Views.{filled}
-use Rattle.quantum.specs.Ahead.{Ahead}
-use Rattle.quantum.specs.LocalRun.{touched_views, CouldRun}
-use Rattle.desc_stores.specs.Contents.{residents_of}
-use Rattle.board_laws.specs.Moves.{KeepsLoaded}
-use Rattle.cached_machine.specs.Cached.{state_of}
-use Rattle.cached_machine.specs.Posts.{but_at, last_of, mark_of}
-use Rattle.board_core.specs.Core.{contents_of, Recorded}
-use Rattle.board_core.specs.Growth.{entries_of_run, AreOfLoaded, GrowsBy}
-use Rattle.board_checks.specs.Identifiers.{thread_as}
+use Rattle.board_threads.specs.quantum.specs.Ahead.{Ahead}
+use Rattle.board_threads.specs.quantum.specs.LocalRun.{touched_views, CouldRun}
+use Rattle.board_threads.specs.desc_stores.specs.Contents.{residents_of}
+use Rattle.board_threads.specs.board_laws.specs.Moves.{KeepsLoaded}
+use Rattle.board_threads.specs.cached_machine.specs.Cached.{state_of}
+use Rattle.board_threads.specs.cached_machine.specs.Posts.{but_at, last_of, mark_of}
+use Rattle.board_threads.specs.board_core.specs.Core.{contents_of, Recorded}
+use Rattle.board_threads.specs.board_core.specs.Growth.{entries_of_run, AreOfLoaded, GrowsBy}
+use Rattle.board_threads.specs.board_checks.specs.Identifiers.{thread_as}
 use Rattle.board_threads.specs.declared.tickets.Ticket.{Ticket}
 
 -- the quantum has one view more, which is a copy of the loaded row of the page in the space of the ticket's thread

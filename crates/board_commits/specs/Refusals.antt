@@ -7,14 +7,14 @@ use Rattle.phys_groups.specs.Memory.{page_at}
 use Rattle.rv32_exec.specs.declared.contexts.Context.{Context}
 use Rattle.flat_state.specs.declared.records.FlatThread.{FlatThread}
 use Rattle.page_views.specs.Views.{View}
-use Rattle.quantum.specs.Ahead.{Ahead}
-use Rattle.desc_stores.specs.Contents.{Contents}
-use Rattle.board_ops.specs.declared.refusals.Refused.{Refused}
-use Rattle.board_ops.specs.declared.refusals.Refused.TheVariants as why
-use Rattle.board_checks.specs.Identifiers.{not_live, thread_as}
-use Rattle.cached_machine.specs.Cached.{is_loaded}
-use Rattle.cached_machine.specs.Posts.{mark_of}
-use Rattle.board_core.specs.Core.{contents_of, Recorded}
+use Rattle.board_threads.specs.quantum.specs.Ahead.{Ahead}
+use Rattle.board_threads.specs.desc_stores.specs.Contents.{Contents}
+use Rattle.board_threads.specs.board_ops.specs.declared.refusals.Refused.{Refused}
+use Rattle.board_threads.specs.board_ops.specs.declared.refusals.Refused.TheVariants as why
+use Rattle.board_threads.specs.board_checks.specs.Identifiers.{not_live, thread_as}
+use Rattle.board_threads.specs.cached_machine.specs.Cached.{is_loaded}
+use Rattle.board_threads.specs.cached_machine.specs.Posts.{mark_of}
+use Rattle.board_threads.specs.board_core.specs.Core.{contents_of, Recorded}
 use Rattle.board_threads.specs.declared.tickets.Ticket.{Ticket}
 use Rattle.board_threads.specs.Refusals.{over}
 

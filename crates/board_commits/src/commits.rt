@@ -2,26 +2,26 @@
 
 ghost use Rattle.std.specs.Prelude.{◌≡◌, ◌≢◌, None, IfErr, IfOk, OnOk};
 ghost use Rattle.std.specs.Result.{result_err};
-ghost use Rattle.board_core.specs.Growth.{AreInMemory};
+ghost use Rattle.board_threads.specs.board_core.specs.Growth.{AreInMemory};
 ghost use Rattle.phys_groups.specs.Memory.{HasFrame};
-ghost use Rattle.board_ops.specs.declared.refusals.Refused.TheVariants.{NoMemory};
-ghost use Rattle.board_core.specs.Answers.{HasSpare, IsRefused};
-ghost use Rattle.board_core.specs.Core.{contents_of};
+ghost use Rattle.board_threads.specs.board_ops.specs.declared.refusals.Refused.TheVariants.{NoMemory};
+ghost use Rattle.board_threads.specs.board_core.specs.Answers.{HasSpare, IsRefused};
+ghost use Rattle.board_threads.specs.board_core.specs.Core.{contents_of};
 ghost use Rattle.board_commits.specs.Commits.{IsCommitted, MayHappen};
 ghost use Rattle.board_commits.specs.Refusals.{changed, is_changed as is_changed_def, is_gone as is_gone_def, is_in_place as is_in_place_def, moved_from, not_loaded, refusal_of_commit};
 ghost use Rattle.board_commits.specs.Tickets.{AreOfTicket};
 
 use crate::known::tables_of;
 use crate::pages::thread_of;
-use board_checks::live;
-use board_core::Core;
-use board_ops::Refused;
+use board_threads::board_checks::live;
+use board_threads::board_core::Core;
+use board_threads::board_ops::Refused;
+use board_threads::desc_tables::Tables;
+use board_threads::quantum::{PageView, Quantum};
 use board_threads::{Ticket, check_steps};
 use cache_ident::ThreadNo;
-use desc_tables::Tables;
 use flat_rules::Records;
 use phys_groups::Memory;
-use quantum::{PageView, Quantum};
 use thread_cache::ThreadRec;
 
 /// Makes the steps of a quantum happen, as steps of the ticket's thread on the machine as it is now, and gives the thread back. It

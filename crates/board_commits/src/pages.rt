@@ -4,24 +4,24 @@ ghost use Rattle.std.specs.Prelude.{◌≡◌, Some, IfOk, IsTrue, OnErr, OnOk};
 ghost use Rattle.std.specs.Result.{result_err};
 ghost use Rattle.cache_ident.specs.declared.names.Name.{Name};
 ghost use Rattle.cache_ident.specs.Residents.{IsResident};
-ghost use Rattle.desc_stores.specs.declared.items.Item.{Item};
-ghost use Rattle.desc_stores.specs.Contents.{content_of, residents_of};
-ghost use Rattle.shown_state.specs.Shown.{flat_thread};
+ghost use Rattle.board_threads.specs.desc_stores.specs.declared.items.Item.{Item};
+ghost use Rattle.board_threads.specs.desc_stores.specs.Contents.{content_of, residents_of};
+ghost use Rattle.board_threads.specs.shown_state.specs.Shown.{flat_thread};
 ghost use Rattle.page_views.specs.Views.{can_fill};
-ghost use Rattle.board_checks.specs.Identifiers.{not_live, thread_as};
-ghost use Rattle.board_core.specs.Core.{contents_of};
+ghost use Rattle.board_threads.specs.board_checks.specs.Identifiers.{not_live, thread_as};
+ghost use Rattle.board_threads.specs.board_core.specs.Core.{contents_of};
 ghost use Rattle.board_commits.specs.Commits.{IsPaged};
 ghost use Rattle.board_commits.specs.Refusals.{refusal_of_page};
 ghost use Rattle.board_commits.specs.Tickets.{AreOfTicket};
 
 use crate::known::tables_of;
-use board_checks::thread_as;
-use board_core::Core;
-use board_ops::Refused;
 use board_threads::Ticket;
+use board_threads::board_checks::thread_as;
+use board_threads::board_core::Core;
+use board_threads::board_ops::Refused;
+use board_threads::quantum::Quantum;
 use cache_ident::{Name, Vpn};
 use flat_rules::Records;
-use quantum::Quantum;
 use thread_cache::ThreadRec;
 
 /// Copies the page of a loaded row of the ticket's thread into a quantum that has room for it, whatever the row's flags.

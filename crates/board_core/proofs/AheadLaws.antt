@@ -10,14 +10,14 @@ use Rattle.flat_state.specs.declared.events.Event.TheVariants.{Step}
 use Rattle.flat_state.specs.declared.events.Machine.{Machine}
 use Rattle.flat_state.specs.declared.records.FlatThread.{FlatThread}
 use Rattle.flat_state.specs.State.{FlatState}
-use Rattle.quantum.specs.Ahead.{Ahead}
-use Rattle.quantum.specs.LocalRun.{committed, status_by, touched_views, CouldRun, IsLocalRun}
+use Rattle.cached_machine.specs.quantum.specs.Ahead.{Ahead}
+use Rattle.cached_machine.specs.quantum.specs.LocalRun.{committed, status_by, touched_views, CouldRun, IsLocalRun}
 use Rattle.run_journal.specs.declared.entries.Entry.TheVariants.{Ran}
 use Rattle.run_journal.specs.Entries.{is_step, steps_in, Written}
-use Rattle.desc_stores.specs.Contents.{residents_of}
-use Rattle.shown_state.specs.Shown.{shown}
-use Rattle.board_laws.specs.Telling.{AreAsTold}
-use Rattle.board_laws.proofs.Quanta.{quantum_told}
+use Rattle.cached_machine.specs.desc_stores.specs.Contents.{residents_of}
+use Rattle.cached_machine.specs.shown_state.specs.Shown.{shown}
+use Rattle.cached_machine.specs.board_laws.specs.Telling.{AreAsTold}
+use Rattle.cached_machine.specs.board_laws.proofs.Quanta.{quantum_told}
 use Rattle.cached_machine.specs.Aside.{aside_of, Aside}
 use Rattle.cached_machine.specs.Cached.{state_of, Cached}
 use Rattle.cached_machine.specs.Posts.{mark_of, OnlyPosts}

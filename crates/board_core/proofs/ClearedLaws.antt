@@ -21,8 +21,8 @@ use Rattle.flat_laws.specs.Marks.{is_through, marked_by}
 use Rattle.flat_laws.proofs.Members.{find-map, Contains-map}
 use Rattle.flat_laws.proofs.RowMarks.{fault_marks_nothing, step_marks}
 use Rattle.page_views.specs.Views.{View}
-use Rattle.quantum.specs.Ahead.{Ahead}
-use Rattle.quantum.specs.LocalRun.{committed, state_after, status_by, with_marks_of, with_view_marks, CouldRun, IsLocalRun}
+use Rattle.cached_machine.specs.quantum.specs.Ahead.{Ahead}
+use Rattle.cached_machine.specs.quantum.specs.LocalRun.{committed, state_after, status_by, with_marks_of, with_view_marks, CouldRun, IsLocalRun}
 
 -- what was stored to was used
 pub record AreUsed (rows : List Row) : Type 0 where

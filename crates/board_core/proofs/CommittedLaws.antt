@@ -20,10 +20,10 @@ use Rattle.rv32_exec.specs.declared.statuses.Status.{Status}
 use Rattle.flat_state.proofs.Finding.{find-contains}
 use Rattle.flat_state.proofs.Places.{Contains-from_get}
 use Rattle.flat_laws.proofs.Members.{map-agree, Contains-behind, Contains-here}
-use Rattle.group_laws.proofs.Remaining.{pairs_head, pairs_tail}
+use Rattle.cached_machine.specs.group_laws.proofs.Remaining.{pairs_head, pairs_tail}
 use Rattle.page_views.specs.Views.{View, HaveOneViewAPage}
-use Rattle.quantum.specs.Ahead.{Ahead}
-use Rattle.quantum.specs.LocalRun.{committed, status_by, touched_views, with_marks_of, with_view_marks, with_views, CouldRun, IsLocalRun}
+use Rattle.cached_machine.specs.quantum.specs.Ahead.{Ahead}
+use Rattle.cached_machine.specs.quantum.specs.LocalRun.{committed, status_by, touched_views, with_marks_of, with_view_marks, with_views, CouldRun, IsLocalRun}
 use Rattle.cached_machine.specs.Cached.{state_of, Cached}
 use Rattle.board_core.specs.Growth.{with_all_views, with_view, AreInMemory}
 use Rattle.board_core.proofs.OpeningLaws.{memory_shown}

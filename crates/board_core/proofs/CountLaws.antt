@@ -13,21 +13,21 @@ use Rattle.cache_ident.specs.Rolls.{standing_in}
 use Rattle.depend_lists.specs.declared.nodes.Node.{Node}
 use Rattle.flat_state.proofs.Places.{count_by-cons}
 use Rattle.run_journal.specs.Groups.{IsGroup}
-use Rattle.group_laws.specs.Leaving.{without_all, AreApart}
-use Rattle.group_laws.proofs.Counting.{count-without}
-use Rattle.group_laws.proofs.FromBelow.{group_leaves}
-use Rattle.group_laws.proofs.Remaining.{without_all-push}
-use Rattle.group_laws.proofs.StayingOne.{apart_all_left}
-use Rattle.desc_stores.specs.Contents.{residents_of, Contents}
-use Rattle.shown_state.proofs.LookupLemmas.{one_row_a_page}
-use Rattle.store_residents.proofs.ResidentLemmas.{live_iff, one_each}
-use Rattle.desc_parents.specs.Seen.{seen}
-use Rattle.desc_groups.specs.declared.departures.Gone.{Gone}
-use Rattle.desc_groups.specs.Moves.{idents_of}
-use Rattle.desc_groups.specs.Whole.{AreWhole}
-use Rattle.desc_groups.proofs.LeaveLemmas.{ident_of, idents_more, idents_to, splits}
-use Rattle.desc_groups.proofs.LockLemmas.{residents_apart}
-use Rattle.board_laws.specs.Moves.{IsLoad, IsLock, IsUnload}
+use Rattle.cached_machine.specs.group_laws.specs.Leaving.{without_all, AreApart}
+use Rattle.cached_machine.specs.group_laws.proofs.Counting.{count-without}
+use Rattle.cached_machine.specs.group_laws.proofs.FromBelow.{group_leaves}
+use Rattle.cached_machine.specs.group_laws.proofs.Remaining.{without_all-push}
+use Rattle.cached_machine.specs.group_laws.proofs.StayingOne.{apart_all_left}
+use Rattle.cached_machine.specs.desc_stores.specs.Contents.{residents_of, Contents}
+use Rattle.cached_machine.specs.shown_state.proofs.LookupLemmas.{one_row_a_page}
+use Rattle.cached_machine.specs.store_residents.proofs.ResidentLemmas.{live_iff, one_each}
+use Rattle.cached_machine.specs.desc_parents.specs.Seen.{seen}
+use Rattle.cached_machine.specs.desc_groups.specs.declared.departures.Gone.{Gone}
+use Rattle.cached_machine.specs.desc_groups.specs.Moves.{idents_of}
+use Rattle.cached_machine.specs.desc_groups.specs.Whole.{AreWhole}
+use Rattle.cached_machine.specs.desc_groups.proofs.LeaveLemmas.{ident_of, idents_more, idents_to, splits}
+use Rattle.cached_machine.specs.desc_groups.proofs.LockLemmas.{residents_apart}
+use Rattle.cached_machine.specs.board_laws.specs.Moves.{IsLoad, IsLock, IsUnload}
 
 -- ---- a group
 

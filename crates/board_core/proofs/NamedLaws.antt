@@ -4,7 +4,7 @@ use Rattle.std.specs.Prelude.{if◌then◌else◌}
 use Rattle.cache_ident.specs.declared.names.Name.TheVariants as name
 use Rattle.cache_ident.specs.declared.names.ThreadNo.{ThreadNo}
 use Rattle.cache_ident.specs.Residents.{IsNameResident}
-use Rattle.desc_stores.specs.Contents.{content_of, residents_of, Contents}
+use Rattle.cached_machine.specs.desc_stores.specs.Contents.{content_of, residents_of, Contents}
 use Rattle.cached_machine.specs.Cached.{is_loaded}
 use Rattle.cached_machine.proofs.LoadedLaws.{not_loaded}
 use Rattle.cached_machine.specs.Posts.{mark_in, mark_of, HasLoadedMarks}

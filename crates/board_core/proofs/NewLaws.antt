@@ -16,17 +16,17 @@ use Rattle.flat_laws.proofs.Members.{contains_nothing}
 use Rattle.run_journal.specs.declared.entries.Entry.{Entry}
 use Rattle.run_journal.specs.declared.entries.Entry.TheVariants.{Declared}
 use Rattle.run_journal.specs.Entries.{erase, steps_in, Written}
-use Rattle.desc_stores.specs.declared.items.Item.{Item}
-use Rattle.desc_stores.specs.declared.items.Item.TheVariants as item
-use Rattle.desc_stores.specs.Changes.{IsNothing}
-use Rattle.desc_stores.specs.Contents.{content_of, residents_of}
-use Rattle.desc_stores.specs.Sound.{IsExactlyOne}
-use Rattle.shown_state.specs.Shown.{thread_of}
-use Rattle.shown_state.proofs.LookupLemmas.{all_found}
-use Rattle.board_laws.specs.Telling.{AreAsTold}
-use Rattle.board_laws.proofs.Declarations.{machine_told}
-use Rattle.board_laws.proofs.Growing.{state_is_flat}
-use Rattle.board_laws.proofs.Loads.{nothing_resident}
+use Rattle.cached_machine.specs.desc_stores.specs.declared.items.Item.{Item}
+use Rattle.cached_machine.specs.desc_stores.specs.declared.items.Item.TheVariants as item
+use Rattle.cached_machine.specs.desc_stores.specs.Changes.{IsNothing}
+use Rattle.cached_machine.specs.desc_stores.specs.Contents.{content_of, residents_of}
+use Rattle.cached_machine.specs.desc_stores.specs.Sound.{IsExactlyOne}
+use Rattle.cached_machine.specs.shown_state.specs.Shown.{thread_of}
+use Rattle.cached_machine.specs.shown_state.proofs.LookupLemmas.{all_found}
+use Rattle.cached_machine.specs.board_laws.specs.Telling.{AreAsTold}
+use Rattle.cached_machine.specs.board_laws.proofs.Declarations.{machine_told}
+use Rattle.cached_machine.specs.board_laws.proofs.Growing.{state_is_flat}
+use Rattle.cached_machine.specs.board_laws.proofs.Loads.{nothing_resident}
 use Rattle.cached_machine.specs.Cached.{state_of, Cached}
 use Rattle.cached_machine.specs.Posts.{last_in, last_of}
 use Rattle.board_core.specs.Core.{IsSound}

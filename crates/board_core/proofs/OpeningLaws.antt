@@ -21,28 +21,28 @@ use Rattle.flat_state.specs.State.{FlatState}
 use Rattle.flat_state.specs.WellFormed.{IsWellFormed}
 use Rattle.flat_state.proofs.Storing.{length-put_bytes, page_at-put_bytes_other, written-word}
 use Rattle.flat_laws.proofs.Members.{contains_nothing}
-use Rattle.flat_machine.proofs.DeclareSound.{word_rules}
+use Rattle.cached_machine.specs.flat_machine.proofs.DeclareSound.{word_rules}
 use Rattle.run_journal.specs.declared.entries.Entry.{Entry}
 use Rattle.run_journal.specs.declared.entries.Entry.TheVariants.{Declared, Loaded, Locked, Sealed}
 use Rattle.run_journal.specs.Entries.{erase, steps_in, Written}
 use Rattle.run_journal.specs.Legal.{first_ident}
 use Rattle.run_journal.proofs.Growth.{steps-append}
-use Rattle.desc_stores.specs.Contents.{content_of, residents_of, Contents}
-use Rattle.desc_stores.specs.Sound.{IsExactlyOne}
-use Rattle.shown_state.specs.Shown.{shown}
-use Rattle.shown_state.proofs.LookupLemmas.{all_found}
-use Rattle.store_residents.proofs.ResidentLemmas.{live_iff}
-use Rattle.desc_groups.specs.Moves.{idents_of, MayBeLocked}
-use Rattle.desc_groups.specs.Whole.{AreWhole}
-use Rattle.group_laws.specs.Leaving.{without_all}
-use Rattle.desc_admits.specs.May.{MayBeLoaded}
-use Rattle.desc_tables.specs.Calls.{HasPlacesFor}
-use Rattle.board_laws.specs.Moves.{IsLoad, IsLock}
-use Rattle.board_laws.specs.Telling.{AreAsTold}
-use Rattle.board_laws.proofs.Admitted.{first_has_place, first_may_load, first_may_lock}
-use Rattle.board_laws.proofs.Declarations.{declared_told}
-use Rattle.board_laws.proofs.Growing.{formed_told, state_is_flat}
-use Rattle.board_laws.proofs.Loads.{is_first, none_gone, nothing_resident, sealed_told}
+use Rattle.cached_machine.specs.desc_stores.specs.Contents.{content_of, residents_of, Contents}
+use Rattle.cached_machine.specs.desc_stores.specs.Sound.{IsExactlyOne}
+use Rattle.cached_machine.specs.shown_state.specs.Shown.{shown}
+use Rattle.cached_machine.specs.shown_state.proofs.LookupLemmas.{all_found}
+use Rattle.cached_machine.specs.store_residents.proofs.ResidentLemmas.{live_iff}
+use Rattle.cached_machine.specs.desc_groups.specs.Moves.{idents_of, MayBeLocked}
+use Rattle.cached_machine.specs.desc_groups.specs.Whole.{AreWhole}
+use Rattle.cached_machine.specs.group_laws.specs.Leaving.{without_all}
+use Rattle.cached_machine.specs.desc_admits.specs.May.{MayBeLoaded}
+use Rattle.cached_machine.specs.desc_tables.specs.Calls.{HasPlacesFor}
+use Rattle.cached_machine.specs.board_laws.specs.Moves.{IsLoad, IsLock}
+use Rattle.cached_machine.specs.board_laws.specs.Telling.{AreAsTold}
+use Rattle.cached_machine.specs.board_laws.proofs.Admitted.{first_has_place, first_may_load, first_may_lock}
+use Rattle.cached_machine.specs.board_laws.proofs.Declarations.{declared_told}
+use Rattle.cached_machine.specs.board_laws.proofs.Growing.{formed_told, state_is_flat}
+use Rattle.cached_machine.specs.board_laws.proofs.Loads.{is_first, none_gone, nothing_resident, sealed_told}
 use Rattle.cached_machine.specs.Cached.{state_of, Cached}
 use Rattle.cached_machine.specs.Moved.{IsMade, MayBeMade}
 use Rattle.cached_machine.specs.Posts.{mark_of, HasLoadedMarks, HasSameMarks}

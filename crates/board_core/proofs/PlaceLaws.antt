@@ -13,20 +13,20 @@ use Rattle.run_journal.specs.declared.entries.Entry.{Entry}
 use Rattle.run_journal.specs.declared.entries.Entry.TheVariants.{Loaded, Locked, Unlocked}
 use Rattle.run_journal.specs.Entries.{Written}
 use Rattle.run_journal.specs.Legal.{first_ident}
-use Rattle.group_laws.proofs.LockCounts.{locked_already}
-use Rattle.desc_stores.specs.Contents.{residents_of, Contents, LockIs}
-use Rattle.desc_stores.specs.Sound.{AreSound}
-use Rattle.store_residents.proofs.ResidentLemmas.{live_iff, lock_iff}
-use Rattle.desc_parents.specs.Seen.{seen}
-use Rattle.desc_groups.specs.declared.departures.Gone.{Gone}
-use Rattle.desc_groups.specs.Moves.{idents_of, MayBeLocked}
-use Rattle.desc_tables.specs.Calls.{HasPlacesFor}
-use Rattle.desc_groups.specs.Whole.{AreWhole}
-use Rattle.board_laws.specs.Moves.{written_back, IsLoad, IsLock, IsUnload, ShowsTheSame}
-use Rattle.board_laws.specs.Telling.{AreAsTold}
-use Rattle.board_laws.proofs.Groups.{unloaded_told}
-use Rattle.board_laws.proofs.Loads.{loaded_told}
-use Rattle.board_laws.proofs.Locks.{locked_told, unlocked_told}
+use Rattle.cached_machine.specs.group_laws.proofs.LockCounts.{locked_already}
+use Rattle.cached_machine.specs.desc_stores.specs.Contents.{residents_of, Contents, LockIs}
+use Rattle.cached_machine.specs.desc_stores.specs.Sound.{AreSound}
+use Rattle.cached_machine.specs.store_residents.proofs.ResidentLemmas.{live_iff, lock_iff}
+use Rattle.cached_machine.specs.desc_parents.specs.Seen.{seen}
+use Rattle.cached_machine.specs.desc_groups.specs.declared.departures.Gone.{Gone}
+use Rattle.cached_machine.specs.desc_groups.specs.Moves.{idents_of, MayBeLocked}
+use Rattle.cached_machine.specs.desc_tables.specs.Calls.{HasPlacesFor}
+use Rattle.cached_machine.specs.desc_groups.specs.Whole.{AreWhole}
+use Rattle.cached_machine.specs.board_laws.specs.Moves.{written_back, IsLoad, IsLock, IsUnload, ShowsTheSame}
+use Rattle.cached_machine.specs.board_laws.specs.Telling.{AreAsTold}
+use Rattle.cached_machine.specs.board_laws.proofs.Groups.{unloaded_told}
+use Rattle.cached_machine.specs.board_laws.proofs.Loads.{loaded_told}
+use Rattle.cached_machine.specs.board_laws.proofs.Locks.{locked_told, unlocked_told}
 use Rattle.cached_machine.specs.Cached.{state_of, Cached}
 use Rattle.cached_machine.specs.Posts.{HasLoadedMarks, HasSameMarks}
 use Rattle.board_core.specs.Core.{contents_of, IsSound, Recorded}

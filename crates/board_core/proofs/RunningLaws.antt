@@ -34,18 +34,18 @@ use Rattle.run_journal.specs.Entries.{erase, steps_in, Written}
 use Rattle.run_journal.specs.Legal.{after_steps, MayStep}
 use Rattle.run_journal.proofs.Growth.{steps-append}
 use Rattle.kind_store.specs.Changes.{is_name}
-use Rattle.desc_stores.specs.declared.items.Item.{Item}
-use Rattle.desc_stores.specs.declared.items.Item.TheVariants as item
-use Rattle.desc_stores.specs.Contents.{content_of, residents_of, Contents}
-use Rattle.desc_stores.specs.Sound.{IsExactlyOne}
-use Rattle.shown_state.specs.Shown.{shown}
-use Rattle.shown_state.proofs.LookupLemmas.{all_found}
-use Rattle.store_residents.proofs.ContentLemmas.{resident_content}
-use Rattle.desc_groups.specs.Whole.{AreWhole}
-use Rattle.board_laws.specs.Moves.{KeepsLoaded}
-use Rattle.board_laws.specs.Telling.{AreAsTold}
-use Rattle.board_laws.proofs.Growing.{formed_told, state_is_flat}
-use Rattle.board_laws.proofs.Runs.{completed_told, ended_told, ran_told}
+use Rattle.cached_machine.specs.desc_stores.specs.declared.items.Item.{Item}
+use Rattle.cached_machine.specs.desc_stores.specs.declared.items.Item.TheVariants as item
+use Rattle.cached_machine.specs.desc_stores.specs.Contents.{content_of, residents_of, Contents}
+use Rattle.cached_machine.specs.desc_stores.specs.Sound.{IsExactlyOne}
+use Rattle.cached_machine.specs.shown_state.specs.Shown.{shown}
+use Rattle.cached_machine.specs.shown_state.proofs.LookupLemmas.{all_found}
+use Rattle.cached_machine.specs.store_residents.proofs.ContentLemmas.{resident_content}
+use Rattle.cached_machine.specs.desc_groups.specs.Whole.{AreWhole}
+use Rattle.cached_machine.specs.board_laws.specs.Moves.{KeepsLoaded}
+use Rattle.cached_machine.specs.board_laws.specs.Telling.{AreAsTold}
+use Rattle.cached_machine.specs.board_laws.proofs.Growing.{formed_told, state_is_flat}
+use Rattle.cached_machine.specs.board_laws.proofs.Runs.{completed_told, ended_told, ran_told}
 use Rattle.cached_machine.specs.Aside.{aside_of, but_for_steps, Aside}
 use Rattle.cached_machine.specs.Cached.{is_loaded, state_of, Cached}
 use Rattle.cached_machine.specs.Moved.{IsCompleted}

@@ -14,10 +14,10 @@ use Rattle.run_journal.specs.declared.entries.Entry.{Entry}
 use Rattle.run_journal.specs.Entries.{erase, steps_in, is_step, Written}
 use Rattle.run_journal.proofs.Growth.{steps-append}
 use Rattle.run_journal.proofs.LegalGrowth.{flat-append}
-use Rattle.desc_stores.specs.Contents.{Contents}
-use Rattle.shown_state.specs.Shown.{shown}
-use Rattle.board_laws.specs.Telling.{AreAsTold}
-use Rattle.board_laws.proofs.Growing.{state_is_flat}
+use Rattle.cached_machine.specs.desc_stores.specs.Contents.{Contents}
+use Rattle.cached_machine.specs.shown_state.specs.Shown.{shown}
+use Rattle.cached_machine.specs.board_laws.specs.Telling.{AreAsTold}
+use Rattle.cached_machine.specs.board_laws.proofs.Growing.{state_is_flat}
 use Rattle.cached_machine.specs.Cached.{is_loaded, state_of, Cached}
 use Rattle.cached_machine.specs.Posts.{last_of, mark_of, HasLoadedMarks, HasSameMarks}
 use Rattle.board_core.specs.Core.{contents_of, AreReady, IsReadyOn, IsSound, Recorded}

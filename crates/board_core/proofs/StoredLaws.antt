@@ -34,7 +34,7 @@ use Rattle.flat_state.proofs.StepKeeps.{step_keeps}
 use Rattle.flat_state.proofs.Translating.{translation-pages}
 use Rattle.flat_laws.proofs.Members.{Contains-behind, Contains-here}
 use Rattle.flat_laws.proofs.RowMarks.{atomic_through, stepped_is}
-use Rattle.group_laws.proofs.Ranks.{own_row}
+use Rattle.cached_machine.specs.group_laws.proofs.Ranks.{own_row}
 use Rattle.board_core.specs.Stamps.{frame_if_writable, frame_stored, row_named, HaveStamps, IsWithin}
 use Rattle.board_core.proofs.StoresLaws.{after_are, asked, frame_of, stores_to}
 

@@ -17,18 +17,18 @@ use Rattle.flat_state.specs.State.{FlatState}
 use Rattle.flat_laws.proofs.Members.{Contains-behind, Contains-here}
 use Rattle.writeback_order.specs.Order.{directly, further, DependsOn}
 use Rattle.run_journal.specs.Groups.{node_of, ArePairsOf, IsGroup}
-use Rattle.group_laws.specs.Leaving.{without_all}
-use Rattle.group_laws.proofs.Counting.{one, count-without}
-use Rattle.group_laws.proofs.FromBelow.{group_leaves}
-use Rattle.group_laws.proofs.Remaining.{without_all-push}
-use Rattle.group_laws.proofs.StayingOne.{apart_all_left}
-use Rattle.desc_stores.specs.Contents.{residents_of, Contents}
-use Rattle.shown_state.proofs.LookupLemmas.{one_row_a_page}
-use Rattle.store_residents.proofs.ResidentLemmas.{one_each}
-use Rattle.desc_parents.specs.Seen.{seen}
-use Rattle.desc_groups.specs.Whole.{AreWhole}
-use Rattle.desc_groups.proofs.LeaveLemmas.{ident_of, idents_more, idents_to, splits}
-use Rattle.desc_groups.proofs.LockLemmas.{residents_apart}
+use Rattle.cached_machine.specs.group_laws.specs.Leaving.{without_all}
+use Rattle.cached_machine.specs.group_laws.proofs.Counting.{one, count-without}
+use Rattle.cached_machine.specs.group_laws.proofs.FromBelow.{group_leaves}
+use Rattle.cached_machine.specs.group_laws.proofs.Remaining.{without_all-push}
+use Rattle.cached_machine.specs.group_laws.proofs.StayingOne.{apart_all_left}
+use Rattle.cached_machine.specs.desc_stores.specs.Contents.{residents_of, Contents}
+use Rattle.cached_machine.specs.shown_state.proofs.LookupLemmas.{one_row_a_page}
+use Rattle.cached_machine.specs.store_residents.proofs.ResidentLemmas.{one_each}
+use Rattle.cached_machine.specs.desc_parents.specs.Seen.{seen}
+use Rattle.cached_machine.specs.desc_groups.specs.Whole.{AreWhole}
+use Rattle.cached_machine.specs.desc_groups.proofs.LeaveLemmas.{ident_of, idents_more, idents_to, splits}
+use Rattle.cached_machine.specs.desc_groups.proofs.LockLemmas.{residents_apart}
 use Rattle.board_core.specs.Growth.{is_kept}
 
 -- ---- what is kept

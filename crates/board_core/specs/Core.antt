@@ -4,8 +4,8 @@ use Rattle.cache_ident.specs.declared.names.ThreadNo.{ThreadNo}
 use Rattle.rv32_exec.specs.declared.statuses.Status.TheVariants.{Ready}
 use Rattle.flat_rules.specs.Readings.{OfThread}
 use Rattle.run_journal.specs.Entries.{steps_in, Written}
-use Rattle.desc_stores.specs.Contents.{Contents}
-use Rattle.board_laws.specs.Telling.{AreAsTold}
+use Rattle.cached_machine.specs.desc_stores.specs.Contents.{Contents}
+use Rattle.cached_machine.specs.board_laws.specs.Telling.{AreAsTold}
 use Rattle.cached_machine.specs.Cached.{state_of, Cached}
 use Rattle.cached_machine.specs.Posts.{last_of, mark_of}
 use Rattle.board_core.specs.Stamps.{AreStamps}

@@ -15,9 +15,9 @@ use Rattle.flat_state.specs.State.{FlatState}
 use Rattle.run_journal.specs.declared.entries.Entry.{Entry}
 use Rattle.run_journal.specs.declared.entries.Entry.TheVariants.{Ended, Ran}
 use Rattle.run_journal.specs.Entries.{erase}
-use Rattle.desc_stores.specs.Contents.{residents_of}
+use Rattle.cached_machine.specs.desc_stores.specs.Contents.{residents_of}
 use Rattle.page_views.specs.Views.{View}
-use Rattle.board_laws.specs.Moves.{KeepsLoaded}
+use Rattle.cached_machine.specs.board_laws.specs.Moves.{KeepsLoaded}
 use Rattle.cached_machine.specs.Cached.{state_of}
 use Rattle.cached_machine.specs.Moved.{OnlyRoom}
 use Rattle.cached_machine.specs.Posts.{HasSameMarks}

@@ -7,8 +7,8 @@ ghost use Rattle.phys_groups.specs.Memory.{HasFrame};
 ghost use Rattle.flat_state.specs.declared.events.Decl.TheVariants as decls;
 ghost use Rattle.flat_state.specs.Declaration.{rule_of_machine};
 ghost use Rattle.run_journal.specs.declared.entries.Entry.TheVariants.{Declared};
-ghost use Rattle.desc_stores.specs.Contents.{residents_of};
-ghost use Rattle.desc_tables.specs.Tables.{AreSound};
+ghost use Rattle.cached_machine.specs.desc_stores.specs.Contents.{residents_of};
+ghost use Rattle.cached_machine.specs.desc_tables.specs.Tables.{AreSound};
 ghost use Rattle.board_core.specs.Core.{IsSound};
 ghost use Rattle.board_core.specs.Stamps.{stamped_at, IsSince, IsWithin};
 
@@ -45,7 +45,7 @@ pub struct Core {
 
 impl Model for Core {
     ghost use Rattle.std.specs.Prelude.{◌≡◌, length};
-    ghost use Rattle.desc_stores.specs.Contents.{residents_of};
+    ghost use Rattle.cached_machine.specs.desc_stores.specs.Contents.{residents_of};
     ghost use Rattle.board_core.specs.Core.{IsSound, Recorded};
 
     ghost Value = { Recorded };

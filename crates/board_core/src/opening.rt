@@ -5,7 +5,7 @@ ghost use Rattle.cache_ident.specs.Names.{first_name};
 ghost use Rattle.flat_state.specs.Declaration.{broken_rule};
 ghost use Rattle.run_journal.specs.Legal.{first_ident};
 ghost use Rattle.run_journal.specs.declared.entries.Entry.TheVariants.{Declared, Loaded, Locked, Sealed};
-ghost use Rattle.desc_stores.specs.Changes.{room_of};
+ghost use Rattle.cached_machine.specs.desc_stores.specs.Changes.{room_of};
 ghost use Rattle.cached_machine.specs.Cached.{state_of};
 ghost use Rattle.cached_machine.specs.Posts.{HasSameMarks};
 ghost use Rattle.board_core.specs.Core.{contents_of};

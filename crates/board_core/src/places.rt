@@ -6,17 +6,17 @@ ghost use Rattle.cache_ident.specs.declared.names.ThreadNo.{ThreadNo};
 ghost use Rattle.cache_ident.specs.Rolls.{standing_in};
 ghost use Rattle.run_journal.specs.Legal.{first_ident};
 ghost use Rattle.run_journal.specs.declared.entries.Entry.TheVariants.{Loaded, Locked, Unlocked};
-ghost use Rattle.desc_groups.specs.Moves.{MayBeLocked};
-ghost use Rattle.desc_stores.specs.Contents.{LockIs};
-ghost use Rattle.desc_admits.specs.May.{MayBeLoaded};
-ghost use Rattle.board_laws.specs.Moves.{written_back, IsLoad, IsLock, IsUnload};
+ghost use Rattle.cached_machine.specs.desc_groups.specs.Moves.{MayBeLocked};
+ghost use Rattle.cached_machine.specs.desc_stores.specs.Contents.{LockIs};
+ghost use Rattle.cached_machine.specs.desc_admits.specs.May.{MayBeLoaded};
+ghost use Rattle.cached_machine.specs.board_laws.specs.Moves.{written_back, IsLoad, IsLock, IsUnload};
 ghost use Rattle.cached_machine.specs.Posts.{mark_of, HasLoadedMarks, HasSameMarks};
 ghost use Rattle.board_core.specs.Core.{contents_of};
 ghost use Rattle.board_core.specs.Growth.{count_loaded, count_unkept, GrowsBy, MayWrite};
 
 use crate::core_record::{Core, known, next_place, note};
 use cache_ident::{Ident, Name};
-use desc_tables::Gone;
+use cached_machine::desc_tables::Gone;
 use run_journal::{Entry, Journal};
 
 impl Core {

@@ -4,7 +4,7 @@ ghost use Rattle.std.specs.Prelude.{◌≡◌, ◌<◌, true, None, Some, IsSome
 ghost use Rattle.cache_ident.specs.declared.names.ThreadNo.{ThreadNo};
 ghost use Rattle.rv32_exec.specs.declared.statuses.Status.TheVariants.{Ready};
 ghost use Rattle.flat_rules.specs.Readings.{OfThread};
-ghost use Rattle.desc_stores.specs.Contents.{content_of};
+ghost use Rattle.cached_machine.specs.desc_stores.specs.Contents.{content_of};
 ghost use Rattle.cached_machine.specs.Cached.{is_loaded, state_of};
 ghost use Rattle.cached_machine.specs.Posts.{but_at, last_of, mark_of, OnlyPosts};
 ghost use Rattle.board_core.specs.Core.{contents_of};

@@ -1,7 +1,7 @@
 //! Room for what is to come.
 
 ghost use Rattle.std.specs.Prelude.{◌≡◌, ◌+◌, ◌≤◌, ◌<◌, min, IsOk, OnErr, OnOk};
-ghost use Rattle.desc_stores.specs.Changes.{room_of};
+ghost use Rattle.cached_machine.specs.desc_stores.specs.Changes.{room_of};
 ghost use Rattle.board_core.specs.Core.{contents_of};
 ghost use Rattle.board_core.specs.Growth.{count_loaded, OnlyMakesRoom};
 

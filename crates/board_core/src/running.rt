@@ -8,14 +8,14 @@ ghost use Rattle.flat_state.specs.Call.{is_completable};
 ghost use Rattle.flat_state.specs.Events.{applied};
 ghost use Rattle.flat_state.specs.NextSteps.{next_step as next_step_def};
 ghost use Rattle.flat_rules.specs.Readings.{OfThread};
-ghost use Rattle.flat_events.specs.declared.asked.Asked.TheVariants.{Nothing};
-ghost use Rattle.flat_events.specs.Asked.{asked_of};
-ghost use Rattle.quantum.specs.LocalRun.{touched_views, CouldRun};
+ghost use Rattle.cached_machine.specs.flat_events.specs.declared.asked.Asked.TheVariants.{Nothing};
+ghost use Rattle.cached_machine.specs.flat_events.specs.Asked.{asked_of};
+ghost use Rattle.cached_machine.specs.quantum.specs.LocalRun.{touched_views, CouldRun};
 ghost use Rattle.run_journal.specs.Legal.{AreGood, MayStep};
 ghost use Rattle.run_journal.specs.declared.entries.Entry.TheVariants.{Completed, Ran};
-ghost use Rattle.desc_stores.specs.Contents.{residents_of};
-ghost use Rattle.desc_stores.specs.Changes.{room_of};
-ghost use Rattle.board_laws.specs.Moves.{KeepsLoaded};
+ghost use Rattle.cached_machine.specs.desc_stores.specs.Contents.{residents_of};
+ghost use Rattle.cached_machine.specs.desc_stores.specs.Changes.{room_of};
+ghost use Rattle.cached_machine.specs.board_laws.specs.Moves.{KeepsLoaded};
 ghost use Rattle.cached_machine.specs.Cached.{state_of};
 ghost use Rattle.cached_machine.specs.Posts.{but_at, last_of, mark_of};
 ghost use Rattle.board_core.specs.Core.{contents_of};
@@ -26,9 +26,9 @@ use crate::core_record::{Core, known, note, put_stamp};
 use crate::taking_over::take_over;
 use cache_ident::{Frame, Name, NoMemory, ThreadNo};
 use cached_machine::CachedMachine;
+use cached_machine::quantum::Quantum;
 use flat_rules::{Records, next_step};
 use flat_state::NextStep;
-use quantum::Quantum;
 use run_journal::Entry;
 
 impl Core {
@@ -53,7 +53,7 @@ impl Core {
         ensures steps { self.new.steps ≡ self.old.steps + 1 }
     {
         let stored = frame_stored(&self.machine, next);
-        flat_events::step(&mut self.machine, no);
+        cached_machine::flat_events::step(&mut self.machine, no);
         self.steps += 1;
         note(&mut self.journal, entry_of_step(no, next.faults, cpu));
         put_stamp(&mut self.stamps, stored, self.journal.len());

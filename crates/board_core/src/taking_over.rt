@@ -3,7 +3,7 @@
 ghost use Rattle.std.specs.Prelude.{◌≡◌, ◌<◌, length, true};
 ghost use Rattle.phys_groups.specs.Memory.{HasFrame};
 ghost use Rattle.flat_rules.specs.Readings.{OfThread};
-ghost use Rattle.quantum.specs.LocalRun.{committed, status_by as status_by_def, touched_views, CouldRun, IsLocalRun};
+ghost use Rattle.cached_machine.specs.quantum.specs.LocalRun.{committed, status_by as status_by_def, touched_views, CouldRun, IsLocalRun};
 ghost use Rattle.cached_machine.specs.Aside.{aside_of};
 ghost use Rattle.cached_machine.specs.Cached.{state_of};
 ghost use Rattle.board_core.specs.Growth.{with_all_views, with_view, AreInMemory};
@@ -12,8 +12,8 @@ ghost use Rattle.board_core.specs.Stamps.{AreStamped, HaveStamps};
 use crate::core_record::put_stamp;
 use cache_ident::{SpaceNo, ThreadNo};
 use cached_machine::CachedMachine;
+use cached_machine::quantum::{PageView, Paused, Quantum};
 use flat_rules::{Records, Steps, thread_at};
-use quantum::{PageView, Paused, Quantum};
 use rv32_exec::Status;
 
 // The thread, its rows and memory are as the quantum left them. Each frame that changed has a new stamp.

@@ -17,24 +17,24 @@ use Rattle.flat_state.specs.State.{FlatState}
 use Rattle.flat_state.proofs.Places.{Contains-from_get}
 use Rattle.run_journal.specs.Groups.{node_of, ArePairsOf, IsGroup}
 use Rattle.run_journal.specs.Legal.{count_of}
-use Rattle.group_laws.specs.Leaving.{without_all}
-use Rattle.group_laws.proofs.Counting.{count-loaded, count-without, one}
-use Rattle.group_laws.proofs.FromBelow.{group_leaves}
-use Rattle.group_laws.proofs.Remaining.{stays_without_all, without_all-push, without_all_cases}
-use Rattle.group_laws.proofs.StayingOne.{apart_all_left}
-use Rattle.desc_stores.specs.Contents.{residents_of, Contents}
-use Rattle.shown_state.proofs.LookupLemmas.{one_row_a_page}
-use Rattle.store_residents.specs.Slots.{slots_of}
-use Rattle.store_residents.specs.Victims.{IsOldest}
-use Rattle.store_residents.proofs.ResidentLemmas.{one_each}
-use Rattle.store_residents.proofs.SlotLaws.{full_iff}
-use Rattle.desc_parents.specs.Seen.{seen}
-use Rattle.desc_groups.specs.declared.departures.Gone.{Gone}
-use Rattle.desc_groups.specs.Moves.{idents_of}
-use Rattle.desc_groups.specs.Whole.{AreWhole}
-use Rattle.desc_groups.proofs.LeaveLemmas.{ident_of, idents_more, idents_to, splits}
-use Rattle.desc_groups.proofs.LockLemmas.{residents_apart}
-use Rattle.board_laws.specs.Moves.{IsLoad}
+use Rattle.board_core.specs.group_laws.specs.Leaving.{without_all}
+use Rattle.board_core.specs.group_laws.proofs.Counting.{count-loaded, count-without, one}
+use Rattle.board_core.specs.group_laws.proofs.FromBelow.{group_leaves}
+use Rattle.board_core.specs.group_laws.proofs.Remaining.{stays_without_all, without_all-push, without_all_cases}
+use Rattle.board_core.specs.group_laws.proofs.StayingOne.{apart_all_left}
+use Rattle.board_core.specs.desc_stores.specs.Contents.{residents_of, Contents}
+use Rattle.board_core.specs.shown_state.proofs.LookupLemmas.{one_row_a_page}
+use Rattle.board_core.specs.store_residents.specs.Slots.{slots_of}
+use Rattle.board_core.specs.store_residents.specs.Victims.{IsOldest}
+use Rattle.board_core.specs.store_residents.proofs.ResidentLemmas.{one_each}
+use Rattle.board_core.specs.store_residents.proofs.SlotLaws.{full_iff}
+use Rattle.board_core.specs.desc_parents.specs.Seen.{seen}
+use Rattle.board_core.specs.desc_groups.specs.declared.departures.Gone.{Gone}
+use Rattle.board_core.specs.desc_groups.specs.Moves.{idents_of}
+use Rattle.board_core.specs.desc_groups.specs.Whole.{AreWhole}
+use Rattle.board_core.specs.desc_groups.proofs.LeaveLemmas.{ident_of, idents_more, idents_to, splits}
+use Rattle.board_core.specs.desc_groups.proofs.LockLemmas.{residents_apart}
+use Rattle.board_core.specs.board_laws.specs.Moves.{IsLoad}
 
 -- all that what is kept depends on is kept
 abbrev pub IsClosedIn : FlatState → List Resident → List Ident → Type 0

@@ -29,13 +29,13 @@ use Rattle.run_journal.specs.declared.entries.Entry.{Entry}
 use Rattle.run_journal.specs.Entries.{erase, is_step, steps_in}
 use Rattle.run_journal.specs.Legal.{IsRowResident, MayStep}
 use Rattle.run_journal.proofs.Growth.{erase-append}
-use Rattle.desc_stores.specs.Contents.{residents_of, Contents}
-use Rattle.board_ops.specs.declared.refusals.Refused.{Refused}
-use Rattle.board_ops.specs.declared.refusals.Refused.TheVariants as why
-use Rattle.board_laws.proofs.Growing.{formed_told}
-use Rattle.cached_machine.specs.Cached.{is_loaded, state_of, Cached}
-use Rattle.cached_machine.specs.Posts.{mark_of, HasLoadedMarks, HasSameMarks}
-use Rattle.cached_machine.proofs.AsideLaws.{loaded_alike}
+use Rattle.board_core.specs.desc_stores.specs.Contents.{residents_of, Contents}
+use Rattle.board_core.specs.board_ops.specs.declared.refusals.Refused.{Refused}
+use Rattle.board_core.specs.board_ops.specs.declared.refusals.Refused.TheVariants as why
+use Rattle.board_core.specs.board_laws.proofs.Growing.{formed_told}
+use Rattle.board_core.specs.cached_machine.specs.Cached.{is_loaded, state_of, Cached}
+use Rattle.board_core.specs.cached_machine.specs.Posts.{mark_of, HasLoadedMarks, HasSameMarks}
+use Rattle.board_core.specs.cached_machine.proofs.AsideLaws.{loaded_alike}
 use Rattle.board_chains.specs.Chains.{rows_in_order, row_parents, AreParentsFirst, IsChainInOrder, IsClosed, IsFewByKind, MayBeChained}
 use Rattle.board_chains.specs.Lists.{has, with_any, AreApart}
 use Rattle.board_chains.proofs.ChainLemmas.{closed_at}

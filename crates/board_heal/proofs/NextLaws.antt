@@ -15,22 +15,22 @@ use Rattle.depend_lists.specs.declared.nodes.Node.{Node}
 use Rattle.flat_state.specs.Dependence.{Depends}
 use Rattle.flat_state.proofs.Places.{count_by-cons}
 use Rattle.run_journal.specs.Legal.{is_kind}
-use Rattle.journal_laws.specs.Leaving.{HaveOneEach}
-use Rattle.group_laws.proofs.Counting.{count-same}
-use Rattle.desc_stores.specs.Contents.{residents_of, Contents}
-use Rattle.shown_state.proofs.DependenceLemmas.{same_fit, same_parents}
-use Rattle.shown_state.proofs.LookupLemmas.{name_stands}
-use Rattle.store_residents.proofs.ContentLemmas.{shelved_iff}
-use Rattle.store_residents.proofs.ResidentLemmas.{one_each, resident_kind}
-use Rattle.desc_parents.specs.Idents.{ident_of, idents_of}
-use Rattle.desc_parents.specs.Seen.{seen}
-use Rattle.desc_parents.proofs.IdentLemmas.{ident_back, ident_found, ident_none}
-use Rattle.desc_groups.specs.declared.departures.Gone.{Gone}
-use Rattle.desc_groups.specs.Moves as moves
-use Rattle.desc_admits.specs.May.{kept_of, wanted_of, MayBeLoaded}
-use Rattle.desc_tables.specs.Tables.{AreSound}
-use Rattle.board_laws.specs.Moves.{IsLoad}
-use Rattle.cached_machine.specs.Cached.{state_of}
+use Rattle.board_core.specs.journal_laws.specs.Leaving.{HaveOneEach}
+use Rattle.board_core.specs.group_laws.proofs.Counting.{count-same}
+use Rattle.board_core.specs.desc_stores.specs.Contents.{residents_of, Contents}
+use Rattle.board_core.specs.shown_state.proofs.DependenceLemmas.{same_fit, same_parents}
+use Rattle.board_core.specs.shown_state.proofs.LookupLemmas.{name_stands}
+use Rattle.board_core.specs.store_residents.proofs.ContentLemmas.{shelved_iff}
+use Rattle.board_core.specs.store_residents.proofs.ResidentLemmas.{one_each, resident_kind}
+use Rattle.board_core.specs.desc_parents.specs.Idents.{ident_of, idents_of}
+use Rattle.board_core.specs.desc_parents.specs.Seen.{seen}
+use Rattle.board_core.specs.desc_parents.proofs.IdentLemmas.{ident_back, ident_found, ident_none}
+use Rattle.board_core.specs.desc_groups.specs.declared.departures.Gone.{Gone}
+use Rattle.board_core.specs.desc_groups.specs.Moves as moves
+use Rattle.board_core.specs.desc_admits.specs.May.{kept_of, wanted_of, MayBeLoaded}
+use Rattle.board_core.specs.desc_tables.specs.Tables.{AreSound}
+use Rattle.board_core.specs.board_laws.specs.Moves.{IsLoad}
+use Rattle.board_core.specs.cached_machine.specs.Cached.{state_of}
 use Rattle.board_chains.specs.Lists.{has}
 use Rattle.board_chains.proofs.ListLemmas.{has_not, has_there}
 use Rattle.board_core.specs.Core.{contents_of, Recorded}

@@ -19,12 +19,12 @@ use Rattle.run_journal.specs.declared.entries.Entry.{Entry}
 use Rattle.run_journal.specs.declared.entries.Entry.TheVariants.{Loaded}
 use Rattle.run_journal.specs.Entries.{erase}
 use Rattle.run_journal.proofs.Growth.{after_events-append, erase-append}
-use Rattle.desc_stores.specs.Contents.{content_of, residents_of, Contents}
-use Rattle.desc_groups.specs.declared.departures.Gone.{Gone}
-use Rattle.board_laws.specs.Moves.{written_back}
-use Rattle.cached_machine.specs.Cached.{is_loaded, state_of}
-use Rattle.cached_machine.specs.Posts.{mark_in, mark_of, HasLoadedMarks}
-use Rattle.cached_machine.proofs.LoadedLaws.{loaded_by, loads, not_loaded}
+use Rattle.board_core.specs.desc_stores.specs.Contents.{content_of, residents_of, Contents}
+use Rattle.board_core.specs.desc_groups.specs.declared.departures.Gone.{Gone}
+use Rattle.board_core.specs.board_laws.specs.Moves.{written_back}
+use Rattle.board_core.specs.cached_machine.specs.Cached.{is_loaded, state_of}
+use Rattle.board_core.specs.cached_machine.specs.Posts.{mark_in, mark_of, HasLoadedMarks}
+use Rattle.board_core.specs.cached_machine.proofs.LoadedLaws.{loaded_by, loads, not_loaded}
 use Rattle.board_chains.specs.Lists.{AreApart}
 use Rattle.board_chains.proofs.ListLemmas.{apart_before}
 use Rattle.board_core.specs.Core.{contents_of, Recorded}

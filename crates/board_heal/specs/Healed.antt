@@ -8,9 +8,9 @@ use Rattle.flat_state.specs.declared.records.NextStep.{NextStep}
 use Rattle.flat_state.specs.Events.{after_event}
 use Rattle.flat_state.specs.NextSteps.{next_step}
 use Rattle.run_journal.specs.declared.entries.Entry.{Entry}
-use Rattle.desc_stores.specs.Contents.{residents_of}
-use Rattle.cached_machine.specs.Cached.{state_of}
-use Rattle.cached_machine.specs.Posts.{HasLoadedMarks}
+use Rattle.board_core.specs.desc_stores.specs.Contents.{residents_of}
+use Rattle.board_core.specs.cached_machine.specs.Cached.{state_of}
+use Rattle.board_core.specs.cached_machine.specs.Posts.{HasLoadedMarks}
 use Rattle.board_chains.specs.Chains.{IsChainInOrder, IsFewByKind}
 use Rattle.board_core.specs.Core.{contents_of, Recorded}
 use Rattle.board_core.specs.Growth.{entry_of_step, GrowsBy}

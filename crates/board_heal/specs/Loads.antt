@@ -6,11 +6,11 @@ use Rattle.cache_ident.specs.Residents.{Resident, IsNameResident}
 use Rattle.run_journal.specs.declared.entries.Entry.{Entry}
 use Rattle.run_journal.specs.declared.entries.Entry.TheVariants.{Loaded}
 use Rattle.run_journal.specs.Groups.{HasParents}
-use Rattle.desc_stores.specs.Contents.{residents_of, Contents}
-use Rattle.desc_groups.specs.declared.departures.Gone.{Gone}
-use Rattle.board_laws.specs.Moves.{written_back}
-use Rattle.cached_machine.specs.Cached.{is_loaded, state_of}
-use Rattle.cached_machine.specs.Posts.{HasLoadedMarks}
+use Rattle.board_core.specs.desc_stores.specs.Contents.{residents_of, Contents}
+use Rattle.board_core.specs.desc_groups.specs.declared.departures.Gone.{Gone}
+use Rattle.board_core.specs.board_laws.specs.Moves.{written_back}
+use Rattle.board_core.specs.cached_machine.specs.Cached.{is_loaded, state_of}
+use Rattle.board_core.specs.cached_machine.specs.Posts.{HasLoadedMarks}
 use Rattle.board_chains.specs.Chains.{IsClosed, IsFewByKind, MayBeChained}
 use Rattle.board_chains.specs.Lists.{has, AreApart}
 use Rattle.board_core.specs.Core.{contents_of, Recorded}

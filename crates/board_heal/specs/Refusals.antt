@@ -6,10 +6,10 @@ use Rattle.cache_ident.specs.declared.names.ThreadNo.{ThreadNo}
 use Rattle.flat_state.specs.declared.records.FlatThread.{FlatThread}
 use Rattle.flat_state.specs.Signals.{full_receiver}
 use Rattle.flat_state.specs.State.{is_ready}
-use Rattle.cached_machine.specs.Cached.{state_of}
-use Rattle.cached_machine.specs.Posts.{mark_of}
-use Rattle.board_ops.specs.declared.refusals.Refused.{Refused}
-use Rattle.board_ops.specs.declared.refusals.Refused.TheVariants as why
+use Rattle.board_core.specs.cached_machine.specs.Cached.{state_of}
+use Rattle.board_core.specs.cached_machine.specs.Posts.{mark_of}
+use Rattle.board_core.specs.board_ops.specs.declared.refusals.Refused.{Refused}
+use Rattle.board_core.specs.board_ops.specs.declared.refusals.Refused.TheVariants as why
 use Rattle.board_core.specs.Core.{contents_of, Recorded}
 
 -- the thread takes no steps

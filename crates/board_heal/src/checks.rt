@@ -5,16 +5,16 @@ ghost use Rattle.std.specs.Option.{option_map};
 ghost use Rattle.std.specs.Result.{result_err};
 ghost use Rattle.flat_state.specs.Signals.{full_receiver as full_receiver_def};
 ghost use Rattle.flat_rules.specs.Readings.{IsThreadOf};
-ghost use Rattle.shown_state.specs.Shown.{flat_thread};
-ghost use Rattle.cached_machine.specs.Cached.{state_of};
-ghost use Rattle.cached_machine.specs.Posts.{mark_of};
-ghost use Rattle.board_ops.specs.declared.refusals.Refused.TheVariants as why;
+ghost use Rattle.board_core.specs.shown_state.specs.Shown.{flat_thread};
+ghost use Rattle.board_core.specs.cached_machine.specs.Cached.{state_of};
+ghost use Rattle.board_core.specs.cached_machine.specs.Posts.{mark_of};
+ghost use Rattle.board_core.specs.board_ops.specs.declared.refusals.Refused.TheVariants as why;
 ghost use Rattle.board_heal.specs.Refusals.{none_left, not_ready, not_sealed, refusal_of_heal};
 
 use board_core::Core;
-use board_ops::Refused;
+use board_core::board_ops::Refused;
+use board_core::cached_machine::CachedMachine;
 use cache_ident::{Name, ThreadNo};
-use cached_machine::CachedMachine;
 use flat_rules::{Records, full_receiver, is_ready};
 use thread_cache::ThreadRec;
 

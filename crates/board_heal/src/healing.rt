@@ -2,8 +2,8 @@
 
 ghost use Rattle.std.specs.Prelude.{◌≡◌, ◌≢◌, ◌<◌, None, Some, IfErr, OnOk, IsSome};
 ghost use Rattle.flat_state.specs.NextSteps.{next_step as next_step_def};
-ghost use Rattle.cached_machine.specs.Cached.{state_of};
-ghost use Rattle.board_ops.specs.declared.refusals.Refused.TheVariants.{NoMemory};
+ghost use Rattle.board_core.specs.cached_machine.specs.Cached.{state_of};
+ghost use Rattle.board_core.specs.board_ops.specs.declared.refusals.Refused.TheVariants.{NoMemory};
 ghost use Rattle.board_core.specs.Answers.{HasSpare, IsRefused};
 ghost use Rattle.board_heal.specs.Healed.{IsHealed};
 ghost use Rattle.board_heal.specs.Refusals.{refusal_of_heal};
@@ -12,7 +12,7 @@ use crate::checks::check_heal;
 use crate::loads::{load_missing, machine_of};
 use board_chains::{MOST_CHAINED, chain_of};
 use board_core::Core;
-use board_ops::Refused;
+use board_core::board_ops::Refused;
 use cache_ident::ThreadNo;
 use flat_state::NextStep;
 

@@ -3,14 +3,14 @@
 ghost use Rattle.std.specs.Prelude.{◌≡◌, ◌<◌, ◌≤◌, List, length, true};
 ghost use Rattle.cache_ident.specs.declared.idents.Ident.{Ident};
 ghost use Rattle.depend_lists.specs.declared.nodes.Node.{Node};
-ghost use Rattle.desc_tables.specs.Tables.{AreSound};
+ghost use Rattle.board_core.specs.desc_tables.specs.Tables.{AreSound};
 ghost use Rattle.board_core.specs.Core.{IsSound};
 ghost use Rattle.board_heal.specs.Loads.{IsThereNow, MayComeNext};
 
 use board_chains::loaded_among;
 use board_core::Core;
+use board_core::cached_machine::CachedMachine;
 use cache_ident::Name;
-use cached_machine::CachedMachine;
 
 // Loads a descriptor of a chain, if it isn't loaded, while what is loaded of the chain stays.
 pub(crate) fn load_missing(core: &mut Core, cpu: u32, name: Name, chain: &[Name])

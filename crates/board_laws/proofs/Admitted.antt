@@ -36,25 +36,25 @@ use Rattle.flat_laws.proofs.Members.{Contains-cases, contains_nothing}
 use Rattle.slot_cache.proofs.SlotLemmas.{some_same}
 use Rattle.run_journal.specs.Groups.{HasParents}
 use Rattle.run_journal.specs.Legal.{count_of, first_ident, is_kind, limit_of, limits_in, locked_by}
-use Rattle.group_laws.specs.Leaving.{without_all}
+use Rattle.desc_tables.specs.group_laws.specs.Leaving.{without_all}
 use Rattle.kernel_cache.specs.declared.KernelRec.{KernelRec}
 use Rattle.space_cache.specs.declared.SpaceRec.{SpaceRec}
 use Rattle.thread_cache.specs.declared.ThreadRec.{ThreadRec}
-use Rattle.desc_stores.specs.declared.items.Item.{Item}
-use Rattle.desc_stores.specs.declared.items.Item.TheVariants as item
-use Rattle.desc_stores.specs.Contents.{content_of, residents_of, Contents, IsFullOf}
-use Rattle.desc_stores.specs.Sound.{IsExactlyOne}
-use Rattle.shown_state.specs.Found.{AreFound, AreListed}
-use Rattle.shown_state.specs.Shown.{shown}
-use Rattle.shown_state.proofs.LookupLemmas.{all_found, all_listed}
-use Rattle.store_residents.proofs.ContentLemmas.{shelved_iff}
-use Rattle.store_residents.proofs.ResidentLemmas.{loaded_resident}
-use Rattle.store_residents.proofs.SlotLaws.{full_iff}
-use Rattle.desc_parents.specs.Seen.{seen}
-use Rattle.desc_groups.specs.declared.departures.Gone.{Gone}
-use Rattle.desc_groups.specs.Moves.{idents_of, MayBeLocked}
-use Rattle.desc_groups.specs.Whole.{AreWhole}
-use Rattle.desc_admits.specs.May.{wanted_of, MayBeDeclared, MayBeLoaded}
+use Rattle.desc_tables.specs.desc_stores.specs.declared.items.Item.{Item}
+use Rattle.desc_tables.specs.desc_stores.specs.declared.items.Item.TheVariants as item
+use Rattle.desc_tables.specs.desc_stores.specs.Contents.{content_of, residents_of, Contents, IsFullOf}
+use Rattle.desc_tables.specs.desc_stores.specs.Sound.{IsExactlyOne}
+use Rattle.desc_tables.specs.shown_state.specs.Found.{AreFound, AreListed}
+use Rattle.desc_tables.specs.shown_state.specs.Shown.{shown}
+use Rattle.desc_tables.specs.shown_state.proofs.LookupLemmas.{all_found, all_listed}
+use Rattle.desc_tables.specs.store_residents.proofs.ContentLemmas.{shelved_iff}
+use Rattle.desc_tables.specs.store_residents.proofs.ResidentLemmas.{loaded_resident}
+use Rattle.desc_tables.specs.store_residents.proofs.SlotLaws.{full_iff}
+use Rattle.desc_tables.specs.desc_parents.specs.Seen.{seen}
+use Rattle.desc_tables.specs.desc_groups.specs.declared.departures.Gone.{Gone}
+use Rattle.desc_tables.specs.desc_groups.specs.Moves.{idents_of, MayBeLocked}
+use Rattle.desc_tables.specs.desc_groups.specs.Whole.{AreWhole}
+use Rattle.desc_tables.specs.desc_admits.specs.May.{wanted_of, MayBeDeclared, MayBeLoaded}
 use Rattle.board_laws.specs.Moves.{Declares, IsLoad}
 use Rattle.board_laws.proofs.First.{first}
 use Rattle.board_laws.proofs.Shown.{limit_shown}

@@ -18,13 +18,13 @@ use Rattle.flat_state.specs.Events.{applied, declared_unless}
 use Rattle.flat_state.specs.State.{nothing_declared, FlatState}
 use Rattle.run_journal.specs.declared.entries.Entry.{Entry}
 use Rattle.run_journal.specs.declared.entries.Entry.TheVariants.{Declared}
-use Rattle.desc_stores.specs.declared.items.Item.{Item}
-use Rattle.desc_stores.specs.declared.items.Item.TheVariants as item
-use Rattle.desc_stores.specs.Changes.{IsNothing}
-use Rattle.desc_stores.specs.Contents.{resident_as, residents_of, Contents}
-use Rattle.shown_state.specs.Edits.{with_new}
-use Rattle.shown_state.specs.Shown.{shown}
-use Rattle.shown_state.proofs.DeclareLemmas.{nothing_shown}
+use Rattle.desc_tables.specs.desc_stores.specs.declared.items.Item.{Item}
+use Rattle.desc_tables.specs.desc_stores.specs.declared.items.Item.TheVariants as item
+use Rattle.desc_tables.specs.desc_stores.specs.Changes.{IsNothing}
+use Rattle.desc_tables.specs.desc_stores.specs.Contents.{resident_as, residents_of, Contents}
+use Rattle.desc_tables.specs.shown_state.specs.Edits.{with_new}
+use Rattle.desc_tables.specs.shown_state.specs.Shown.{shown}
+use Rattle.desc_tables.specs.shown_state.proofs.DeclareLemmas.{nothing_shown}
 use Rattle.board_laws.specs.Moves.{Declares, KeepsLoaded}
 use Rattle.board_laws.specs.Telling.{AreAsTold}
 use Rattle.board_laws.proofs.Growing.{entry_told, same_told}

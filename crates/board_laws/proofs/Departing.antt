@@ -14,11 +14,11 @@ use Rattle.run_journal.specs.declared.entries.Entry.{Entry}
 use Rattle.run_journal.specs.declared.entries.Entry.TheVariants.{WrittenBack}
 use Rattle.run_journal.specs.Told.{Anything, Load, Told, told_of, told_after, told_from}
 use Rattle.run_journal.specs.Groups.{node_of, IsGroup, departures}
-use Rattle.group_laws.specs.Leaving.{without_all}
-use Rattle.group_laws.proofs.Remaining.{without_all-push}
-use Rattle.desc_groups.specs.declared.departures.Gone.{Gone}
-use Rattle.desc_groups.specs.Moves.{gone_as}
-use Rattle.desc_groups.proofs.LeaveLemmas.{ident_of}
+use Rattle.desc_tables.specs.group_laws.specs.Leaving.{without_all}
+use Rattle.desc_tables.specs.group_laws.proofs.Remaining.{without_all-push}
+use Rattle.desc_tables.specs.desc_groups.specs.declared.departures.Gone.{Gone}
+use Rattle.desc_tables.specs.desc_groups.specs.Moves.{gone_as}
+use Rattle.desc_tables.specs.desc_groups.proofs.LeaveLemmas.{ident_of}
 use Rattle.board_laws.specs.Moves.{written_back}
 
 -- what is told once a group has left

@@ -17,15 +17,15 @@ use Rattle.run_journal.specs.Groups.{node_of, ArePairsOf, IsGroup, departures}
 use Rattle.run_journal.specs.Legal.{first_ident, AreLegal}
 use Rattle.run_journal.specs.Told.{Told, told, told_from}
 use Rattle.run_journal.proofs.LegalGrowth.{departures_legal, MayGo}
-use Rattle.desc_stores.specs.Contents.{residents_of, Contents}
-use Rattle.group_laws.specs.Leaving.{without_all}
-use Rattle.shown_state.specs.Shown.{shown}
-use Rattle.store_residents.proofs.ResidentLemmas.{live_iff}
-use Rattle.desc_parents.specs.Seen.{seen}
-use Rattle.desc_groups.specs.declared.departures.Gone.{Gone}
-use Rattle.desc_groups.specs.Moves.{idents_of}
-use Rattle.desc_groups.specs.Whole.{AreWhole}
-use Rattle.desc_groups.proofs.LeaveLemmas.{ident_of}
+use Rattle.desc_tables.specs.desc_stores.specs.Contents.{residents_of, Contents}
+use Rattle.desc_tables.specs.group_laws.specs.Leaving.{without_all}
+use Rattle.desc_tables.specs.shown_state.specs.Shown.{shown}
+use Rattle.desc_tables.specs.store_residents.proofs.ResidentLemmas.{live_iff}
+use Rattle.desc_tables.specs.desc_parents.specs.Seen.{seen}
+use Rattle.desc_tables.specs.desc_groups.specs.declared.departures.Gone.{Gone}
+use Rattle.desc_tables.specs.desc_groups.specs.Moves.{idents_of}
+use Rattle.desc_tables.specs.desc_groups.specs.Whole.{AreWhole}
+use Rattle.desc_tables.specs.desc_groups.proofs.LeaveLemmas.{ident_of}
 use Rattle.board_laws.specs.Moves.{written_back, IsUnload}
 use Rattle.board_laws.specs.Telling.{AreAsTold}
 use Rattle.board_laws.proofs.Departing.{group_entries, group_leaves_behind, group_resident, told_unloaded}

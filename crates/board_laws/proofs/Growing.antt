@@ -19,8 +19,8 @@ use Rattle.run_journal.specs.Told.{Anything, Told, nothing_told, told, told_afte
 use Rattle.run_journal.proofs.Growth.{standing_from-append, told_from-append}
 use Rattle.run_journal.proofs.LegalGrowth.{grows, settled, state_told}
 use Rattle.run_journal.proofs.Standings.{stands_as}
-use Rattle.desc_stores.specs.Contents.{residents_of, Contents}
-use Rattle.shown_state.specs.Shown.{shown}
+use Rattle.desc_tables.specs.desc_stores.specs.Contents.{residents_of, Contents}
+use Rattle.desc_tables.specs.shown_state.specs.Shown.{shown}
 use Rattle.board_laws.specs.Moves.{KeepsLoaded, ShowsTheSame}
 use Rattle.board_laws.specs.Telling.{AreAsTold}
 

@@ -29,21 +29,21 @@ use Rattle.run_journal.specs.Told.{due_after_load, Anything, Due, FirstLoad, Fir
 use Rattle.run_journal.proofs.Growth.{legal-append, standing_from-append, told_from-append}
 use Rattle.run_journal.proofs.LegalGrowth.{not_first_load}
 use Rattle.run_journal.proofs.Whole.{nothing_loaded}
-use Rattle.desc_stores.specs.Contents.{residents_of, Contents, IsFullOf, LockIs}
-use Rattle.group_laws.specs.Leaving.{without_all}
-use Rattle.group_laws.proofs.Ranks.{parent_leaves_later}
-use Rattle.group_laws.proofs.Remaining.{without_all_cases}
-use Rattle.shown_state.specs.Shown.{shown}
-use Rattle.shown_state.proofs.DependenceLemmas.{same_fit}
-use Rattle.shown_state.proofs.LookupLemmas.{one_row_a_page}
-use Rattle.store_residents.specs.Slots.{slots_of}
-use Rattle.store_residents.specs.Victims.{IsOldest}
-use Rattle.store_residents.proofs.ResidentLemmas.{live_iff, lock_iff, no_later, one_each}
-use Rattle.store_residents.proofs.SlotLaws.{full_iff}
-use Rattle.desc_parents.specs.Seen.{seen}
-use Rattle.desc_groups.specs.declared.departures.Gone.{Gone}
-use Rattle.desc_groups.specs.Moves.{departed_all, idents_of, MayBeLocked}
-use Rattle.desc_groups.specs.Whole.{AreWhole}
+use Rattle.desc_tables.specs.desc_stores.specs.Contents.{residents_of, Contents, IsFullOf, LockIs}
+use Rattle.desc_tables.specs.group_laws.specs.Leaving.{without_all}
+use Rattle.desc_tables.specs.group_laws.proofs.Ranks.{parent_leaves_later}
+use Rattle.desc_tables.specs.group_laws.proofs.Remaining.{without_all_cases}
+use Rattle.desc_tables.specs.shown_state.specs.Shown.{shown}
+use Rattle.desc_tables.specs.shown_state.proofs.DependenceLemmas.{same_fit}
+use Rattle.desc_tables.specs.shown_state.proofs.LookupLemmas.{one_row_a_page}
+use Rattle.desc_tables.specs.store_residents.specs.Slots.{slots_of}
+use Rattle.desc_tables.specs.store_residents.specs.Victims.{IsOldest}
+use Rattle.desc_tables.specs.store_residents.proofs.ResidentLemmas.{live_iff, lock_iff, no_later, one_each}
+use Rattle.desc_tables.specs.store_residents.proofs.SlotLaws.{full_iff}
+use Rattle.desc_tables.specs.desc_parents.specs.Seen.{seen}
+use Rattle.desc_tables.specs.desc_groups.specs.declared.departures.Gone.{Gone}
+use Rattle.desc_tables.specs.desc_groups.specs.Moves.{departed_all, idents_of, MayBeLocked}
+use Rattle.desc_tables.specs.desc_groups.specs.Whole.{AreWhole}
 use Rattle.board_laws.specs.Moves.{written_back, IsLoad, IsLock}
 use Rattle.board_laws.specs.Telling.{AreAsTold}
 use Rattle.board_laws.proofs.Departing.{group_entries, group_leaves_behind, told_displaced}

@@ -13,15 +13,15 @@ use Rattle.run_journal.specs.declared.entries.Entry.{Entry}
 use Rattle.run_journal.specs.declared.entries.Entry.TheVariants.{Locked, Unlocked}
 use Rattle.run_journal.specs.Legal.{first_ident, limit_of, locked_by, MayLock, MayUnlock}
 use Rattle.run_journal.specs.Told.{Anything, Due, told_of}
-use Rattle.desc_stores.specs.Contents.{resident_as, residents_of, Contents, LockIs}
-use Rattle.shown_state.specs.Shown.{shown}
-use Rattle.shown_state.proofs.DependenceLemmas.{same_owner}
-use Rattle.store_residents.proofs.ResidentLemmas.{live_iff, lock_iff, resident_loaded}
-use Rattle.store_residents.proofs.SlotLaws.{what_is_there}
-use Rattle.desc_parents.specs.Seen.{seen}
-use Rattle.desc_groups.specs.Moves.{MayBeLocked}
-use Rattle.desc_groups.specs.Whole.{AreWhole}
-use Rattle.desc_groups.proofs.OwnerLemmas.{resident_owned}
+use Rattle.desc_tables.specs.desc_stores.specs.Contents.{resident_as, residents_of, Contents, LockIs}
+use Rattle.desc_tables.specs.shown_state.specs.Shown.{shown}
+use Rattle.desc_tables.specs.shown_state.proofs.DependenceLemmas.{same_owner}
+use Rattle.desc_tables.specs.store_residents.proofs.ResidentLemmas.{live_iff, lock_iff, resident_loaded}
+use Rattle.desc_tables.specs.store_residents.proofs.SlotLaws.{what_is_there}
+use Rattle.desc_tables.specs.desc_parents.specs.Seen.{seen}
+use Rattle.desc_tables.specs.desc_groups.specs.Moves.{MayBeLocked}
+use Rattle.desc_tables.specs.desc_groups.specs.Whole.{AreWhole}
+use Rattle.desc_tables.specs.desc_groups.proofs.OwnerLemmas.{resident_owned}
 use Rattle.board_laws.specs.Moves.{IsLock}
 use Rattle.board_laws.specs.Telling.{AreAsTold}
 use Rattle.board_laws.proofs.Growing.{entry_told, same_told, tells}

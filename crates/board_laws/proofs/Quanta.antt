@@ -14,8 +14,8 @@ use Rattle.quantum.specs.LocalRun.{committed, touched_views, CouldRun, GoesThrou
 use Rattle.run_journal.specs.declared.entries.Entry.{Entry}
 use Rattle.run_journal.specs.declared.entries.Entry.TheVariants.{Ran}
 use Rattle.run_journal.specs.Legal.{after_steps, IsRowResident, MayStep}
-use Rattle.desc_stores.specs.Contents.{residents_of, Contents}
-use Rattle.shown_state.specs.Shown.{shown}
+use Rattle.desc_tables.specs.desc_stores.specs.Contents.{residents_of, Contents}
+use Rattle.desc_tables.specs.shown_state.specs.Shown.{shown}
 use Rattle.board_laws.specs.Moves.{KeepsLoaded}
 use Rattle.board_laws.specs.Telling.{AreAsTold}
 use Rattle.board_laws.proofs.Growing.{formed_told}

@@ -16,9 +16,9 @@ use Rattle.flat_state.specs.State.{FlatState}
 use Rattle.run_journal.specs.declared.entries.Entry.{Entry}
 use Rattle.run_journal.specs.declared.entries.Entry.TheVariants.{Completed, Ended, Ran}
 use Rattle.run_journal.specs.Legal.{after_steps, AreGood, MayStep}
-use Rattle.desc_stores.specs.Contents.{residents_of, Contents}
-use Rattle.shown_state.specs.Shown.{shown}
-use Rattle.desc_groups.specs.Whole.{AreWhole}
+use Rattle.desc_tables.specs.desc_stores.specs.Contents.{residents_of, Contents}
+use Rattle.desc_tables.specs.shown_state.specs.Shown.{shown}
+use Rattle.desc_tables.specs.desc_groups.specs.Whole.{AreWhole}
 use Rattle.board_laws.specs.Moves.{KeepsLoaded}
 use Rattle.board_laws.specs.Telling.{AreAsTold}
 use Rattle.board_laws.proofs.Growing.{entry_told, same_told}

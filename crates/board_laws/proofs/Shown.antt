@@ -12,14 +12,14 @@ use Rattle.flat_state.specs.declared.events.Machine.{Machine}
 use Rattle.flat_state.specs.Names.{stands}
 use Rattle.run_journal.specs.Groups.{node_of, ArePairsOf, HasParents}
 use Rattle.run_journal.specs.Legal.{cap_of, limit_of, locked_by, AreGood}
-use Rattle.resident_pairs.proofs.Staying.{same_keeps}
-use Rattle.desc_stores.specs.Contents.{Contents}
-use Rattle.desc_stores.specs.Sound.{IsExactlyOne}
-use Rattle.group_laws.proofs.LockCounts.{locks_same}
-use Rattle.shown_state.specs.Shown.{shown}
-use Rattle.shown_state.proofs.DependenceLemmas.{same_class, same_fit, same_owner, same_parents}
-use Rattle.shown_state.proofs.LookupLemmas.{name_stands}
-use Rattle.desc_parents.specs.Seen.{seen}
+use Rattle.desc_tables.specs.resident_pairs.proofs.Staying.{same_keeps}
+use Rattle.desc_tables.specs.desc_stores.specs.Contents.{Contents}
+use Rattle.desc_tables.specs.desc_stores.specs.Sound.{IsExactlyOne}
+use Rattle.desc_tables.specs.group_laws.proofs.LockCounts.{locks_same}
+use Rattle.desc_tables.specs.shown_state.specs.Shown.{shown}
+use Rattle.desc_tables.specs.shown_state.proofs.DependenceLemmas.{same_class, same_fit, same_owner, same_parents}
+use Rattle.desc_tables.specs.shown_state.proofs.LookupLemmas.{name_stands}
+use Rattle.desc_tables.specs.desc_parents.specs.Seen.{seen}
 
 module _ (m : Machine) (memory : List ℕ) (c : Contents) where
   pub limit_shown : (kernel : KernelNo) (of : Kind) → limit_of (seen c) kernel of ≡ limit_of (shown (Some m) memory c) kernel of

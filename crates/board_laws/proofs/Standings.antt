@@ -13,8 +13,8 @@ use Rattle.flat_laws.proofs.Members.{Contains-behind, Contains-here}
 use Rattle.run_journal.specs.declared.entries.Entry.TheVariants.{WrittenBack}
 use Rattle.run_journal.specs.Standing.{standing_after, standing_from}
 use Rattle.run_journal.proofs.Others.{other_ident}
-use Rattle.desc_groups.specs.declared.departures.Gone.{Gone}
-use Rattle.desc_groups.specs.Moves.{departed_all, idents_of}
+use Rattle.desc_tables.specs.desc_groups.specs.declared.departures.Gone.{Gone}
+use Rattle.desc_tables.specs.desc_groups.specs.Moves.{departed_all, idents_of}
 use Rattle.board_laws.specs.Moves.{written_back}
 
 -- the identifier was issued

@@ -1,2 +1,12 @@
+pub use Rattle.desc_tables.specs.desc_admits
+pub use Rattle.desc_tables.specs.desc_groups
+pub use Rattle.desc_tables.specs.desc_parents
+pub use Rattle.desc_tables.specs.desc_stores
+pub use Rattle.desc_tables
+pub use Rattle.desc_tables.specs.group_laws
+pub use Rattle.desc_tables.specs.journal_laws
+pub use Rattle.quantum
+pub use Rattle.desc_tables.specs.shown_state
+pub use Rattle.desc_tables.specs.store_residents
 pub mod Telling
 pub mod Moves

@@ -15,15 +15,15 @@ use Rattle.run_journal.specs.declared.entries.Entry.{Entry}
 use Rattle.run_journal.specs.declared.entries.Entry.TheVariants.{WrittenBack}
 use Rattle.run_journal.specs.Groups.{IsGroup}
 use Rattle.run_journal.specs.Legal.{IsTaken}
-use Rattle.desc_stores.specs.declared.items.Item.{Item}
-use Rattle.desc_stores.specs.declared.items.Item.TheVariants as item
-use Rattle.desc_stores.specs.Contents.{residents_of, Contents, IsFullOf}
-use Rattle.shown_state.specs.Shown.{flat_kernel, flat_thread, shown}
-use Rattle.store_residents.specs.Victims.{IsOldest}
-use Rattle.group_laws.specs.Leaving.{without_all}
-use Rattle.desc_parents.specs.Seen.{seen}
-use Rattle.desc_groups.specs.declared.departures.Gone.{Gone}
-use Rattle.desc_groups.specs.Moves.{departed_all, gone_as, idents_of, KeepsButCounts}
+use Rattle.desc_tables.specs.desc_stores.specs.declared.items.Item.{Item}
+use Rattle.desc_tables.specs.desc_stores.specs.declared.items.Item.TheVariants as item
+use Rattle.desc_tables.specs.desc_stores.specs.Contents.{residents_of, Contents, IsFullOf}
+use Rattle.desc_tables.specs.shown_state.specs.Shown.{flat_kernel, flat_thread, shown}
+use Rattle.desc_tables.specs.store_residents.specs.Victims.{IsOldest}
+use Rattle.desc_tables.specs.group_laws.specs.Leaving.{without_all}
+use Rattle.desc_tables.specs.desc_parents.specs.Seen.{seen}
+use Rattle.desc_tables.specs.desc_groups.specs.declared.departures.Gone.{Gone}
+use Rattle.desc_tables.specs.desc_groups.specs.Moves.{departed_all, gone_as, idents_of, KeepsButCounts}
 
 -- the item is what the declaration declares, and a kernel has locked nothing
 abbrev pub Declares : Decl → Item → Type 0

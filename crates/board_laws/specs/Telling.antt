@@ -7,8 +7,8 @@ use Rattle.run_journal.specs.declared.entries.Entry.{Entry}
 use Rattle.run_journal.specs.Legal.{IsLegal}
 use Rattle.run_journal.specs.Standing.{standing_of}
 use Rattle.run_journal.specs.Told.{told}
-use Rattle.desc_stores.specs.Contents.{residents_of, Contents}
-use Rattle.shown_state.specs.Shown.{shown}
+use Rattle.desc_tables.specs.desc_stores.specs.Contents.{residents_of, Contents}
+use Rattle.desc_tables.specs.shown_state.specs.Shown.{shown}
 
 -- The journal is legal. Of the machine with unlimited tables it tells what that machine, this memory and the contents show; what is
 -- resident is what is loaded, in order of loading; each identifier stands where the roll has it; as many were loaded as were

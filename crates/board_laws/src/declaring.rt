@@ -11,11 +11,11 @@ ghost use Rattle.flat_state.specs.Declaration.{broken_rule, declared};
 ghost use Rattle.flat_state.specs.State.{nothing_declared};
 ghost use Rattle.run_journal.specs.declared.entries.Entry.{Entry};
 ghost use Rattle.run_journal.specs.declared.entries.Entry.TheVariants.{Declared};
-ghost use Rattle.desc_stores.specs.declared.items.Item.{Item};
-ghost use Rattle.desc_stores.specs.Changes.{IsNothing};
-ghost use Rattle.desc_stores.specs.Contents.{Contents};
-ghost use Rattle.shown_state.specs.Edits.{with_new};
-ghost use Rattle.shown_state.specs.Shown.{shown};
+ghost use Rattle.desc_tables.specs.desc_stores.specs.declared.items.Item.{Item};
+ghost use Rattle.desc_tables.specs.desc_stores.specs.Changes.{IsNothing};
+ghost use Rattle.desc_tables.specs.desc_stores.specs.Contents.{Contents};
+ghost use Rattle.desc_tables.specs.shown_state.specs.Edits.{with_new};
+ghost use Rattle.desc_tables.specs.shown_state.specs.Shown.{shown};
 ghost use Rattle.board_laws.specs.Moves.{Declares, KeepsLoaded};
 ghost use Rattle.board_laws.specs.Telling.{AreAsTold};
 

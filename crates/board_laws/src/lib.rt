@@ -4,6 +4,9 @@
 //! Each is the contract of a function with an empty body.
 #![tactic(auto)]
 
+pub use desc_tables as desc_tables;
+pub use quantum as quantum;
+
 mod admitting;
 mod declaring;
 mod leaving;

@@ -10,10 +10,10 @@ ghost use Rattle.flat_state.specs.declared.events.Machine.{Machine};
 ghost use Rattle.run_journal.specs.Legal.{first_ident};
 ghost use Rattle.run_journal.specs.declared.entries.Entry.{Entry};
 ghost use Rattle.run_journal.specs.declared.entries.Entry.TheVariants.{Loaded, Locked, Sealed};
-ghost use Rattle.desc_stores.specs.Contents.{Contents};
-ghost use Rattle.desc_groups.specs.declared.departures.Gone.{Gone};
-ghost use Rattle.desc_groups.specs.Moves.{MayBeLocked};
-ghost use Rattle.desc_groups.specs.Whole.{AreWhole};
+ghost use Rattle.desc_tables.specs.desc_stores.specs.Contents.{Contents};
+ghost use Rattle.desc_tables.specs.desc_groups.specs.declared.departures.Gone.{Gone};
+ghost use Rattle.desc_tables.specs.desc_groups.specs.Moves.{MayBeLocked};
+ghost use Rattle.desc_tables.specs.desc_groups.specs.Whole.{AreWhole};
 ghost use Rattle.board_laws.specs.Moves.{IsLoad, IsLock, written_back};
 ghost use Rattle.board_laws.specs.Telling.{AreAsTold};
 

@@ -10,9 +10,9 @@ ghost use Rattle.flat_state.specs.declared.events.Machine.{Machine};
 ghost use Rattle.run_journal.specs.Legal.{first_ident};
 ghost use Rattle.run_journal.specs.declared.entries.Entry.{Entry};
 ghost use Rattle.run_journal.specs.declared.entries.Entry.TheVariants.{Locked, Unlocked};
-ghost use Rattle.desc_stores.specs.Contents.{Contents, LockIs};
-ghost use Rattle.desc_groups.specs.Moves.{MayBeLocked};
-ghost use Rattle.desc_groups.specs.Whole.{AreWhole};
+ghost use Rattle.desc_tables.specs.desc_stores.specs.Contents.{Contents, LockIs};
+ghost use Rattle.desc_tables.specs.desc_groups.specs.Moves.{MayBeLocked};
+ghost use Rattle.desc_tables.specs.desc_groups.specs.Whole.{AreWhole};
 ghost use Rattle.board_laws.specs.Moves.{IsLock};
 ghost use Rattle.board_laws.specs.Telling.{AreAsTold};
 

@@ -17,9 +17,9 @@ ghost use Rattle.quantum.specs.LocalRun.{committed, touched_views, CouldRun, IsL
 ghost use Rattle.run_journal.specs.Legal.{after_steps, MayStep};
 ghost use Rattle.run_journal.specs.declared.entries.Entry.{Entry};
 ghost use Rattle.run_journal.specs.declared.entries.Entry.TheVariants.{Completed, Ended, Ran};
-ghost use Rattle.desc_stores.specs.Contents.{Contents, residents_of};
-ghost use Rattle.shown_state.specs.Shown.{shown};
-ghost use Rattle.desc_groups.specs.Whole.{AreWhole};
+ghost use Rattle.desc_tables.specs.desc_stores.specs.Contents.{Contents, residents_of};
+ghost use Rattle.desc_tables.specs.shown_state.specs.Shown.{shown};
+ghost use Rattle.desc_tables.specs.desc_groups.specs.Whole.{AreWhole};
 ghost use Rattle.board_laws.specs.Moves.{KeepsLoaded};
 ghost use Rattle.board_laws.specs.Telling.{AreAsTold};
 

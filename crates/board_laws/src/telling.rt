@@ -9,8 +9,8 @@ ghost use Rattle.flat_state.specs.WellFormed.{IsWellFormed};
 ghost use Rattle.run_journal.specs.declared.entries.Entry.{Entry};
 ghost use Rattle.run_journal.specs.Entries.{erase};
 ghost use Rattle.run_journal.specs.Standing.{StandsAs};
-ghost use Rattle.desc_stores.specs.Contents.{Contents};
-ghost use Rattle.shown_state.specs.Shown.{shown};
+ghost use Rattle.desc_tables.specs.desc_stores.specs.Contents.{Contents};
+ghost use Rattle.desc_tables.specs.shown_state.specs.Shown.{shown};
 ghost use Rattle.board_laws.specs.Moves.{KeepsLoaded, ShowsTheSame};
 ghost use Rattle.board_laws.specs.Telling.{AreAsTold};
 

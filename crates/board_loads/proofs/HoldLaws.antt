@@ -10,14 +10,14 @@ use Rattle.flat_state.specs.Dependence.{owner}
 use Rattle.flat_state.specs.State.{FlatState}
 use Rattle.run_journal.specs.Groups.{IsGroup}
 use Rattle.run_journal.specs.Legal.{first_ident, limit_of, locked_by}
-use Rattle.desc_stores.specs.Contents.{resident_as, residents_of, Contents, LockIs}
-use Rattle.store_residents.proofs.ResidentLemmas.{resident_loaded}
-use Rattle.desc_parents.specs.Seen.{seen}
-use Rattle.desc_groups.specs.Moves.{departed_all, idents_of, MayBeLocked}
-use Rattle.group_laws.specs.Leaving.{without_all}
-use Rattle.board_laws.specs.Moves.{written_back, IsLock, IsUnload}
-use Rattle.board_laws.proofs.First.{first, first_there}
-use Rattle.cached_machine.specs.Posts.{HasLoadedMarks, HasSameMarks}
+use Rattle.board_core.specs.desc_stores.specs.Contents.{resident_as, residents_of, Contents, LockIs}
+use Rattle.board_core.specs.store_residents.proofs.ResidentLemmas.{resident_loaded}
+use Rattle.board_core.specs.desc_parents.specs.Seen.{seen}
+use Rattle.board_core.specs.desc_groups.specs.Moves.{departed_all, idents_of, MayBeLocked}
+use Rattle.board_core.specs.group_laws.specs.Leaving.{without_all}
+use Rattle.board_core.specs.board_laws.specs.Moves.{written_back, IsLock, IsUnload}
+use Rattle.board_core.specs.board_laws.proofs.First.{first, first_there}
+use Rattle.board_core.specs.cached_machine.specs.Posts.{HasLoadedMarks, HasSameMarks}
 use Rattle.board_core.specs.Core.{contents_of, IsSound, Recorded}
 use Rattle.board_core.specs.Growth.{GrowsBy, OnlyMakesRoom}
 use Rattle.board_loads.specs.Holds.{entries_of_lock, IsLockedAs, IsUnloadedAs}

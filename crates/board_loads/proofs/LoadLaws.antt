@@ -18,19 +18,19 @@ use Rattle.flat_state.specs.State.{FlatState}
 use Rattle.run_journal.specs.declared.entries.Entry.TheVariants.{Loaded}
 use Rattle.run_journal.specs.Groups.{HasParents, IsGroup}
 use Rattle.run_journal.specs.Legal.{count_of, IsTaken}
-use Rattle.group_laws.specs.Leaving.{without_all}
-use Rattle.desc_stores.specs.Contents.{content_of, residents_of, IsFullOf, IsShelved}
-use Rattle.shown_state.proofs.LookupLemmas.{name_stands}
-use Rattle.store_residents.specs.Victims.{IsOldest}
-use Rattle.store_residents.proofs.ContentLemmas.{shelved_iff}
-use Rattle.store_residents.proofs.SlotLaws.{full_iff}
-use Rattle.desc_parents.specs.Seen.{seen}
-use Rattle.desc_groups.specs.declared.departures.Gone.{Gone}
-use Rattle.desc_groups.specs.Moves.{departed_all, idents_of}
-use Rattle.desc_admits.specs.May.{MayBeLoaded}
-use Rattle.desc_tables.specs.Tables.{AreSound}
-use Rattle.board_laws.specs.Moves.{written_back, IsLoad}
-use Rattle.cached_machine.specs.Posts.{mark_of, HasLoadedMarks}
+use Rattle.board_core.specs.group_laws.specs.Leaving.{without_all}
+use Rattle.board_core.specs.desc_stores.specs.Contents.{content_of, residents_of, IsFullOf, IsShelved}
+use Rattle.board_core.specs.shown_state.proofs.LookupLemmas.{name_stands}
+use Rattle.board_core.specs.store_residents.specs.Victims.{IsOldest}
+use Rattle.board_core.specs.store_residents.proofs.ContentLemmas.{shelved_iff}
+use Rattle.board_core.specs.store_residents.proofs.SlotLaws.{full_iff}
+use Rattle.board_core.specs.desc_parents.specs.Seen.{seen}
+use Rattle.board_core.specs.desc_groups.specs.declared.departures.Gone.{Gone}
+use Rattle.board_core.specs.desc_groups.specs.Moves.{departed_all, idents_of}
+use Rattle.board_core.specs.desc_admits.specs.May.{MayBeLoaded}
+use Rattle.board_core.specs.desc_tables.specs.Tables.{AreSound}
+use Rattle.board_core.specs.board_laws.specs.Moves.{written_back, IsLoad}
+use Rattle.board_core.specs.cached_machine.specs.Posts.{mark_of, HasLoadedMarks}
 use Rattle.board_checks.specs.Facts.{IsLoadable}
 use Rattle.board_core.specs.Core.{contents_of, Recorded}
 use Rattle.board_core.specs.Growth.{GrowsBy, OnlyMakesRoom}

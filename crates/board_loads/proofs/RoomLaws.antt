@@ -9,13 +9,13 @@ use Rattle.flat_state.specs.Events.{after_events}
 use Rattle.flat_state.specs.State.{FlatState}
 use Rattle.run_journal.specs.declared.entries.Entry.{Entry}
 use Rattle.run_journal.specs.Entries.{erase}
-use Rattle.desc_stores.specs.Contents.{residents_of, Contents}
-use Rattle.shown_state.specs.Shown.{shown}
-use Rattle.desc_parents.specs.Seen.{seen}
-use Rattle.board_laws.specs.Moves.{ShowsTheSame}
-use Rattle.board_laws.proofs.Growing.{formed_told}
-use Rattle.cached_machine.specs.Cached.{is_loaded}
-use Rattle.cached_machine.specs.Posts.{HasLoadedMarks, HasSameMarks}
+use Rattle.board_core.specs.desc_stores.specs.Contents.{residents_of, Contents}
+use Rattle.board_core.specs.shown_state.specs.Shown.{shown}
+use Rattle.board_core.specs.desc_parents.specs.Seen.{seen}
+use Rattle.board_core.specs.board_laws.specs.Moves.{ShowsTheSame}
+use Rattle.board_core.specs.board_laws.proofs.Growing.{formed_told}
+use Rattle.board_core.specs.cached_machine.specs.Cached.{is_loaded}
+use Rattle.board_core.specs.cached_machine.specs.Posts.{HasLoadedMarks, HasSameMarks}
 use Rattle.board_checks.specs.Facts.{IsFormed}
 use Rattle.board_core.specs.Core.{contents_of, IsSound, Recorded}
 use Rattle.board_core.specs.Growth.{count_loaded, count_unkept, is_kept, GrowsBy, OnlyMakesRoom}

@@ -27,11 +27,11 @@ use Rattle.flat_state.specs.Translation.{is_fit_row}
 use Rattle.run_journal.specs.Legal.{is_kind, limit_of, locked_by}
 use Rattle.run_journal.proofs.Whole.{nothing_loaded}
 use Rattle.kind_store.specs.Changes.{is_name}
-use Rattle.desc_stores.specs.Contents.{resident_as, residents_of, Contents}
-use Rattle.desc_parents.specs.Idents.{ident_of}
-use Rattle.desc_parents.specs.Seen.{seen}
-use Rattle.board_ops.specs.declared.refusals.Refused.{Refused}
-use Rattle.board_ops.specs.declared.refusals.Refused.TheVariants as why
+use Rattle.board_core.specs.desc_stores.specs.Contents.{resident_as, residents_of, Contents}
+use Rattle.board_core.specs.desc_parents.specs.Idents.{ident_of}
+use Rattle.board_core.specs.desc_parents.specs.Seen.{seen}
+use Rattle.board_core.specs.board_ops.specs.declared.refusals.Refused.{Refused}
+use Rattle.board_core.specs.board_ops.specs.declared.refusals.Refused.TheVariants as why
 use Rattle.board_checks.specs.Identifiers.{gone_by, kernel_as, name_as, not_a, not_a_receiver, not_live, receiver_as, space_as, wrong_kind}
 use Rattle.board_checks.specs.Refusals.{already_loaded, at_limit, beyond_rights, first_kernel, is_absent, is_first_kernel, limit_reached, limit_reached_by, not_declared, not_owned, not_owned_as, not_owner, receivers_absent, refusal_in_space, refusal_of_load_kernel, refusal_of_load_mapping, refusal_of_load_space, refusal_of_load_thread, refusal_of_lock, refusal_of_row, refusal_of_unload, wrong_parent, wrong_receiver, wrong_space}
 use Rattle.board_core.specs.Core.{contents_of, IsSound, Recorded}

@@ -6,12 +6,12 @@ use Rattle.cache_ident.specs.Residents.{Resident, with_lock}
 use Rattle.run_journal.specs.declared.entries.Entry.{Entry}
 use Rattle.run_journal.specs.declared.entries.Entry.TheVariants.{Locked, Unlocked}
 use Rattle.run_journal.specs.Groups.{IsGroup}
-use Rattle.desc_stores.specs.Contents.{residents_of}
-use Rattle.desc_parents.specs.Seen.{seen}
-use Rattle.desc_groups.specs.Moves.{departed_all, gone_as, idents_of}
-use Rattle.group_laws.specs.Leaving.{without_all}
-use Rattle.board_laws.specs.Moves.{written_back}
-use Rattle.cached_machine.specs.Posts.{HasLoadedMarks, HasSameMarks}
+use Rattle.board_core.specs.desc_stores.specs.Contents.{residents_of}
+use Rattle.board_core.specs.desc_parents.specs.Seen.{seen}
+use Rattle.board_core.specs.desc_groups.specs.Moves.{departed_all, gone_as, idents_of}
+use Rattle.board_core.specs.group_laws.specs.Leaving.{without_all}
+use Rattle.board_core.specs.board_laws.specs.Moves.{written_back}
+use Rattle.board_core.specs.cached_machine.specs.Posts.{HasLoadedMarks, HasSameMarks}
 use Rattle.board_core.specs.Core.{contents_of, Recorded}
 use Rattle.board_core.specs.Growth.{GrowsBy}
 

@@ -5,9 +5,9 @@ use Rattle.cache_ident.specs.declared.names.Name.{Name}
 use Rattle.cache_ident.specs.declared.names.Name.TheVariants.{Thread}
 use Rattle.cache_ident.specs.declared.names.ThreadNo.{ThreadNo}
 use Rattle.run_journal.specs.declared.entries.Entry.TheVariants.{Loaded}
-use Rattle.desc_admits.specs.May.{MayBeLoaded}
-use Rattle.board_laws.specs.Moves.{written_back, IsLoad}
-use Rattle.cached_machine.specs.Posts.{mark_of, HasLoadedMarks}
+use Rattle.board_core.specs.desc_admits.specs.May.{MayBeLoaded}
+use Rattle.board_core.specs.board_laws.specs.Moves.{written_back, IsLoad}
+use Rattle.board_core.specs.cached_machine.specs.Posts.{mark_of, HasLoadedMarks}
 use Rattle.board_core.specs.Core.{contents_of, Recorded}
 use Rattle.board_core.specs.Growth.{GrowsBy}
 

@@ -1,7 +1,7 @@
 //! Unloads and locks.
 
 ghost use Rattle.std.specs.Prelude.{◌≡◌, ◌≢◌, ◌<◌, false, true, None, IfErr, OnOk};
-ghost use Rattle.board_ops.specs.declared.refusals.Refused.TheVariants.{NoMemory};
+ghost use Rattle.board_core.specs.board_ops.specs.declared.refusals.Refused.TheVariants.{NoMemory};
 ghost use Rattle.board_checks.specs.Refusals.{refusal_of_lock, refusal_of_unload, refusal_of_unlock};
 ghost use Rattle.board_core.specs.Answers.{HasSpare, IsRefused};
 ghost use Rattle.board_core.specs.Core.{contents_of};
@@ -10,7 +10,7 @@ ghost use Rattle.board_loads.specs.Holds.{IsLockedAs, IsUnloadedAs};
 use crate::tables::tables_of;
 use board_checks::{check_lock, check_unload, check_unlock};
 use board_core::Core;
-use board_ops::Refused;
+use board_core::board_ops::Refused;
 use cache_ident::Ident;
 
 /// Unloads what is loaded with an identifier for the kernel `caller`, which has to own it, and before it all that depends on it.

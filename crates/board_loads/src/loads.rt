@@ -6,7 +6,7 @@ ghost use Rattle.std.specs.Prelude.{◌≡◌, ◌≢◌, ◌<◌, true, None, S
 ghost use Rattle.std.specs.Result.{result_err};
 ghost use Rattle.cache_ident.specs.declared.names.Name.{Name};
 ghost use Rattle.cache_ident.specs.declared.names.SpaceNo.{SpaceNo};
-ghost use Rattle.board_ops.specs.declared.refusals.Refused.TheVariants.{NoMemory};
+ghost use Rattle.board_core.specs.board_ops.specs.declared.refusals.Refused.TheVariants.{NoMemory};
 ghost use Rattle.board_checks.specs.Facts.{IsLoadable};
 ghost use Rattle.board_checks.specs.Identifiers.{space_as};
 ghost use Rattle.board_checks.specs.Refusals.{refusal_of_load_kernel, refusal_of_load_mapping, refusal_of_load_space, refusal_of_load_thread};
@@ -19,7 +19,7 @@ use board_checks::{
     check_load_kernel, check_load_mapping, check_load_space, check_load_thread, keep_of,
 };
 use board_core::Core;
-use board_ops::Refused;
+use board_core::board_ops::Refused;
 use cache_ident::{Ident, KernelNo, Name, SpaceNo, ThreadNo, Vpn};
 
 /// Loads a kernel for the kernel `caller`, which has to be the first one, and answers the new identifier.

@@ -25,21 +25,21 @@ use Rattle.slot_cache.specs.Cells.{cell_at}
 use Rattle.flat_state.specs.WellFormed.{IsWellFormed}
 use Rattle.thread_cache.specs.Threads as thread_rec
 use Rattle.thread_cache.specs.declared.ThreadRec.{ThreadRec}
-use Rattle.desc_stores.specs.declared.items.Item.TheVariants as item
-use Rattle.desc_stores.specs.Contents.{content_of, resident_of, residents_of}
-use Rattle.desc_stores.specs.Sound.{IsExactlyOne}
-use Rattle.shown_state.specs.Found.{AreFound}
-use Rattle.shown_state.specs.Shown.{flat_thread, shown, thread_of}
-use Rattle.shown_state.proofs.ContentLemmas.{item_has_name}
-use Rattle.store_residents.specs.Slots.{resident_at, HasSlots}
-use Rattle.store_residents.proofs.ResidentLemmas.{resident_seat}
-use Rattle.thread_sets.specs.SetsOf.{takes_steps}
+use Rattle.board_core.specs.desc_stores.specs.declared.items.Item.TheVariants as item
+use Rattle.board_core.specs.desc_stores.specs.Contents.{content_of, resident_of, residents_of}
+use Rattle.board_core.specs.desc_stores.specs.Sound.{IsExactlyOne}
+use Rattle.board_core.specs.shown_state.specs.Found.{AreFound}
+use Rattle.board_core.specs.shown_state.specs.Shown.{flat_thread, shown, thread_of}
+use Rattle.board_core.specs.shown_state.proofs.ContentLemmas.{item_has_name}
+use Rattle.board_core.specs.store_residents.specs.Slots.{resident_at, HasSlots}
+use Rattle.board_core.specs.store_residents.proofs.ResidentLemmas.{resident_seat}
+use Rattle.board_core.specs.thread_sets.specs.SetsOf.{takes_steps}
 use Rattle.ready_queue.specs.declared.Candidate.{Candidate}
 use Rattle.ready_queue.specs.Choice.{is_before}
-use Rattle.board_ops.specs.declared.refusals.Refused.{Refused}
-use Rattle.cached_machine.specs.Cached.{state_of, Cached}
-use Rattle.cached_machine.specs.Posts.{last_in, last_of, mark_of}
-use Rattle.cached_machine.proofs.LoadedLaws.{alone_in_slot}
+use Rattle.board_core.specs.board_ops.specs.declared.refusals.Refused.{Refused}
+use Rattle.board_core.specs.cached_machine.specs.Cached.{state_of, Cached}
+use Rattle.board_core.specs.cached_machine.specs.Posts.{last_in, last_of, mark_of}
+use Rattle.board_core.specs.cached_machine.proofs.LoadedLaws.{alone_in_slot}
 use Rattle.board_core.specs.Core.{contents_of, Recorded}
 use Rattle.board_threads.specs.Tests.{goes_on, passes}
 use Rattle.board_threads.specs.Waiting.{IsChosenOf, IsFirstThat, IsFree, IsFreeIn, IsWaiting}

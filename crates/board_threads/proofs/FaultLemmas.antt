@@ -33,17 +33,17 @@ use Rattle.flat_rules.specs.Looking.{does_any_miss}
 use Rattle.flat_rules.proofs.Missing.{faults_decoded, miss-store}
 use Rattle.run_journal.specs.Legal.{IsRowResident, MayStep}
 use Rattle.thread_cache.specs.declared.ThreadRec.{ThreadRec}
-use Rattle.desc_stores.specs.declared.items.Item.{Item}
-use Rattle.desc_stores.specs.declared.items.Item.TheVariants as item
-use Rattle.desc_stores.specs.Contents.{item_as, residents_of, Contents}
-use Rattle.shown_state.specs.Shown.{flat_thread, thread_of}
-use Rattle.board_ops.specs.declared.refusals.Refused.{Refused}
-use Rattle.board_ops.specs.declared.refusals.Refused.TheVariants as why
+use Rattle.board_core.specs.desc_stores.specs.declared.items.Item.{Item}
+use Rattle.board_core.specs.desc_stores.specs.declared.items.Item.TheVariants as item
+use Rattle.board_core.specs.desc_stores.specs.Contents.{item_as, residents_of, Contents}
+use Rattle.board_core.specs.shown_state.specs.Shown.{flat_thread, thread_of}
+use Rattle.board_core.specs.board_ops.specs.declared.refusals.Refused.{Refused}
+use Rattle.board_core.specs.board_ops.specs.declared.refusals.Refused.TheVariants as why
 use Rattle.board_checks.specs.Identifiers.{thread_as}
 use Rattle.board_checks.specs.Refusals.{refusal_of_thread}
-use Rattle.cached_machine.specs.Cached.{is_loaded, state_of}
-use Rattle.cached_machine.specs.Posts.{mark_of}
-use Rattle.cached_machine.proofs.LoadedLaws.{loaded_by}
+use Rattle.board_core.specs.cached_machine.specs.Cached.{is_loaded, state_of}
+use Rattle.board_core.specs.cached_machine.specs.Posts.{mark_of}
+use Rattle.board_core.specs.cached_machine.proofs.LoadedLaws.{loaded_by}
 use Rattle.board_core.specs.Core.{contents_of, Recorded}
 use Rattle.board_threads.specs.Faults.{IsFaulting}
 use Rattle.board_threads.specs.Refusals.{mapped_by, not_faulting, not_ready, not_waiting, over, refusal_of_ending, refusal_of_fault, refusal_of_next, row_absent}

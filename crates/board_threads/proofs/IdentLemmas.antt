@@ -20,19 +20,19 @@ use Rattle.thread_cache.specs.Threads as thread_rec
 use Rattle.thread_cache.specs.declared.ThreadRec.{ThreadRec}
 use Rattle.kind_store.specs.Kept as stored
 use Rattle.kind_store.specs.Rolls.{loaded_as}
-use Rattle.desc_stores.specs.declared.items.Item.{Item}
-use Rattle.desc_stores.specs.declared.items.Item.TheVariants as item
-use Rattle.desc_stores.specs.Contents.{content_of, item_as, item_in, resident_as, resident_in, resident_of, residents_of, Contents}
-use Rattle.desc_stores.specs.Items.{name_of}
-use Rattle.desc_stores.specs.Sound.{IsExactlyOne}
-use Rattle.desc_stores.proofs.KindLemmas.{own_ident}
-use Rattle.store_residents.proofs.ContentLemmas.{resident_content, resident_item}
-use Rattle.store_residents.proofs.ResidentLemmas.{live_iff, loaded_resident, one_each, resident_kind}
-use Rattle.desc_groups.proofs.OwnerLemmas.{name_of_loaded}
-use Rattle.board_ops.specs.declared.refusals.Refused.TheVariants as why
+use Rattle.board_core.specs.desc_stores.specs.declared.items.Item.{Item}
+use Rattle.board_core.specs.desc_stores.specs.declared.items.Item.TheVariants as item
+use Rattle.board_core.specs.desc_stores.specs.Contents.{content_of, item_as, item_in, resident_as, resident_in, resident_of, residents_of, Contents}
+use Rattle.board_core.specs.desc_stores.specs.Items.{name_of}
+use Rattle.board_core.specs.desc_stores.specs.Sound.{IsExactlyOne}
+use Rattle.board_core.specs.desc_stores.proofs.KindLemmas.{own_ident}
+use Rattle.board_core.specs.store_residents.proofs.ContentLemmas.{resident_content, resident_item}
+use Rattle.board_core.specs.store_residents.proofs.ResidentLemmas.{live_iff, loaded_resident, one_each, resident_kind}
+use Rattle.board_core.specs.desc_groups.proofs.OwnerLemmas.{name_of_loaded}
+use Rattle.board_core.specs.board_ops.specs.declared.refusals.Refused.TheVariants as why
 use Rattle.board_checks.specs.Identifiers.{gone_by, not_a, not_live, wrong_kind}
-use Rattle.cached_machine.specs.Cached.{is_loaded}
-use Rattle.cached_machine.proofs.LoadedLaws.{loads, not_loaded}
+use Rattle.board_core.specs.cached_machine.specs.Cached.{is_loaded}
+use Rattle.board_core.specs.cached_machine.proofs.LoadedLaws.{loads, not_loaded}
 
 -- a name that is resident is loaded
 pub loaded_if : (c : Contents) (n : Name) → IsNameResident (residents_of c) n → is_loaded c n ≡ true

@@ -16,14 +16,14 @@ use Rattle.flat_state.specs.Dependence.{owner}
 use Rattle.flat_state.specs.NextSteps.{next_step_of}
 use Rattle.flat_state.specs.State.{is_ready}
 use Rattle.run_journal.specs.Legal.{is_kind}
-use Rattle.desc_stores.specs.Contents.{Contents}
-use Rattle.desc_parents.specs.Seen.{seen}
-use Rattle.board_ops.specs.declared.refusals.Refused.{Refused}
-use Rattle.board_ops.specs.declared.refusals.Refused.TheVariants as why
+use Rattle.board_core.specs.desc_stores.specs.Contents.{Contents}
+use Rattle.board_core.specs.desc_parents.specs.Seen.{seen}
+use Rattle.board_core.specs.board_ops.specs.declared.refusals.Refused.{Refused}
+use Rattle.board_core.specs.board_ops.specs.declared.refusals.Refused.TheVariants as why
 use Rattle.board_checks.specs.Identifiers.{gone_by, kernel_as, name_as, not_a, not_live, thread_as, wrong_kind}
 use Rattle.board_checks.specs.Refusals.{not_owned, not_owned_as, not_owner}
-use Rattle.cached_machine.specs.Cached.{is_loaded, state_of}
-use Rattle.cached_machine.specs.Posts.{mark_of}
+use Rattle.board_core.specs.cached_machine.specs.Cached.{is_loaded, state_of}
+use Rattle.board_core.specs.cached_machine.specs.Posts.{mark_of}
 use Rattle.board_core.specs.Core.{contents_of, Recorded}
 use Rattle.board_threads.specs.Refusals.{mapped_by, not_faulting, not_ready, not_waiting, over, refusal_of_ending, refusal_of_fault, refusal_of_next, row_absent}
 

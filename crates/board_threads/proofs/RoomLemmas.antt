@@ -18,21 +18,21 @@ use Rattle.flat_state.specs.Dependence.{owner}
 use Rattle.flat_state.specs.NextSteps.{next_step_of}
 use Rattle.flat_state.specs.State.{FlatState}
 use Rattle.kind_store.specs.Changes.{is_name}
-use Rattle.desc_stores.specs.declared.items.Item.{Item}
-use Rattle.desc_stores.specs.declared.items.Item.TheVariants as item
-use Rattle.desc_stores.specs.Contents.{item_as, residents_of, Contents}
-use Rattle.desc_stores.specs.Items.{name_of}
-use Rattle.desc_stores.specs.Sound.{IsExactlyOne}
-use Rattle.shown_state.specs.Found.{AreFound}
-use Rattle.shown_state.specs.Shown.{shown, thread_of}
-use Rattle.store_residents.proofs.ContentLemmas.{resident_content, resident_item}
-use Rattle.store_residents.proofs.ResidentLemmas.{one_each}
-use Rattle.desc_parents.specs.Seen.{seen}
-use Rattle.board_ops.specs.declared.refusals.Refused.{Refused}
-use Rattle.board_ops.specs.declared.refusals.Refused.TheVariants as why
+use Rattle.board_core.specs.desc_stores.specs.declared.items.Item.{Item}
+use Rattle.board_core.specs.desc_stores.specs.declared.items.Item.TheVariants as item
+use Rattle.board_core.specs.desc_stores.specs.Contents.{item_as, residents_of, Contents}
+use Rattle.board_core.specs.desc_stores.specs.Items.{name_of}
+use Rattle.board_core.specs.desc_stores.specs.Sound.{IsExactlyOne}
+use Rattle.board_core.specs.shown_state.specs.Found.{AreFound}
+use Rattle.board_core.specs.shown_state.specs.Shown.{shown, thread_of}
+use Rattle.board_core.specs.store_residents.proofs.ContentLemmas.{resident_content, resident_item}
+use Rattle.board_core.specs.store_residents.proofs.ResidentLemmas.{one_each}
+use Rattle.board_core.specs.desc_parents.specs.Seen.{seen}
+use Rattle.board_core.specs.board_ops.specs.declared.refusals.Refused.{Refused}
+use Rattle.board_core.specs.board_ops.specs.declared.refusals.Refused.TheVariants as why
 use Rattle.board_checks.specs.Identifiers.{gone_by, kernel_as, kernel_number, name_as, not_a, not_live, thread_as, wrong_kind}
 use Rattle.board_checks.specs.Refusals.{not_owned, not_owner, refusal_of_thread}
-use Rattle.cached_machine.specs.Cached.{state_of, Cached}
+use Rattle.board_core.specs.cached_machine.specs.Cached.{state_of, Cached}
 use Rattle.board_core.specs.Core.{contents_of, Recorded}
 use Rattle.board_core.specs.Growth.{OnlyMakesRoom}
 use Rattle.board_threads.specs.Refusals.{not_faulting, not_ready, not_waiting, over, refusal_of_ending, refusal_of_fault, refusal_of_next, row_absent}

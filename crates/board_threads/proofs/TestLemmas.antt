@@ -10,9 +10,9 @@ use Rattle.flat_state.specs.Signals.{full_receiver, is_runnable}
 use Rattle.flat_state.specs.State.{FlatState, is_ready}
 use Rattle.number_set.specs.First.{IsFirstFrom}
 use Rattle.number_set.specs.Members.{is_in}
-use Rattle.thread_sets.specs.Sets.{Sets}
-use Rattle.thread_sets.specs.SetsOf.{takes_steps, AreSetsOf}
-use Rattle.cached_machine.specs.Cached.{state_of, Cached}
+use Rattle.board_core.specs.thread_sets.specs.Sets.{Sets}
+use Rattle.board_core.specs.thread_sets.specs.SetsOf.{takes_steps, AreSetsOf}
+use Rattle.board_core.specs.cached_machine.specs.Cached.{state_of, Cached}
 use Rattle.board_core.specs.Core.{Recorded}
 use Rattle.board_threads.specs.Tests.{completes, goes_on, is_ready_at, passes}
 

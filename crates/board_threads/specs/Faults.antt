@@ -8,10 +8,10 @@ use Rattle.flat_state.specs.declared.records.NextStep.{NextStep}
 use Rattle.flat_state.specs.NextSteps.{next_step}
 use Rattle.run_journal.specs.declared.entries.Entry.TheVariants.{Ended}
 use Rattle.run_journal.specs.Legal.{MayStep}
-use Rattle.desc_stores.specs.Contents.{residents_of}
-use Rattle.board_laws.specs.Moves.{KeepsLoaded}
-use Rattle.cached_machine.specs.Cached.{state_of}
-use Rattle.cached_machine.specs.Posts.{mark_of, HasSameMarks}
+use Rattle.board_core.specs.desc_stores.specs.Contents.{residents_of}
+use Rattle.board_core.specs.board_laws.specs.Moves.{KeepsLoaded}
+use Rattle.board_core.specs.cached_machine.specs.Cached.{state_of}
+use Rattle.board_core.specs.cached_machine.specs.Posts.{mark_of, HasSameMarks}
 use Rattle.board_core.specs.Core.{contents_of, Recorded}
 use Rattle.board_core.specs.Growth.{GrowsBy}
 

@@ -1,3 +1,13 @@
+pub use Rattle.board_checks
+pub use Rattle.board_core
+pub use Rattle.board_core.specs.board_laws
+pub use Rattle.board_core.specs.board_ops
+pub use Rattle.board_core.specs.cached_machine
+pub use Rattle.board_core.specs.desc_stores
+pub use Rattle.board_core.specs.desc_tables
+pub use Rattle.board_core.specs.quantum
+pub use Rattle.board_core.specs.shown_state
+pub use Rattle.board_core.specs.store_residents
 pub mod Tests
 pub mod Waiting
 pub mod Posts

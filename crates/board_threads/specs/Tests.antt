@@ -5,9 +5,9 @@ use Rattle.cache_ident.specs.declared.names.ThreadNo.{ThreadNo}
 use Rattle.flat_state.specs.declared.records.FlatThread.{FlatThread}
 use Rattle.flat_state.specs.Call.{is_completable}
 use Rattle.flat_state.specs.Signals.{is_runnable}
-use Rattle.thread_sets.specs.SetsOf.{takes_steps}
+use Rattle.board_core.specs.thread_sets.specs.SetsOf.{takes_steps}
 use Rattle.number_set.specs.First.{IsFirst}
-use Rattle.cached_machine.specs.Cached.{is_loaded, state_of}
+use Rattle.board_core.specs.cached_machine.specs.Cached.{is_loaded, state_of}
 use Rattle.board_core.specs.Core.{contents_of, Recorded}
 
 -- there is a thread, and it passes

@@ -6,12 +6,12 @@ use Rattle.cache_ident.specs.declared.idents.Ident.{Ident}
 use Rattle.cache_ident.specs.Residents.{IsNameResident, IsResident}
 use Rattle.flat_state.specs.declared.records.FlatThread.{FlatThread}
 use Rattle.flat_state.specs.Signals.{is_runnable}
-use Rattle.thread_sets.specs.SetsOf.{takes_steps}
+use Rattle.board_core.specs.thread_sets.specs.SetsOf.{takes_steps}
 use Rattle.ready_queue.specs.declared.Candidate.{Candidate}
 use Rattle.ready_queue.specs.Choice.{is_before}
-use Rattle.desc_stores.specs.Contents.{residents_of}
-use Rattle.cached_machine.specs.Cached.{state_of}
-use Rattle.cached_machine.specs.Posts.{last_of, mark_of}
+use Rattle.board_core.specs.desc_stores.specs.Contents.{residents_of}
+use Rattle.board_core.specs.cached_machine.specs.Cached.{state_of}
+use Rattle.board_core.specs.cached_machine.specs.Posts.{last_of, mark_of}
 use Rattle.board_core.specs.Core.{contents_of, Recorded}
 
 -- The candidate is a loaded thread that no processor has, with its priority and its last checkout, and the thread passes the

@@ -2,18 +2,18 @@
 
 ghost use Rattle.std.specs.Prelude.{◌≡◌, None, Some, IfNone, IfSome};
 ghost use Rattle.flat_state.specs.WellFormed.{IsWellFormed};
-ghost use Rattle.desc_stores.specs.declared.items.Item.{Item};
-ghost use Rattle.desc_stores.specs.Contents.{content_of};
-ghost use Rattle.desc_stores.specs.Sound.{IsExactlyOne};
-ghost use Rattle.shown_state.specs.Found.{AreFound};
-ghost use Rattle.store_residents.specs.Slots.{HasSlots};
-ghost use Rattle.cached_machine.specs.Cached.{is_loaded as is_loaded_def, state_of};
+ghost use Rattle.board_core.specs.desc_stores.specs.declared.items.Item.{Item};
+ghost use Rattle.board_core.specs.desc_stores.specs.Contents.{content_of};
+ghost use Rattle.board_core.specs.desc_stores.specs.Sound.{IsExactlyOne};
+ghost use Rattle.board_core.specs.shown_state.specs.Found.{AreFound};
+ghost use Rattle.board_core.specs.store_residents.specs.Slots.{HasSlots};
+ghost use Rattle.board_core.specs.cached_machine.specs.Cached.{is_loaded as is_loaded_def, state_of};
 ghost use Rattle.board_core.specs.Core.{contents_of, IsSound};
 ghost use Rattle.board_threads.specs.Tests.{goes_on};
 
 use board_core::Core;
+use board_core::desc_tables::ItemRef;
 use cache_ident::{Name, ThreadNo};
-use desc_tables::ItemRef;
 use flat_rules::Records;
 use thread_cache::ThreadRec;
 

@@ -1,6 +1,10 @@
 //! Threads that go to processors and come back, their faults, and how the run stands, on the board's core.
 #![tactic(auto)]
 
+pub use board_checks as board_checks;
+pub use board_core as board_core;
+pub use board_core::{board_ops as board_ops, desc_tables as desc_tables, quantum as quantum};
+
 mod checkouts;
 mod faults;
 mod known;

@@ -7,7 +7,7 @@ ghost use Rattle.number_set.specs.First.{IsFirstFrom};
 ghost use Rattle.flat_state.specs.Signals.{is_runnable as is_runnable_def};
 ghost use Rattle.flat_state.specs.State.{is_ended};
 ghost use Rattle.flat_state.specs.Settling.{settled_of};
-ghost use Rattle.cached_machine.specs.Cached.{state_of};
+ghost use Rattle.board_core.specs.cached_machine.specs.Cached.{state_of};
 ghost use Rattle.board_threads.specs.Tests.{completes, is_ready_at, passes, wants_load as wants_load_def, IsWanted};
 
 use crate::known::{is_loaded, is_runnable};

@@ -40,18 +40,18 @@ use Rattle.run_journal.specs.Legal.{AreGood}
 use Rattle.kernel_cache.specs.declared.KernelRec.{KernelRec}
 use Rattle.space_cache.specs.declared.SpaceRec.{SpaceRec}
 use Rattle.thread_cache.specs.declared.ThreadRec.{ThreadRec}
-use Rattle.desc_stores.specs.declared.items.Item.{Item}
-use Rattle.desc_stores.specs.declared.items.Item.TheVariants as item
-use Rattle.desc_stores.specs.Contents.{content_of, residents_of, Contents}
-use Rattle.desc_stores.specs.Sound.{IsExactlyOne}
-use Rattle.shown_state.specs.Edits.{with_new}
-use Rattle.shown_state.specs.Found.{AreFound, AreListed}
-use Rattle.shown_state.specs.Shown.{row_of_item, shown}
-use Rattle.shown_state.proofs.ContentLemmas.{item_has_name}
-use Rattle.shown_state.proofs.LookupLemmas.{all_found, all_listed}
-use Rattle.store_residents.proofs.ContentLemmas.{resident_content}
-use Rattle.desc_parents.specs.Seen.{seen}
-use Rattle.desc_admits.specs.May.{no_locks, wanted_of, HasNoMessages, MayBeDeclared}
+use Rattle.board_laws.specs.desc_stores.specs.declared.items.Item.{Item}
+use Rattle.board_laws.specs.desc_stores.specs.declared.items.Item.TheVariants as item
+use Rattle.board_laws.specs.desc_stores.specs.Contents.{content_of, residents_of, Contents}
+use Rattle.board_laws.specs.desc_stores.specs.Sound.{IsExactlyOne}
+use Rattle.board_laws.specs.shown_state.specs.Edits.{with_new}
+use Rattle.board_laws.specs.shown_state.specs.Found.{AreFound, AreListed}
+use Rattle.board_laws.specs.shown_state.specs.Shown.{row_of_item, shown}
+use Rattle.board_laws.specs.shown_state.proofs.ContentLemmas.{item_has_name}
+use Rattle.board_laws.specs.shown_state.proofs.LookupLemmas.{all_found, all_listed}
+use Rattle.board_laws.specs.store_residents.proofs.ContentLemmas.{resident_content}
+use Rattle.board_laws.specs.desc_parents.specs.Seen.{seen}
+use Rattle.board_laws.specs.desc_admits.specs.May.{no_locks, wanted_of, HasNoMessages, MayBeDeclared}
 use Rattle.board_laws.specs.Moves.{Declares}
 
 -- what is declared comes behind the others of its kind

@@ -16,12 +16,12 @@ use Rattle.flat_state.specs.State.{FlatState}
 use Rattle.flat_state.specs.WellFormed.{IsWellFormed}
 use Rattle.kind_store.specs.Changes.{is_name}
 use Rattle.thread_cache.specs.declared.ThreadRec.{ThreadRec}
-use Rattle.desc_stores.specs.declared.items.Item.{Item}
-use Rattle.desc_stores.specs.declared.items.Item.TheVariants as item
-use Rattle.desc_stores.specs.Contents.{content_of, residents_of, Contents}
-use Rattle.desc_groups.specs.Moves.{but_for_counts}
-use Rattle.desc_tables.specs.Tables.{Held}
-use Rattle.shown_state.specs.Shown.{shown}
+use Rattle.board_laws.specs.desc_stores.specs.declared.items.Item.{Item}
+use Rattle.board_laws.specs.desc_stores.specs.declared.items.Item.TheVariants as item
+use Rattle.board_laws.specs.desc_stores.specs.Contents.{content_of, residents_of, Contents}
+use Rattle.board_laws.specs.desc_groups.specs.Moves.{but_for_counts}
+use Rattle.board_laws.specs.desc_tables.specs.Tables.{Held}
+use Rattle.board_laws.specs.shown_state.specs.Shown.{shown}
 use Rattle.thread_sets.specs.Sets.{SameButRoom, Sets}
 use Rattle.thread_sets.specs.SetsOf.{AreSetsOf}
 use Rattle.cached_machine.specs.Cached.{is_loaded, Cached, IsSound}

@@ -8,13 +8,13 @@ use Rattle.cache_ident.specs.declared.names.Name.TheVariants as name
 use Rattle.cache_ident.specs.declared.names.ThreadNo.{ThreadNo}
 use Rattle.cache_ident.specs.Residents.{Resident}
 use Rattle.kind_store.specs.Changes.{is_name}
-use Rattle.desc_stores.specs.declared.items.Item.{Item}
-use Rattle.desc_stores.specs.declared.items.Item.TheVariants as item
-use Rattle.desc_stores.specs.Changes.{room_of}
-use Rattle.desc_stores.specs.Contents.{content_of, residents_of, Contents}
-use Rattle.shown_state.specs.Shown.{HasSameNames}
+use Rattle.board_laws.specs.desc_stores.specs.declared.items.Item.{Item}
+use Rattle.board_laws.specs.desc_stores.specs.declared.items.Item.TheVariants as item
+use Rattle.board_laws.specs.desc_stores.specs.Changes.{room_of}
+use Rattle.board_laws.specs.desc_stores.specs.Contents.{content_of, residents_of, Contents}
+use Rattle.board_laws.specs.shown_state.specs.Shown.{HasSameNames}
 use Rattle.board_laws.specs.Moves.{KeepsLoaded}
-use Rattle.desc_tables.specs.Tables.{Held}
+use Rattle.board_laws.specs.desc_tables.specs.Tables.{Held}
 use Rattle.cached_machine.specs.Cached.{is_loaded, Cached}
 use Rattle.cached_machine.specs.Aside.{aside_of, but_for_steps, Aside}
 use Rattle.cached_machine.specs.Posts.{last_in, mark_in, AreSeated, HasSameMarks, HasSeats}

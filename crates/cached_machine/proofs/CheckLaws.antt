@@ -6,9 +6,9 @@ use Rattle.std.proofs.lemmas.Option.{slice_get_within}
 use Rattle.cache_ident.specs.declared.names.Name.TheVariants as name
 use Rattle.cache_ident.specs.declared.names.ThreadNo.{ThreadNo}
 use Rattle.cache_ident.specs.Residents.{Resident}
-use Rattle.desc_stores.specs.Contents.{content_of, residents_of}
-use Rattle.desc_stores.specs.Sound.{IsExactlyOne}
-use Rattle.desc_tables.specs.Tables.{Held}
+use Rattle.board_laws.specs.desc_stores.specs.Contents.{content_of, residents_of}
+use Rattle.board_laws.specs.desc_stores.specs.Sound.{IsExactlyOne}
+use Rattle.board_laws.specs.desc_tables.specs.Tables.{Held}
 use Rattle.cached_machine.specs.Cached.{is_loaded}
 use Rattle.cached_machine.specs.Posts.{but_at, last_of, mark_in, mark_of, HasSeats, IsCheckedInAt, OnlyPosts}
 use Rattle.cached_machine.proofs.LoadedLaws.{alone_in_slot, loaded_by}

@@ -27,21 +27,21 @@ use Rattle.flat_thread.specs.Calls.{own_part}
 use Rattle.flat_machine.proofs.ChangeSound.{in_place, own_sound, without_sound}
 use Rattle.flat_machine.proofs.DeclareSound.{Sound}
 use Rattle.thread_cache.specs.declared.ThreadRec.{ThreadRec}
-use Rattle.desc_stores.specs.declared.items.Item.{Item}
-use Rattle.desc_stores.specs.declared.items.Item.TheVariants as item
-use Rattle.desc_stores.specs.Changes.{room_of, HasContent}
-use Rattle.desc_stores.specs.Contents.{content_of, residents_of, Contents}
-use Rattle.desc_stores.specs.Items.{name_of}
-use Rattle.desc_stores.specs.Sound.{IsExactlyOne}
-use Rattle.shown_state.specs.Edits.{with_changed, IsRetraction}
-use Rattle.shown_state.specs.Shown.{flat_thread, shown, thread_of}
-use Rattle.shown_state.proofs.ChangeLemmas.{at_name}
-use Rattle.shown_state.proofs.DeclareLemmas.{retraction_shown}
-use Rattle.shown_state.proofs.LookupLemmas.{all_found}
+use Rattle.board_laws.specs.desc_stores.specs.declared.items.Item.{Item}
+use Rattle.board_laws.specs.desc_stores.specs.declared.items.Item.TheVariants as item
+use Rattle.board_laws.specs.desc_stores.specs.Changes.{room_of, HasContent}
+use Rattle.board_laws.specs.desc_stores.specs.Contents.{content_of, residents_of, Contents}
+use Rattle.board_laws.specs.desc_stores.specs.Items.{name_of}
+use Rattle.board_laws.specs.desc_stores.specs.Sound.{IsExactlyOne}
+use Rattle.board_laws.specs.shown_state.specs.Edits.{with_changed, IsRetraction}
+use Rattle.board_laws.specs.shown_state.specs.Shown.{flat_thread, shown, thread_of}
+use Rattle.board_laws.specs.shown_state.proofs.ChangeLemmas.{at_name}
+use Rattle.board_laws.specs.shown_state.proofs.DeclareLemmas.{retraction_shown}
+use Rattle.board_laws.specs.shown_state.proofs.LookupLemmas.{all_found}
 use Rattle.thread_sets.specs.Sets.{noted, Sets}
 use Rattle.thread_sets.specs.SetsOf.{AreSetsOf}
 use Rattle.thread_sets.proofs.SetsLemmas.{sets_noted}
-use Rattle.desc_tables.specs.Tables.{Held}
+use Rattle.board_laws.specs.desc_tables.specs.Tables.{Held}
 use Rattle.cached_machine.specs.Aside.{aside_of, but_for_steps, Aside}
 use Rattle.cached_machine.specs.Cached.{state_of, Cached, IsSound}
 use Rattle.cached_machine.specs.Moved.{KeepsBeside, KeepsPost, OnlyRoom}

@@ -14,10 +14,10 @@ use Rattle.flat_state.specs.Names.{stands}
 use Rattle.flat_state.specs.State.{FlatState, with_thread}
 use Rattle.flat_laws.proofs.StepSame.{set_same, same_fit_name, same_parents, same_stands, IsSameBut, SameSpaces}
 use Rattle.run_journal.specs.Legal.{AreGood}
-use Rattle.desc_stores.specs.Contents.{Contents}
-use Rattle.shown_state.specs.Shown.{shown}
-use Rattle.desc_parents.specs.Seen.{seen}
-use Rattle.desc_tables.specs.Calls.{with_rights}
+use Rattle.board_laws.specs.desc_stores.specs.Contents.{Contents}
+use Rattle.board_laws.specs.shown_state.specs.Shown.{shown}
+use Rattle.board_laws.specs.desc_parents.specs.Seen.{seen}
+use Rattle.board_laws.specs.desc_tables.specs.Calls.{with_rights}
 
 module _ (s u : FlatState) (same : IsSameBut s u) (rs : List Resident) where
   pub good_before : AreGood u rs → AreGood s rs

@@ -11,10 +11,10 @@ use Rattle.flat_laws.proofs.Members.{Contains-behind, Contains-cases, Contains-h
 use Rattle.owner_shelf.proofs.NameLemmas.{eq_apart, eq_itself}
 use Rattle.kind_store.specs.Changes.{is_name}
 use Rattle.kind_store.proofs.ContentLemmas.{cases_name}
-use Rattle.desc_stores.specs.Contents.{content_of, residents_of, Contents}
-use Rattle.desc_stores.specs.Sound.{IsExactlyOne}
-use Rattle.store_residents.proofs.ContentLemmas.{resident_content}
-use Rattle.store_residents.proofs.ResidentLemmas.{one_each, one_in_slot, resident_kind}
+use Rattle.board_laws.specs.desc_stores.specs.Contents.{content_of, residents_of, Contents}
+use Rattle.board_laws.specs.desc_stores.specs.Sound.{IsExactlyOne}
+use Rattle.board_laws.specs.store_residents.proofs.ContentLemmas.{resident_content}
+use Rattle.board_laws.specs.store_residents.proofs.ResidentLemmas.{one_each, one_in_slot, resident_kind}
 use Rattle.cached_machine.specs.Cached.{is_loaded}
 
 -- what a test finds in a list is in it, and passes

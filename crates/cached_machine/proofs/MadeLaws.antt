@@ -31,21 +31,21 @@ use Rattle.kind_store.specs.Kept as stored
 use Rattle.kind_store.proofs.ContentLemmas.{cases_name}
 use Rattle.kernel_cache.specs.declared.KernelRec.{KernelRec}
 use Rattle.kernel_cache.specs.Kernels as kernel_rec
-use Rattle.desc_stores.specs.declared.items.Item.{Item}
-use Rattle.desc_stores.specs.declared.items.Item.TheVariants as item
-use Rattle.desc_stores.specs.Changes.{room_of, HasContent, HasNoContent, KeepsContents, OnlyMakesRoom}
-use Rattle.desc_stores.specs.Contents.{content_of, resident_as, resident_in, residents_of, Contents}
-use Rattle.desc_stores.specs.Items.{name_of}
-use Rattle.shown_state.specs.Edits.{with_new}
-use Rattle.shown_state.specs.Shown.{shown}
-use Rattle.shown_state.proofs.AlikeLemmas.{shown_alike}
-use Rattle.shown_state.proofs.ChangeLemmas.{at_name, elsewhere}
-use Rattle.shown_state.proofs.ListLemmas.{filter_map-agree}
-use Rattle.shown_state.proofs.MoveLemmas.{alike_room}
+use Rattle.board_laws.specs.desc_stores.specs.declared.items.Item.{Item}
+use Rattle.board_laws.specs.desc_stores.specs.declared.items.Item.TheVariants as item
+use Rattle.board_laws.specs.desc_stores.specs.Changes.{room_of, HasContent, HasNoContent, KeepsContents, OnlyMakesRoom}
+use Rattle.board_laws.specs.desc_stores.specs.Contents.{content_of, resident_as, resident_in, residents_of, Contents}
+use Rattle.board_laws.specs.desc_stores.specs.Items.{name_of}
+use Rattle.board_laws.specs.shown_state.specs.Edits.{with_new}
+use Rattle.board_laws.specs.shown_state.specs.Shown.{shown}
+use Rattle.board_laws.specs.shown_state.proofs.AlikeLemmas.{shown_alike}
+use Rattle.board_laws.specs.shown_state.proofs.ChangeLemmas.{at_name, elsewhere}
+use Rattle.board_laws.specs.shown_state.proofs.ListLemmas.{filter_map-agree}
+use Rattle.board_laws.specs.shown_state.proofs.MoveLemmas.{alike_room}
 use Rattle.thread_sets.specs.Sets.{SameButRoom, Sets}
 use Rattle.thread_sets.specs.SetsOf.{AreSetsOf}
-use Rattle.desc_tables.specs.Calls.{with_right}
-use Rattle.desc_tables.specs.Tables.{Held}
+use Rattle.board_laws.specs.desc_tables.specs.Calls.{with_right}
+use Rattle.board_laws.specs.desc_tables.specs.Tables.{Held}
 use Rattle.board_laws.specs.Moves.{Declares, KeepsLoaded}
 use Rattle.cached_machine.specs.Cached.{is_loaded, state_of, Cached, IsSound}
 use Rattle.cached_machine.specs.Moved.{IsMade, KeepsBeside, OnlyRoom}

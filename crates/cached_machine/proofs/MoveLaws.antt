@@ -18,17 +18,17 @@ use Rattle.kind_store.specs.Changes.{is_name}
 use Rattle.kind_store.proofs.ContentLemmas.{cases_name}
 use Rattle.run_journal.specs.Legal.{IsTaken}
 use Rattle.run_journal.proofs.Others.{locked_keeps}
-use Rattle.group_laws.specs.Leaving.{without_all}
-use Rattle.group_laws.proofs.Remaining.{without_all_cases}
-use Rattle.desc_stores.specs.declared.items.Item.{Item}
-use Rattle.desc_stores.specs.Contents.{content_of, residents_of, Contents, IsShelved}
-use Rattle.desc_stores.specs.Sound.{IsExactlyOne}
-use Rattle.desc_groups.specs.declared.departures.Gone.{Gone}
-use Rattle.desc_groups.specs.Moves.{but_for_counts, KeepsButCounts}
-use Rattle.desc_tables.specs.Tables.{Held}
+use Rattle.board_laws.specs.group_laws.specs.Leaving.{without_all}
+use Rattle.board_laws.specs.group_laws.proofs.Remaining.{without_all_cases}
+use Rattle.board_laws.specs.desc_stores.specs.declared.items.Item.{Item}
+use Rattle.board_laws.specs.desc_stores.specs.Contents.{content_of, residents_of, Contents, IsShelved}
+use Rattle.board_laws.specs.desc_stores.specs.Sound.{IsExactlyOne}
+use Rattle.board_laws.specs.desc_groups.specs.declared.departures.Gone.{Gone}
+use Rattle.board_laws.specs.desc_groups.specs.Moves.{but_for_counts, KeepsButCounts}
+use Rattle.board_laws.specs.desc_tables.specs.Tables.{Held}
 use Rattle.board_laws.specs.Moves.{IsLoad}
-use Rattle.store_residents.proofs.ContentLemmas.{shelved_iff}
-use Rattle.store_residents.proofs.ResidentLemmas.{resident_kind}
+use Rattle.board_laws.specs.store_residents.proofs.ContentLemmas.{shelved_iff}
+use Rattle.board_laws.specs.store_residents.proofs.ResidentLemmas.{resident_kind}
 use Rattle.cached_machine.specs.declared.posts.Post.TheVariants.{In}
 use Rattle.cached_machine.specs.Cached.{is_loaded}
 use Rattle.cached_machine.specs.Posts.{last_in, mark_in, mark_of, HasLoadedMarks, HasSameMarks, HasSeats, IsPosted, OnlyPosts}

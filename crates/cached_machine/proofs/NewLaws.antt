@@ -14,12 +14,12 @@ use Rattle.flat_state.specs.WellFormed.{IsWellFormed}
 use Rattle.flat_state.proofs.FormedParts.{nothing_formed}
 use Rattle.flat_machine.proofs.DeclareSound.{machine_rules, machine_sound}
 use Rattle.flat_laws.proofs.Members.{contains_nothing}
-use Rattle.desc_stores.specs.Changes.{IsNothing}
-use Rattle.desc_stores.specs.Contents.{residents_of, resident_as, Contents}
-use Rattle.shown_state.proofs.DeclareLemmas.{nothing_shown}
+use Rattle.board_laws.specs.desc_stores.specs.Changes.{IsNothing}
+use Rattle.board_laws.specs.desc_stores.specs.Contents.{residents_of, resident_as, Contents}
+use Rattle.board_laws.specs.shown_state.proofs.DeclareLemmas.{nothing_shown}
 use Rattle.thread_sets.specs.Sets.{Sets}
 use Rattle.thread_sets.specs.SetsOf.{AreSetsOf}
-use Rattle.desc_tables.specs.Tables.{Held}
+use Rattle.board_laws.specs.desc_tables.specs.Tables.{Held}
 use Rattle.cached_machine.specs.Cached.{state_of, Cached, IsSound}
 use Rattle.cached_machine.specs.Posts.{AreSeated, HasSeats}
 

@@ -10,18 +10,18 @@ use Rattle.flat_state.specs.declared.events.Machine.{Machine}
 use Rattle.thread_cache.specs.declared.ThreadRec.{ThreadRec}
 use Rattle.kind_store.specs.Kept.{Kept}
 use Rattle.kind_store.proofs.ContentLemmas.{cases_name}
-use Rattle.desc_stores.specs.declared.items.Item.{Item}
-use Rattle.desc_stores.specs.declared.items.Item.TheVariants as item
-use Rattle.desc_stores.specs.Changes.{with_named, HasContent}
-use Rattle.desc_stores.specs.Contents.{content_of, residents_of, Contents}
-use Rattle.shown_state.specs.Shown.{flat_thread, kernel_of, row_of_item, space_of, thread_of}
-use Rattle.shown_state.proofs.AlikeLemmas.{shown_alike}
-use Rattle.shown_state.proofs.ChangeLemmas.{at_name, elsewhere}
-use Rattle.shown_state.proofs.ContentLemmas.{item_has_name}
-use Rattle.shown_state.proofs.MoveLemmas.{names_in_threads}
+use Rattle.board_laws.specs.desc_stores.specs.declared.items.Item.{Item}
+use Rattle.board_laws.specs.desc_stores.specs.declared.items.Item.TheVariants as item
+use Rattle.board_laws.specs.desc_stores.specs.Changes.{with_named, HasContent}
+use Rattle.board_laws.specs.desc_stores.specs.Contents.{content_of, residents_of, Contents}
+use Rattle.board_laws.specs.shown_state.specs.Shown.{flat_thread, kernel_of, row_of_item, space_of, thread_of}
+use Rattle.board_laws.specs.shown_state.proofs.AlikeLemmas.{shown_alike}
+use Rattle.board_laws.specs.shown_state.proofs.ChangeLemmas.{at_name, elsewhere}
+use Rattle.board_laws.specs.shown_state.proofs.ContentLemmas.{item_has_name}
+use Rattle.board_laws.specs.shown_state.proofs.MoveLemmas.{names_in_threads}
 use Rattle.thread_sets.specs.Sets.{Sets}
-use Rattle.desc_tables.specs.Tables.{Held}
-use Rattle.desc_tables.specs.Calls.{IsLike}
+use Rattle.board_laws.specs.desc_tables.specs.Tables.{Held}
+use Rattle.board_laws.specs.desc_tables.specs.Calls.{IsLike}
 use Rattle.board_laws.specs.Moves.{ShowsTheSame}
 use Rattle.cached_machine.specs.declared.posts.Post.{Post}
 use Rattle.cached_machine.specs.declared.posts.Post.TheVariants.{Out, In}

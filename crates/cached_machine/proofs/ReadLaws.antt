@@ -13,10 +13,10 @@ use Rattle.flat_state.specs.declared.events.Machine.{Machine}
 use Rattle.flat_state.specs.WellFormed.{IsWellFormed}
 use Rattle.flat_laws.proofs.Members.{length-filter_map}
 use Rattle.row_store.specs.Kept.{signal_names}
-use Rattle.desc_stores.specs.Contents.{content_of, Contents}
-use Rattle.desc_stores.specs.Sound.{IsExactlyOne}
-use Rattle.shown_state.specs.Shown.{row_of_item, shown}
-use Rattle.shown_state.proofs.LookupLemmas.{signals_listed, signals_named}
+use Rattle.board_laws.specs.desc_stores.specs.Contents.{content_of, Contents}
+use Rattle.board_laws.specs.desc_stores.specs.Sound.{IsExactlyOne}
+use Rattle.board_laws.specs.shown_state.specs.Shown.{row_of_item, shown}
+use Rattle.board_laws.specs.shown_state.proofs.LookupLemmas.{signals_listed, signals_named}
 use Rattle.cached_machine.specs.Cached.{state_of, Cached}
 
 -- which machine it is and its memory are those of the state that is shown

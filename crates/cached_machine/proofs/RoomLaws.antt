@@ -16,16 +16,16 @@ use Rattle.flat_state.specs.WellFormed.{IsWellFormed}
 use Rattle.kind_store.specs.Kept as stored
 use Rattle.run_journal.specs.Legal.{is_kind}
 use Rattle.run_journal.specs.Legal as legal
-use Rattle.desc_stores.specs.Changes.{room_of, OnlyMakesRoom}
-use Rattle.desc_stores.specs.Contents.{content_of, resident_as, resident_in, residents_of, Contents}
-use Rattle.desc_groups.specs.Whole.{AreWhole}
+use Rattle.board_laws.specs.desc_stores.specs.Changes.{room_of, OnlyMakesRoom}
+use Rattle.board_laws.specs.desc_stores.specs.Contents.{content_of, resident_as, resident_in, residents_of, Contents}
+use Rattle.board_laws.specs.desc_groups.specs.Whole.{AreWhole}
 use Rattle.depend_lists.specs.declared.nodes.Node.{Node}
-use Rattle.desc_tables.specs.Tables.{Held}
-use Rattle.shown_state.specs.Shown.{shown}
-use Rattle.shown_state.proofs.AlikeLemmas.{shown_alike}
-use Rattle.shown_state.proofs.ListLemmas.{filter_map-agree}
-use Rattle.shown_state.proofs.MoveLemmas.{alike_room, alike_spare}
-use Rattle.store_residents.proofs.SlotLaws.{are_few}
+use Rattle.board_laws.specs.desc_tables.specs.Tables.{Held}
+use Rattle.board_laws.specs.shown_state.specs.Shown.{shown}
+use Rattle.board_laws.specs.shown_state.proofs.AlikeLemmas.{shown_alike}
+use Rattle.board_laws.specs.shown_state.proofs.ListLemmas.{filter_map-agree}
+use Rattle.board_laws.specs.shown_state.proofs.MoveLemmas.{alike_room, alike_spare}
+use Rattle.board_laws.specs.store_residents.proofs.SlotLaws.{are_few}
 use Rattle.thread_sets.specs.Sets.{SameButRoom, Sets}
 use Rattle.thread_sets.specs.SetsOf.{AreSetsOf}
 use Rattle.cached_machine.specs.Cached.{Cached, IsSound}

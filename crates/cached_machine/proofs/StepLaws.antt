@@ -28,18 +28,18 @@ use Rattle.thread_cache.specs.declared.ThreadRec.{ThreadRec}
 use Rattle.slot_cache.specs.Rows.{row_name as slot_row_name}
 use Rattle.kind_store.specs.Kept as stored
 use Rattle.kind_store.proofs.ContentLemmas.{cases_name}
-use Rattle.desc_stores.specs.declared.items.Item.TheVariants as item
-use Rattle.desc_stores.specs.Changes.{HasContent}
-use Rattle.desc_stores.specs.Contents.{content_of, Contents}
-use Rattle.desc_stores.specs.Sound.{IsExactlyOne}
-use Rattle.shown_state.specs.Shown.{flat_thread, shown, thread_of}
-use Rattle.shown_state.proofs.ChangeLemmas.{at_name, change_shown, elsewhere, mark_nothing, mark_shown}
-use Rattle.shown_state.proofs.ContentLemmas.{item_has_name, page_by_name}
-use Rattle.shown_state.proofs.LookupLemmas.{all_found}
+use Rattle.board_laws.specs.desc_stores.specs.declared.items.Item.TheVariants as item
+use Rattle.board_laws.specs.desc_stores.specs.Changes.{HasContent}
+use Rattle.board_laws.specs.desc_stores.specs.Contents.{content_of, Contents}
+use Rattle.board_laws.specs.desc_stores.specs.Sound.{IsExactlyOne}
+use Rattle.board_laws.specs.shown_state.specs.Shown.{flat_thread, shown, thread_of}
+use Rattle.board_laws.specs.shown_state.proofs.ChangeLemmas.{at_name, change_shown, elsewhere, mark_nothing, mark_shown}
+use Rattle.board_laws.specs.shown_state.proofs.ContentLemmas.{item_has_name, page_by_name}
+use Rattle.board_laws.specs.shown_state.proofs.LookupLemmas.{all_found}
 use Rattle.thread_sets.specs.Sets.{noted, Sets}
 use Rattle.thread_sets.specs.SetsOf.{AreSetsOf}
 use Rattle.thread_sets.proofs.SetsLemmas.{sets_noted}
-use Rattle.desc_tables.specs.Tables.{Held}
+use Rattle.board_laws.specs.desc_tables.specs.Tables.{Held}
 use Rattle.cached_machine.specs.declared.stepping.Change.{Change}
 use Rattle.cached_machine.specs.declared.stepping.Change.TheVariants.{Put, Give, Answer}
 use Rattle.cached_machine.specs.Cached.{state_of, Cached, IsSound}

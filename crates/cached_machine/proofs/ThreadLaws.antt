@@ -15,17 +15,17 @@ use Rattle.flat_state.specs.Call.{is_completable}
 use Rattle.flat_state.specs.Declaration.{broken_rule, declared, new_registers, new_thread}
 use Rattle.flat_state.specs.State.{FlatState}
 use Rattle.thread_cache.specs.declared.ThreadRec.{ThreadRec}
-use Rattle.desc_stores.specs.declared.items.Item.TheVariants as item
-use Rattle.desc_stores.specs.Changes.{HasContent, OnlyMakesRoom}
-use Rattle.desc_stores.specs.Contents.{residents_of}
-use Rattle.desc_stores.specs.Sound.{IsExactlyOne}
-use Rattle.shown_state.specs.Edits.{with_new}
-use Rattle.shown_state.specs.Shown.{flat_thread, shown}
+use Rattle.board_laws.specs.desc_stores.specs.declared.items.Item.TheVariants as item
+use Rattle.board_laws.specs.desc_stores.specs.Changes.{HasContent, OnlyMakesRoom}
+use Rattle.board_laws.specs.desc_stores.specs.Contents.{residents_of}
+use Rattle.board_laws.specs.desc_stores.specs.Sound.{IsExactlyOne}
+use Rattle.board_laws.specs.shown_state.specs.Edits.{with_new}
+use Rattle.board_laws.specs.shown_state.specs.Shown.{flat_thread, shown}
 use Rattle.thread_sets.specs.Sets.{pushed, SameButRoom, Sets}
 use Rattle.thread_sets.specs.SetsOf.{AreSetsOf}
 use Rattle.thread_sets.proofs.SetsLemmas.{sets_pushed}
-use Rattle.desc_admits.specs.May.{MayBeDeclared}
-use Rattle.desc_tables.specs.Tables.{Held}
+use Rattle.board_laws.specs.desc_admits.specs.May.{MayBeDeclared}
+use Rattle.board_laws.specs.desc_tables.specs.Tables.{Held}
 use Rattle.cached_machine.specs.Cached.{state_of, Cached, IsSound}
 use Rattle.cached_machine.specs.Moved.{IsMade}
 use Rattle.cached_machine.specs.Posts.{HasSeats}

@@ -7,11 +7,11 @@ use Rattle.cache_ident.specs.declared.rolls.Issued.{Issued}
 use Rattle.cache_ident.specs.Residents.{Resident}
 use Rattle.rv32_exec.specs.declared.statuses.Status.TheVariants.{Ready}
 use Rattle.flat_state.specs.declared.events.Machine.{Machine}
-use Rattle.desc_stores.specs.declared.items.Item.{Item}
-use Rattle.desc_stores.specs.declared.items.Item.TheVariants as item
-use Rattle.desc_stores.specs.Changes.{room_of}
-use Rattle.desc_stores.specs.Contents.{content_of, residents_of, Contents}
-use Rattle.desc_groups.specs.declared.departures.Gone.{Gone}
+use Rattle.board_laws.specs.desc_stores.specs.declared.items.Item.{Item}
+use Rattle.board_laws.specs.desc_stores.specs.declared.items.Item.TheVariants as item
+use Rattle.board_laws.specs.desc_stores.specs.Changes.{room_of}
+use Rattle.board_laws.specs.desc_stores.specs.Contents.{content_of, residents_of, Contents}
+use Rattle.board_laws.specs.desc_groups.specs.declared.departures.Gone.{Gone}
 use Rattle.cached_machine.specs.Cached.{Cached}
 
 -- a content but for what a step changes of it: the registers, the status and the queue of a thread, and the marks of a row

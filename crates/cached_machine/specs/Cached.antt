@@ -9,11 +9,11 @@ use Rattle.flat_state.specs.Declaration.{locks_granted}
 use Rattle.flat_state.specs.State.{FlatState}
 use Rattle.flat_state.specs.WellFormed.{IsWellFormed}
 use Rattle.kind_store.specs.Changes.{is_name}
-use Rattle.desc_stores.specs.Contents.{residents_of, Contents}
-use Rattle.shown_state.specs.Shown.{shown}
+use Rattle.board_laws.specs.desc_stores.specs.Contents.{residents_of, Contents}
+use Rattle.board_laws.specs.shown_state.specs.Shown.{shown}
 use Rattle.thread_sets.specs.Sets.{Sets}
 use Rattle.thread_sets.specs.SetsOf.{AreSetsOf}
-use Rattle.desc_tables.specs.Tables.{Held}
+use Rattle.board_laws.specs.desc_tables.specs.Tables.{Held}
 
 -- which machine it is, its memory, its descriptors, and which threads can go on
 pub record Cached : Type 0 where

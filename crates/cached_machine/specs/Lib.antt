@@ -1,3 +1,17 @@
+pub use Rattle.board_laws
+pub use Rattle.board_laws.specs.desc_admits
+pub use Rattle.board_laws.specs.desc_groups
+pub use Rattle.board_laws.specs.desc_parents
+pub use Rattle.board_laws.specs.desc_stores
+pub use Rattle.board_laws.specs.desc_tables
+pub use Rattle.flat_machine.specs.flat_events
+pub use Rattle.flat_machine
+pub use Rattle.board_laws.specs.group_laws
+pub use Rattle.board_laws.specs.journal_laws
+pub use Rattle.board_laws.specs.quantum
+pub use Rattle.board_laws.specs.shown_state
+pub use Rattle.board_laws.specs.store_residents
+pub use Rattle.thread_sets
 pub mod Cached
 pub mod Aside
 pub mod Stepping

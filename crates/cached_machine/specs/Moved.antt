@@ -8,8 +8,8 @@ use Rattle.flat_state.specs.Events.{applied}
 use Rattle.flat_state.specs.State.{FlatState}
 use Rattle.run_journal.specs.Legal.{AreGood}
 use Rattle.thread_cache.specs.declared.ThreadRec.{ThreadRec}
-use Rattle.desc_stores.specs.Changes.{room_of}
-use Rattle.desc_stores.specs.Contents.{residents_of}
+use Rattle.board_laws.specs.desc_stores.specs.Changes.{room_of}
+use Rattle.board_laws.specs.desc_stores.specs.Contents.{residents_of}
 use Rattle.board_laws.specs.Moves.{KeepsLoaded}
 use Rattle.cached_machine.specs.Cached.{state_of, Cached}
 use Rattle.cached_machine.specs.Posts.{HasSameMarks}

@@ -14,13 +14,13 @@ use Rattle.flat_state.specs.Signals.{with_address}
 use Rattle.flat_state.specs.Call.{answered}
 use Rattle.flat_thread.specs.Calls.{queue_with}
 use Rattle.thread_cache.specs.declared.ThreadRec.{ThreadRec}
-use Rattle.desc_stores.specs.declared.items.Item.{Item}
-use Rattle.desc_stores.specs.declared.items.Item.TheVariants as item
-use Rattle.desc_stores.specs.Changes.{room_of, HasContent}
-use Rattle.desc_stores.specs.Contents.{content_of, residents_of}
-use Rattle.shown_state.specs.Shown.{HasSameNames}
+use Rattle.board_laws.specs.desc_stores.specs.declared.items.Item.{Item}
+use Rattle.board_laws.specs.desc_stores.specs.declared.items.Item.TheVariants as item
+use Rattle.board_laws.specs.desc_stores.specs.Changes.{room_of, HasContent}
+use Rattle.board_laws.specs.desc_stores.specs.Contents.{content_of, residents_of}
+use Rattle.board_laws.specs.shown_state.specs.Shown.{HasSameNames}
 use Rattle.thread_sets.specs.Sets.{noted, Sets}
-use Rattle.desc_tables.specs.Tables.{Held}
+use Rattle.board_laws.specs.desc_tables.specs.Tables.{Held}
 use Rattle.cached_machine.specs.declared.stepping.Change.{Change}
 use Rattle.cached_machine.specs.declared.stepping.Change.TheVariants.{Put, Give, Answer}
 

@@ -2,14 +2,14 @@
 
 ghost use Rattle.std.specs.Prelude.{◌<◌, IsOk, OnErr, OnOk};
 ghost use Rattle.flat_state.specs.declared.events.Decl.TheVariants as decls;
-ghost use Rattle.desc_stores.specs.Changes.{room_of};
+ghost use Rattle.board_laws.specs.desc_stores.specs.Changes.{room_of};
 ghost use Rattle.cached_machine.specs.Moved.{IsMade, MayBeMade, OnlyRoom};
 
 use crate::machine::CachedMachine;
 use crate::reading::known;
 use arrayvec::ArrayVec;
+use board_laws::desc_tables::Item;
 use cache_ident::{Caps, Frame, KernelNo, NoMemory, SpaceNo, ThreadNo, Vpn};
-use desc_tables::Item;
 use flat_machine::new_context;
 use flat_state::Decl;
 use kernel_cache::KernelRec;

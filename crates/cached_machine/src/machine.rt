@@ -3,11 +3,11 @@
 ghost use Rattle.std.specs.Prelude.{◌≡◌, ◌*◌, [], None, Some, IfOk, replicate};
 ghost use Rattle.flat_state.specs.State.{nothing_declared};
 ghost use Rattle.flat_state.specs.Declaration.{rule_of_machine};
-ghost use Rattle.desc_stores.specs.Changes.{IsNothing};
+ghost use Rattle.board_laws.specs.desc_stores.specs.Changes.{IsNothing};
 ghost use Rattle.cached_machine.specs.Cached.{state_of};
 
+use board_laws::desc_tables::Tables;
 use cache_ident::{Caps, NoMemory, ThreadNo};
-use desc_tables::Tables;
 use flat_state::Machine;
 use phys_groups::Memory;
 use std::alloc::Global;

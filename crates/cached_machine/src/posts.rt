@@ -1,11 +1,11 @@
 //! Threads that go to processors and come back.
 
 ghost use Rattle.std.specs.Prelude.{◌≡◌, IsSome};
-ghost use Rattle.desc_stores.specs.Contents.{content_of};
+ghost use Rattle.board_laws.specs.desc_stores.specs.Contents.{content_of};
 ghost use Rattle.cached_machine.specs.Posts.{posted, IsPosted};
 
+use board_laws::desc_tables::Tables;
 use cache_ident::{Name, ThreadNo};
-use desc_tables::Tables;
 use thread_cache::ThreadRec;
 
 // Where a thread goes.

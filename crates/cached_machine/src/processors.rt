@@ -4,15 +4,15 @@ ghost use Rattle.std.specs.Prelude.{◌≡◌, ◌≢◌, ◌<◌, true, None, S
 ghost use Rattle.cache_ident.specs.declared.idents.Ident.{Ident};
 ghost use Rattle.cache_ident.specs.declared.names.ThreadNo.{ThreadNo};
 ghost use Rattle.cache_ident.specs.Residents.{IsResident};
-ghost use Rattle.desc_stores.specs.Contents.{content_of, residents_of};
+ghost use Rattle.board_laws.specs.desc_stores.specs.Contents.{content_of, residents_of};
 ghost use Rattle.cached_machine.specs.Cached.{is_loaded};
 ghost use Rattle.cached_machine.specs.Posts.{but_at, last_of, mark_of, IsCheckedInAt, OnlyPosts};
 
 use crate::machine::CachedMachine;
 use crate::posts::{Post, send};
 use crate::reading::known;
+use board_laws::desc_tables::ItemRef;
 use cache_ident::{Name, ThreadNo};
-use desc_tables::ItemRef;
 
 impl CachedMachine {
     /// A loaded thread goes to a processor, by the checkout of that number.

@@ -11,7 +11,7 @@ use rv32_exec::{Context, Status};
 use thread_cache::ThreadRec;
 
 impl Records for CachedMachine {
-    ghost use Rattle.shown_state.specs.Shown.{flat_thread};
+    ghost use Rattle.board_laws.specs.shown_state.specs.Shown.{flat_thread};
     ghost use Rattle.cached_machine.specs.Cached.{state_of};
 
     type Thread = ThreadRec;

@@ -5,17 +5,17 @@ ghost use Rattle.cache_ident.specs.declared.idents.Ident.{Ident};
 ghost use Rattle.depend_lists.specs.declared.nodes.Node.{Node};
 ghost use Rattle.depend_lists.specs.Pairs.{count_of};
 ghost use Rattle.phys_groups.specs.Memory.{with_page, HasFrame};
-ghost use Rattle.desc_groups.specs.Moves.{HasPlaces};
-ghost use Rattle.desc_stores.specs.Changes.{room_of};
-ghost use Rattle.desc_stores.specs.Contents.{residents_of};
-ghost use Rattle.desc_tables.specs.Tables.{AreSound};
+ghost use Rattle.board_laws.specs.desc_groups.specs.Moves.{HasPlaces};
+ghost use Rattle.board_laws.specs.desc_stores.specs.Changes.{room_of};
+ghost use Rattle.board_laws.specs.desc_stores.specs.Contents.{residents_of};
+ghost use Rattle.board_laws.specs.desc_tables.specs.Tables.{AreSound};
 ghost use Rattle.cached_machine.specs.Cached.{state_of};
 ghost use Rattle.cached_machine.specs.Moved.{OnlyRoom};
 ghost use Rattle.thread_sets.specs.SetsOf.{AreSetsOf};
 
 use crate::machine::CachedMachine;
+use board_laws::desc_tables::Tables;
 use cache_ident::{Frame, NoMemory};
-use desc_tables::Tables;
 use thread_sets::ThreadSets;
 
 impl CachedMachine {

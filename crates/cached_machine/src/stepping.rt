@@ -1,12 +1,12 @@
 //! What a step does to memory, to a row and to a thread.
 
 ghost use Rattle.std.specs.Prelude.{◌≡◌, ◌<◌, ◌||◌, true, length, IsSome};
-ghost use Rattle.desc_stores.specs.Contents.{content_of};
+ghost use Rattle.board_laws.specs.desc_stores.specs.Contents.{content_of};
 ghost use Rattle.cached_machine.specs.Stepping.{left_by, IfThread, IsMarked, IsStepped};
 ghost use Rattle.thread_sets.specs.Sets.{noted};
 
+use board_laws::desc_tables::{ItemRef, Tables};
 use cache_ident::{Name, SpaceNo, ThreadNo, Vpn};
-use desc_tables::{ItemRef, Tables};
 use phys_groups::Row;
 use rv32_exec::{Context, Status};
 use thread_cache::ThreadRec;

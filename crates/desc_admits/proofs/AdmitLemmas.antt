@@ -35,24 +35,24 @@ use Rattle.thread_cache.specs.Threads as thread_rec
 use Rattle.kind_store.specs.Kept as stored
 use Rattle.kind_store.specs.Rolls.{loaded_as}
 use Rattle.row_store.specs.Kept.{signal_names}
-use Rattle.desc_stores.specs.declared.items.Item.{Item}
-use Rattle.desc_stores.specs.declared.items.Item.TheVariants as item
-use Rattle.desc_stores.specs.declared.items.ItemRef.{ItemRef}
-use Rattle.desc_stores.specs.Contents.{content_of, item_as, item_in, resident_as, resident_in, resident_of, residents_of, Contents, HasNoResident, IsResidentAs}
-use Rattle.desc_stores.specs.Items.{name_of, shown}
-use Rattle.desc_stores.specs.Sound.{IsExactlyOne}
-use Rattle.desc_stores.proofs.KindLemmas.{own_ident}
-use Rattle.resident_pairs.specs.Among.{AreParents}
-use Rattle.shown_state.specs.Shown.{row_of_item, space_of, thread_of}
-use Rattle.shown_state.proofs.ContentLemmas.{item_has_name}
-use Rattle.shown_state.proofs.LookupLemmas.{found_row, found_space, found_thread, signals_named}
-use Rattle.store_residents.proofs.ContentLemmas.{loaded_item, resident_item}
-use Rattle.store_residents.proofs.FrameLemmas.{rows_on_frame}
-use Rattle.store_residents.proofs.ResidentLemmas.{absent_iff, loaded_resident, named_iff, resident_loaded}
-use Rattle.desc_parents.specs.Idents.{fit_signal_names}
-use Rattle.desc_parents.specs.Seen.{seen}
-use Rattle.desc_parents.proofs.ParentLemmas.{parents_of_item}
-use Rattle.desc_parents.proofs.RowLemmas.{fit_in, fit_names}
+use Rattle.desc_groups.specs.desc_stores.specs.declared.items.Item.{Item}
+use Rattle.desc_groups.specs.desc_stores.specs.declared.items.Item.TheVariants as item
+use Rattle.desc_groups.specs.desc_stores.specs.declared.items.ItemRef.{ItemRef}
+use Rattle.desc_groups.specs.desc_stores.specs.Contents.{content_of, item_as, item_in, resident_as, resident_in, resident_of, residents_of, Contents, HasNoResident, IsResidentAs}
+use Rattle.desc_groups.specs.desc_stores.specs.Items.{name_of, shown}
+use Rattle.desc_groups.specs.desc_stores.specs.Sound.{IsExactlyOne}
+use Rattle.desc_groups.specs.desc_stores.proofs.KindLemmas.{own_ident}
+use Rattle.desc_groups.specs.resident_pairs.specs.Among.{AreParents}
+use Rattle.desc_groups.specs.shown_state.specs.Shown.{row_of_item, space_of, thread_of}
+use Rattle.desc_groups.specs.shown_state.proofs.ContentLemmas.{item_has_name}
+use Rattle.desc_groups.specs.shown_state.proofs.LookupLemmas.{found_row, found_space, found_thread, signals_named}
+use Rattle.desc_groups.specs.store_residents.proofs.ContentLemmas.{loaded_item, resident_item}
+use Rattle.desc_groups.specs.store_residents.proofs.FrameLemmas.{rows_on_frame}
+use Rattle.desc_groups.specs.store_residents.proofs.ResidentLemmas.{absent_iff, loaded_resident, named_iff, resident_loaded}
+use Rattle.desc_groups.specs.desc_parents.specs.Idents.{fit_signal_names}
+use Rattle.desc_groups.specs.desc_parents.specs.Seen.{seen}
+use Rattle.desc_groups.specs.desc_parents.proofs.ParentLemmas.{parents_of_item}
+use Rattle.desc_groups.specs.desc_parents.proofs.RowLemmas.{fit_in, fit_names}
 use Rattle.desc_admits.specs.Admits.{AreKept, AreLoaded, IsClosed, HasLockLeft, IsLoadedIfFit, IsMessageRowAs, KeepsParentsAs, KeepsParentsOf, OwnerHasLockLeft}
 use Rattle.desc_admits.specs.May.{HasNoMessages}
 

@@ -18,13 +18,13 @@ use Rattle.flat_state.specs.declared.records.FlatKernel.{FlatKernel}
 use Rattle.run_journal.specs.Legal.{limit_of, limits_in, locked_by}
 use Rattle.kernel_cache.specs.declared.KernelRec.{KernelRec}
 use Rattle.thread_cache.specs.declared.ThreadRec.{ThreadRec}
-use Rattle.desc_stores.specs.declared.items.Item.TheVariants as item
-use Rattle.desc_stores.specs.Contents.{content_of, residents_of, Contents, LockIs}
-use Rattle.desc_stores.specs.Sound.{IsExactlyOne}
-use Rattle.shown_state.specs.Shown.{kernel_of, thread_of}
-use Rattle.shown_state.proofs.ContentLemmas.{item_has_name}
-use Rattle.shown_state.proofs.LookupLemmas.{found_kernel, found_thread}
-use Rattle.desc_parents.specs.Seen.{seen}
+use Rattle.desc_groups.specs.desc_stores.specs.declared.items.Item.TheVariants as item
+use Rattle.desc_groups.specs.desc_stores.specs.Contents.{content_of, residents_of, Contents, LockIs}
+use Rattle.desc_groups.specs.desc_stores.specs.Sound.{IsExactlyOne}
+use Rattle.desc_groups.specs.shown_state.specs.Shown.{kernel_of, thread_of}
+use Rattle.desc_groups.specs.shown_state.proofs.ContentLemmas.{item_has_name}
+use Rattle.desc_groups.specs.shown_state.proofs.LookupLemmas.{found_kernel, found_thread}
+use Rattle.desc_groups.specs.desc_parents.specs.Seen.{seen}
 use Rattle.desc_groups.specs.Moves.{MayBeLocked}
 use Rattle.desc_groups.specs.Whole.{IsWhole}
 use Rattle.desc_admits.specs.Admits.{HasLockLeft, OwnerHasLockLeft}

@@ -15,10 +15,10 @@ use Rattle.flat_state.specs.Names.{is_fit_found}
 use Rattle.flat_state.specs.State.{FlatState}
 use Rattle.flat_state.specs.Translation.{is_fit_row}
 use Rattle.run_journal.specs.Legal.{is_kind, limit_of, locked_by}
-use Rattle.desc_stores.specs.declared.items.Item.TheVariants as item
-use Rattle.desc_stores.specs.Contents.{content_of, item_as, resident_as, residents_of, Contents}
-use Rattle.shown_state.specs.Shown.{row_of_item}
-use Rattle.desc_parents.specs.Seen.{seen}
+use Rattle.desc_groups.specs.desc_stores.specs.declared.items.Item.TheVariants as item
+use Rattle.desc_groups.specs.desc_stores.specs.Contents.{content_of, item_as, resident_as, residents_of, Contents}
+use Rattle.desc_groups.specs.shown_state.specs.Shown.{row_of_item}
+use Rattle.desc_groups.specs.desc_parents.specs.Seen.{seen}
 use Rattle.desc_admits.specs.May.{kept_of, HasNoMessages, wanted_of}
 
 -- each of the names is loaded

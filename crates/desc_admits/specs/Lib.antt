@@ -1,2 +1,10 @@
+pub use Rattle.desc_groups
+pub use Rattle.desc_groups.specs.desc_parents
+pub use Rattle.desc_groups.specs.desc_stores
+pub use Rattle.desc_groups.specs.group_laws
+pub use Rattle.desc_groups.specs.journal_laws
+pub use Rattle.desc_groups.specs.resident_pairs
+pub use Rattle.desc_groups.specs.shown_state
+pub use Rattle.desc_groups.specs.store_residents
 pub mod May
 pub mod Admits

@@ -17,12 +17,12 @@ use Rattle.flat_state.specs.Translation.{is_fit_row}
 use Rattle.run_journal.specs.Groups.{HasParents}
 use Rattle.run_journal.specs.Legal.{is_kind}
 use Rattle.kernel_cache.specs.declared.KernelRec.{KernelRec}
-use Rattle.desc_stores.specs.declared.items.Item.{Item}
-use Rattle.desc_stores.specs.declared.items.Item.TheVariants as item
-use Rattle.desc_stores.specs.Changes.{IsNext}
-use Rattle.desc_stores.specs.Contents.{content_of, residents_of, IsShelved, Contents}
-use Rattle.desc_stores.specs.Items.{name_of}
-use Rattle.desc_parents.specs.Seen.{seen}
+use Rattle.desc_groups.specs.desc_stores.specs.declared.items.Item.{Item}
+use Rattle.desc_groups.specs.desc_stores.specs.declared.items.Item.TheVariants as item
+use Rattle.desc_groups.specs.desc_stores.specs.Changes.{IsNext}
+use Rattle.desc_groups.specs.desc_stores.specs.Contents.{content_of, residents_of, IsShelved, Contents}
+use Rattle.desc_groups.specs.desc_stores.specs.Items.{name_of}
+use Rattle.desc_groups.specs.desc_parents.specs.Seen.{seen}
 
 -- of each kind so many are wanted at most by one step of a thread, a new one among them
 abbrev pub wanted_of : Kind → ℕ

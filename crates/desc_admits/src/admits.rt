@@ -12,21 +12,21 @@ ghost use Rattle.flat_state.specs.Declaration.{agree, is_receiver_in, locks_gran
 ghost use Rattle.flat_state.specs.Dependence.{parents_of_row};
 ghost use Rattle.flat_state.specs.Names.{is_fit_found, is_fit_name as is_fit_in};
 ghost use Rattle.run_journal.specs.Groups.{HasParents};
-ghost use Rattle.desc_stores.specs.Changes.{IsNext};
-ghost use Rattle.desc_stores.specs.Contents.{content_of, residents_of, IsShelved};
-ghost use Rattle.desc_stores.specs.Items.{name_of};
-ghost use Rattle.shown_state.specs.Shown.{row_of_item};
-ghost use Rattle.desc_parents.specs.Idents.{fit_signal_names};
-ghost use Rattle.desc_parents.specs.Seen.{seen, HasPlainRows};
+ghost use Rattle.desc_groups.specs.desc_stores.specs.Changes.{IsNext};
+ghost use Rattle.desc_groups.specs.desc_stores.specs.Contents.{content_of, residents_of, IsShelved};
+ghost use Rattle.desc_groups.specs.desc_stores.specs.Items.{name_of};
+ghost use Rattle.desc_groups.specs.shown_state.specs.Shown.{row_of_item};
+ghost use Rattle.desc_groups.specs.desc_parents.specs.Idents.{fit_signal_names};
+ghost use Rattle.desc_groups.specs.desc_parents.specs.Seen.{seen, HasPlainRows};
 ghost use Rattle.desc_groups.specs.Moves.{MayBeLocked};
 ghost use Rattle.desc_groups.specs.Whole.{IsWhole};
 ghost use Rattle.desc_admits.specs.Admits.{AreFewOf, AreKept, AreLoaded, HasLockLeft, IsClosed, IsKeptBeside, IsLoadedIfFit, IsMessageRowAs, KeepsParentsAs, KeepsParentsOf, LeavesRoomBeside, MaySignal, OwnerHasLockLeft, limit_as};
 ghost use Rattle.desc_admits.specs.May.{HasNoMessages, IsNewItem, IsNewKernel, IsNewRow, MayBeDeclared, MayBeLoaded, wanted_of};
 
 use cache_ident::{Caps, Frame, Ident, KernelNo, Kind, Name, ThreadNo};
+use desc_groups::desc_parents::{is_fit, parents_of};
+use desc_groups::desc_stores::{Item, ItemRef, Stores};
 use desc_groups::owner_of;
-use desc_parents::{is_fit, parents_of};
-use desc_stores::{Item, ItemRef, Stores};
 use kernel_cache::KernelRec;
 use phys_groups::{Flags, Row};
 

@@ -13,11 +13,11 @@ use Rattle.flat_state.specs.State.{FlatState}
 use Rattle.flat_state.specs.Dependence.{owner}
 use Rattle.run_journal.specs.Legal.{is_kernel, is_kind, locked_by}
 use Rattle.kernel_cache.specs.declared.KernelRec.{KernelRec}
-use Rattle.store_residents.proofs.SlotLemmas.{is_kind-refl, kind_is}
-use Rattle.group_laws.specs.Leaving.{lock_of}
-use Rattle.desc_stores.specs.declared.items.Item.TheVariants as item
-use Rattle.desc_stores.specs.Changes.{KeepsContents}
-use Rattle.desc_stores.specs.Contents.{content_of, residents_of, Contents}
+use Rattle.desc_parents.specs.store_residents.proofs.SlotLemmas.{is_kind-refl, kind_is}
+use Rattle.desc_parents.specs.group_laws.specs.Leaving.{lock_of}
+use Rattle.desc_parents.specs.desc_stores.specs.declared.items.Item.TheVariants as item
+use Rattle.desc_parents.specs.desc_stores.specs.Changes.{KeepsContents}
+use Rattle.desc_parents.specs.desc_stores.specs.Contents.{content_of, residents_of, Contents}
 use Rattle.desc_groups.specs.Moves.{counted_down, counted_up, with_amount, IsPutKernel}
 use Rattle.desc_groups.proofs.ShowLemmas.{counted_put, AreCounted}
 

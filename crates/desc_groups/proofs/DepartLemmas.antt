@@ -16,19 +16,19 @@ use Rattle.flat_state.specs.Dependence.{owner}
 use Rattle.kernel_cache.specs.declared.KernelRec.{KernelRec}
 use Rattle.run_journal.specs.Groups.{ArePairsOf, NothingDependsOn}
 use Rattle.run_journal.specs.Legal.{locked_by, AreGood}
-use Rattle.desc_stores.specs.declared.items.Item.TheVariants as item
-use Rattle.desc_stores.specs.Changes.{room_of, IsLeavingIn, IsLeavingOf, KeepsContents}
-use Rattle.desc_stores.specs.Contents.{content_of, residents_of, Contents}
-use Rattle.desc_stores.specs.Sound.{AreOwned, IsExactlyOne}
-use Rattle.group_laws.specs.Leaving.{lock_of}
-use Rattle.group_laws.proofs.LockCounts.{locks_left}
-use Rattle.group_laws.proofs.StayingGood.{good_left}
-use Rattle.shown_state.specs.Shown.{ShowsAlike}
-use Rattle.shown_state.proofs.MoveLemmas.{alike_leaving}
-use Rattle.store_residents.specs.Slots.{KeepsSlots}
-use Rattle.store_residents.proofs.KindLemmas.{at_as}
-use Rattle.store_residents.proofs.ResidentLemmas.{one_each}
-use Rattle.store_residents.proofs.StayLemmas.{slots-kept, slots-leaving}
+use Rattle.desc_parents.specs.desc_stores.specs.declared.items.Item.TheVariants as item
+use Rattle.desc_parents.specs.desc_stores.specs.Changes.{room_of, IsLeavingIn, IsLeavingOf, KeepsContents}
+use Rattle.desc_parents.specs.desc_stores.specs.Contents.{content_of, residents_of, Contents}
+use Rattle.desc_parents.specs.desc_stores.specs.Sound.{AreOwned, IsExactlyOne}
+use Rattle.desc_parents.specs.group_laws.specs.Leaving.{lock_of}
+use Rattle.desc_parents.specs.group_laws.proofs.LockCounts.{locks_left}
+use Rattle.desc_parents.specs.group_laws.proofs.StayingGood.{good_left}
+use Rattle.desc_parents.specs.shown_state.specs.Shown.{ShowsAlike}
+use Rattle.desc_parents.specs.shown_state.proofs.MoveLemmas.{alike_leaving}
+use Rattle.desc_parents.specs.store_residents.specs.Slots.{KeepsSlots}
+use Rattle.desc_parents.specs.store_residents.proofs.KindLemmas.{at_as}
+use Rattle.desc_parents.specs.store_residents.proofs.ResidentLemmas.{one_each}
+use Rattle.desc_parents.specs.store_residents.proofs.StayLemmas.{slots-kept, slots-leaving}
 use Rattle.desc_parents.specs.Seen.{seen, HasPlainRows}
 use Rattle.desc_groups.specs.Moves.{counted_down, IsPutKernel, KeepsButCounts}
 use Rattle.desc_groups.specs.Whole.{AreWhole, IsWhole}

@@ -9,15 +9,15 @@ use Rattle.flat_state.specs.Dependence.{owner}
 use Rattle.flat_state.specs.Names.{stands}
 use Rattle.run_journal.specs.Groups.{ArePairsOf, NothingDependsOn}
 use Rattle.run_journal.specs.Legal.{locked_by, AreGood}
-use Rattle.desc_stores.specs.Changes.{IsLoadingOf, KeepsContents}
-use Rattle.desc_stores.specs.Contents.{residents_of, Contents}
-use Rattle.desc_stores.specs.Sound.{AreOwned, IsExactlyOne}
-use Rattle.group_laws.proofs.LockCounts.{locks_loaded}
-use Rattle.group_laws.proofs.StayingGood.{good_loaded, last_loaded}
-use Rattle.shown_state.proofs.LookupLemmas.{all_found}
-use Rattle.shown_state.proofs.MoveLemmas.{alike_loading}
-use Rattle.store_residents.proofs.ContentLemmas.{shelved_iff}
-use Rattle.store_residents.proofs.StayLemmas.{slots-loading}
+use Rattle.desc_parents.specs.desc_stores.specs.Changes.{IsLoadingOf, KeepsContents}
+use Rattle.desc_parents.specs.desc_stores.specs.Contents.{residents_of, Contents}
+use Rattle.desc_parents.specs.desc_stores.specs.Sound.{AreOwned, IsExactlyOne}
+use Rattle.desc_parents.specs.group_laws.proofs.LockCounts.{locks_loaded}
+use Rattle.desc_parents.specs.group_laws.proofs.StayingGood.{good_loaded, last_loaded}
+use Rattle.desc_parents.specs.shown_state.proofs.LookupLemmas.{all_found}
+use Rattle.desc_parents.specs.shown_state.proofs.MoveLemmas.{alike_loading}
+use Rattle.desc_parents.specs.store_residents.proofs.ContentLemmas.{shelved_iff}
+use Rattle.desc_parents.specs.store_residents.proofs.StayLemmas.{slots-loading}
 use Rattle.desc_parents.specs.Seen.{seen}
 use Rattle.desc_groups.specs.Moves.{MayEnter}
 use Rattle.desc_groups.specs.Whole.{AreWhole}

@@ -18,14 +18,14 @@ use Rattle.flat_laws.proofs.Members.{Contains-behind, Contains-cases, Contains-h
 use Rattle.slot_cache.proofs.SlotLemmas.{some_same}
 use Rattle.run_journal.specs.Groups.{node_of, IsGroup, NothingDependsOn}
 use Rattle.run_journal.proofs.Others.{differ}
-use Rattle.resident_pairs.specs.Among.{Among}
-use Rattle.desc_stores.specs.Contents.{resident_as, residents_of, Contents}
-use Rattle.group_laws.specs.Leaving.{without_all}
-use Rattle.group_laws.proofs.FromBelow.{group_leaves}
-use Rattle.group_laws.proofs.Remaining.{without_all-push}
-use Rattle.shown_state.proofs.LookupLemmas.{one_row_a_page}
-use Rattle.store_residents.proofs.KindLemmas.{at_as, live_loaded}
-use Rattle.store_residents.proofs.ResidentLemmas.{live_iff, loaded_resident, one_each, resident_loaded}
+use Rattle.desc_parents.specs.resident_pairs.specs.Among.{Among}
+use Rattle.desc_parents.specs.desc_stores.specs.Contents.{resident_as, residents_of, Contents}
+use Rattle.desc_parents.specs.group_laws.specs.Leaving.{without_all}
+use Rattle.desc_parents.specs.group_laws.proofs.FromBelow.{group_leaves}
+use Rattle.desc_parents.specs.group_laws.proofs.Remaining.{without_all-push}
+use Rattle.desc_parents.specs.shown_state.proofs.LookupLemmas.{one_row_a_page}
+use Rattle.desc_parents.specs.store_residents.proofs.KindLemmas.{at_as, live_loaded}
+use Rattle.desc_parents.specs.store_residents.proofs.ResidentLemmas.{live_iff, loaded_resident, one_each, resident_loaded}
 use Rattle.desc_parents.specs.Seen.{seen}
 use Rattle.desc_groups.specs.declared.departures.Gone.{Gone}
 use Rattle.desc_groups.specs.Moves.{departed_all, gone_as, idents_of, HasPlaces, KeepsButCounts}

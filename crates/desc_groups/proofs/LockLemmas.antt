@@ -13,19 +13,19 @@ use Rattle.flat_state.specs.Dependence.{owner}
 use Rattle.run_journal.specs.Groups.{ArePairsOf}
 use Rattle.run_journal.specs.Legal.{locked_by, AreGood}
 use Rattle.kernel_cache.specs.declared.KernelRec.{KernelRec}
-use Rattle.resident_pairs.proofs.Staying.{lock_keeps}
-use Rattle.group_laws.specs.Leaving.{lock_of, AreApart}
-use Rattle.group_laws.proofs.LockCounts.{locks_locked, locks_unlocked}
-use Rattle.group_laws.proofs.StayingGood.{good_locked}
-use Rattle.desc_stores.specs.declared.items.Item.TheVariants as item
-use Rattle.desc_stores.specs.Changes.{relocked, relocked_in, room_of, KeepsContents}
-use Rattle.desc_stores.specs.Contents.{content_of, resident_as, residents_of, Contents}
-use Rattle.desc_stores.specs.Sound.{AreOwned, IsExactlyOne}
-use Rattle.shown_state.proofs.MoveLemmas.{alike_locking}
-use Rattle.store_residents.specs.Slots.{KeepsSlots}
-use Rattle.store_residents.proofs.KindLemmas.{at_as}
-use Rattle.store_residents.proofs.ResidentLemmas.{loaded_resident, serials_rise}
-use Rattle.store_residents.proofs.StayLemmas.{slots-locking}
+use Rattle.desc_parents.specs.resident_pairs.proofs.Staying.{lock_keeps}
+use Rattle.desc_parents.specs.group_laws.specs.Leaving.{lock_of, AreApart}
+use Rattle.desc_parents.specs.group_laws.proofs.LockCounts.{locks_locked, locks_unlocked}
+use Rattle.desc_parents.specs.group_laws.proofs.StayingGood.{good_locked}
+use Rattle.desc_parents.specs.desc_stores.specs.declared.items.Item.TheVariants as item
+use Rattle.desc_parents.specs.desc_stores.specs.Changes.{relocked, relocked_in, room_of, KeepsContents}
+use Rattle.desc_parents.specs.desc_stores.specs.Contents.{content_of, resident_as, residents_of, Contents}
+use Rattle.desc_parents.specs.desc_stores.specs.Sound.{AreOwned, IsExactlyOne}
+use Rattle.desc_parents.specs.shown_state.proofs.MoveLemmas.{alike_locking}
+use Rattle.desc_parents.specs.store_residents.specs.Slots.{KeepsSlots}
+use Rattle.desc_parents.specs.store_residents.proofs.KindLemmas.{at_as}
+use Rattle.desc_parents.specs.store_residents.proofs.ResidentLemmas.{loaded_resident, serials_rise}
+use Rattle.desc_parents.specs.store_residents.proofs.StayLemmas.{slots-locking}
 use Rattle.desc_parents.specs.Seen.{seen}
 use Rattle.desc_groups.specs.Moves.{but_for_counts, counted_down, counted_up, IsPutKernel, KeepsButCounts}
 use Rattle.desc_groups.specs.Whole.{AreWhole, StaysWhole}

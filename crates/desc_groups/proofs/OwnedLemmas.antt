@@ -13,10 +13,10 @@ use Rattle.depend_lists.specs.declared.nodes.Node.{Node}
 use Rattle.flat_state.specs.Dependence.{owner}
 use Rattle.run_journal.specs.Legal.{locked_by}
 use Rattle.kernel_cache.specs.declared.KernelRec.{KernelRec}
-use Rattle.desc_stores.specs.declared.items.Item.TheVariants as item
-use Rattle.desc_stores.specs.Contents.{content_of, resident_as, residents_of, Contents}
-use Rattle.store_residents.proofs.KindLemmas.{live_loaded}
-use Rattle.store_residents.proofs.ResidentLemmas.{loaded_resident}
+use Rattle.desc_parents.specs.desc_stores.specs.declared.items.Item.TheVariants as item
+use Rattle.desc_parents.specs.desc_stores.specs.Contents.{content_of, resident_as, residents_of, Contents}
+use Rattle.desc_parents.specs.store_residents.proofs.KindLemmas.{live_loaded}
+use Rattle.desc_parents.specs.store_residents.proofs.ResidentLemmas.{loaded_resident}
 use Rattle.desc_parents.specs.Seen.{seen}
 use Rattle.desc_groups.specs.Whole.{AreWhole}
 use Rattle.desc_groups.proofs.OwnerLemmas.{kernel_there, owner_stands}

@@ -23,7 +23,7 @@ use Rattle.run_journal.specs.Legal.{limit_of, limits_in, AreGood}
 use Rattle.phys_groups.specs.Translation.{row_of}
 use Rattle.cache_ident.specs.declared.idents.Ident.{Ident}
 use Rattle.cache_ident.specs.Residents.{Resident, IsNameResident}
-use Rattle.store_residents.proofs.ContentLemmas.{loaded_item}
+use Rattle.desc_parents.specs.store_residents.proofs.ContentLemmas.{loaded_item}
 use Rattle.phys_groups.specs.declared.rows.Row.{Row}
 use Rattle.phys_groups.specs.Rows.{row_name}
 use Rattle.kernel_cache.specs.declared.KernelRec.{KernelRec}
@@ -32,14 +32,14 @@ use Rattle.thread_cache.specs.declared.ThreadRec.{ThreadRec}
 use Rattle.cache_ident.specs.declared.idents.Kind.{Kind}
 use Rattle.cache_ident.specs.Names.{amount_of}
 use Rattle.kind_store.specs.Kept as stored
-use Rattle.desc_stores.specs.declared.items.Item.{Item}
-use Rattle.desc_stores.specs.declared.items.Item.TheVariants as item
-use Rattle.desc_stores.specs.Contents.{content_of, item_as, resident_as, Contents}
-use Rattle.desc_stores.specs.Items.{name_of}
-use Rattle.desc_stores.specs.Sound.{IsExactlyOne}
-use Rattle.shown_state.specs.Shown.{kernel_of, row_of_item, thread_of}
-use Rattle.shown_state.proofs.ContentLemmas.{content_has_name, item_has_name, row_has_name}
-use Rattle.shown_state.proofs.LookupLemmas.{count_kernels, found_kernel, found_row, found_thread, name_stands}
+use Rattle.desc_parents.specs.desc_stores.specs.declared.items.Item.{Item}
+use Rattle.desc_parents.specs.desc_stores.specs.declared.items.Item.TheVariants as item
+use Rattle.desc_parents.specs.desc_stores.specs.Contents.{content_of, item_as, resident_as, Contents}
+use Rattle.desc_parents.specs.desc_stores.specs.Items.{name_of}
+use Rattle.desc_parents.specs.desc_stores.specs.Sound.{IsExactlyOne}
+use Rattle.desc_parents.specs.shown_state.specs.Shown.{kernel_of, row_of_item, thread_of}
+use Rattle.desc_parents.specs.shown_state.proofs.ContentLemmas.{content_has_name, item_has_name, row_has_name}
+use Rattle.desc_parents.specs.shown_state.proofs.LookupLemmas.{count_kernels, found_kernel, found_row, found_thread, name_stands}
 use Rattle.desc_parents.specs.Seen.{seen}
 
 -- the first kernel, if it is asked for

@@ -7,12 +7,12 @@ use Rattle.cache_ident.specs.declared.names.Caps.{Caps}
 use Rattle.cache_ident.specs.Residents.{Resident, without}
 use Rattle.depend_lists.specs.declared.nodes.Node.{Node}
 use Rattle.run_journal.specs.Groups.{IsGroup}
-use Rattle.desc_stores.specs.Contents.{residents_of, Contents}
-use Rattle.group_laws.specs.Leaving.{without_all}
-use Rattle.group_laws.proofs.FromBelow.{group_leaves}
-use Rattle.group_laws.proofs.Remaining.{without_all-push}
-use Rattle.shown_state.proofs.LookupLemmas.{one_row_a_page}
-use Rattle.store_residents.proofs.ResidentLemmas.{one_each}
+use Rattle.desc_parents.specs.desc_stores.specs.Contents.{residents_of, Contents}
+use Rattle.desc_parents.specs.group_laws.specs.Leaving.{without_all}
+use Rattle.desc_parents.specs.group_laws.proofs.FromBelow.{group_leaves}
+use Rattle.desc_parents.specs.group_laws.proofs.Remaining.{without_all-push}
+use Rattle.desc_parents.specs.shown_state.proofs.LookupLemmas.{one_row_a_page}
+use Rattle.desc_parents.specs.store_residents.proofs.ResidentLemmas.{one_each}
 use Rattle.desc_parents.specs.Seen.{seen}
 use Rattle.desc_groups.specs.Moves.{HasPlaces}
 use Rattle.desc_groups.specs.Whole.{AreWhole}

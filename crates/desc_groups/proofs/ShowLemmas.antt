@@ -18,18 +18,18 @@ use Rattle.run_journal.specs.Legal.{locked_by, AreGood}
 use Rattle.kernel_cache.specs.declared.KernelRec.{KernelRec}
 use Rattle.kind_store.specs.Changes.{is_name}
 use Rattle.owner_shelf.proofs.NameLemmas.{eq_same, same_by_eq}
-use Rattle.desc_stores.specs.declared.items.Item.{Item}
-use Rattle.desc_stores.specs.declared.items.Item.TheVariants as item
-use Rattle.desc_stores.specs.Changes.{room_of, HasContent, KeepsContents}
-use Rattle.desc_stores.specs.Contents.{content_of, residents_of, Contents}
-use Rattle.desc_stores.specs.Items.{name_of}
-use Rattle.desc_stores.specs.Sound.{AreOwned, IsExactlyOne}
-use Rattle.shown_state.specs.Shown.{flat_kernel, kernel_of, row_of_item, space_of, thread_of, ShowsAlike}
-use Rattle.shown_state.proofs.AlikeLemmas.{shown_alike}
-use Rattle.shown_state.proofs.ContentLemmas.{item_has_name}
-use Rattle.shown_state.proofs.MoveLemmas.{names_in_kernels}
-use Rattle.store_residents.specs.Slots.{KeepsSlots}
-use Rattle.store_residents.proofs.StayLemmas.{slots-is, slots-kept, slots-kernels}
+use Rattle.desc_parents.specs.desc_stores.specs.declared.items.Item.{Item}
+use Rattle.desc_parents.specs.desc_stores.specs.declared.items.Item.TheVariants as item
+use Rattle.desc_parents.specs.desc_stores.specs.Changes.{room_of, HasContent, KeepsContents}
+use Rattle.desc_parents.specs.desc_stores.specs.Contents.{content_of, residents_of, Contents}
+use Rattle.desc_parents.specs.desc_stores.specs.Items.{name_of}
+use Rattle.desc_parents.specs.desc_stores.specs.Sound.{AreOwned, IsExactlyOne}
+use Rattle.desc_parents.specs.shown_state.specs.Shown.{flat_kernel, kernel_of, row_of_item, space_of, thread_of, ShowsAlike}
+use Rattle.desc_parents.specs.shown_state.proofs.AlikeLemmas.{shown_alike}
+use Rattle.desc_parents.specs.shown_state.proofs.ContentLemmas.{item_has_name}
+use Rattle.desc_parents.specs.shown_state.proofs.MoveLemmas.{names_in_kernels}
+use Rattle.desc_parents.specs.store_residents.specs.Slots.{KeepsSlots}
+use Rattle.desc_parents.specs.store_residents.proofs.StayLemmas.{slots-is, slots-kept, slots-kernels}
 use Rattle.desc_parents.specs.Seen.{seen, HasPlainRows}
 use Rattle.desc_groups.specs.Moves.{but_for_counts, IsPutKernel, KeepsButCounts}
 use Rattle.desc_groups.specs.Whole.{AreWhole}

@@ -1,2 +1,9 @@
+pub use Rattle.desc_parents
+pub use Rattle.desc_parents.specs.desc_stores
+pub use Rattle.desc_parents.specs.group_laws
+pub use Rattle.desc_parents.specs.journal_laws
+pub use Rattle.desc_parents.specs.resident_pairs
+pub use Rattle.desc_parents.specs.shown_state
+pub use Rattle.desc_parents.specs.store_residents
 pub mod Whole
 pub mod Moves

@@ -15,18 +15,18 @@ use Rattle.cache_ident.specs.Rolls.{departed}
 use Rattle.depend_lists.specs.declared.nodes.TheConstants.{MOST_PARENTS}
 use Rattle.flat_state.specs.declared.events.Machine.{Machine}
 use Rattle.flat_state.specs.Names.{is_fit_name}
-use Rattle.resident_pairs.specs.Among.{AreParents}
+use Rattle.desc_parents.specs.resident_pairs.specs.Among.{AreParents}
 use Rattle.run_journal.specs.Groups.{HasParents, IsGroup}
 use Rattle.kernel_cache.specs.declared.KernelRec.{KernelRec}
-use Rattle.desc_stores.specs.declared.items.Item.{Item}
-use Rattle.desc_stores.specs.declared.items.Item.TheVariants as item
+use Rattle.desc_parents.specs.desc_stores.specs.declared.items.Item.{Item}
+use Rattle.desc_parents.specs.desc_stores.specs.declared.items.Item.TheVariants as item
 use Rattle.cache_ident.specs.declared.names.KernelNo.{KernelNo}
 use Rattle.flat_state.specs.Dependence.{owner}
 use Rattle.run_journal.specs.Legal.{limit_of, locked_by}
-use Rattle.desc_stores.specs.Changes.{room_of, HasContent}
-use Rattle.desc_stores.specs.Contents.{content_of, resident_as, residents_of, IsFullOf, IsShelved, Contents}
-use Rattle.desc_stores.specs.Sound.{AreOwned}
-use Rattle.shown_state.specs.Shown.{shown}
+use Rattle.desc_parents.specs.desc_stores.specs.Changes.{room_of, HasContent}
+use Rattle.desc_parents.specs.desc_stores.specs.Contents.{content_of, resident_as, residents_of, IsFullOf, IsShelved, Contents}
+use Rattle.desc_parents.specs.desc_stores.specs.Sound.{AreOwned}
+use Rattle.desc_parents.specs.shown_state.specs.Shown.{shown}
 use Rattle.desc_groups.specs.declared.departures.Gone.{Gone}
 use Rattle.desc_parents.specs.Seen.{seen}
 

@@ -10,10 +10,10 @@ use Rattle.flat_state.specs.Dependence.{owner}
 use Rattle.run_journal.specs.Groups.{ArePairsOf}
 use Rattle.run_journal.specs.Legal.{locked_by, AreGood}
 use Rattle.kernel_cache.specs.declared.KernelRec.{KernelRec}
-use Rattle.desc_stores.specs.declared.items.Item.TheVariants as item
-use Rattle.desc_stores.specs.Contents.{content_of, residents_of, Contents}
-use Rattle.desc_stores.specs.Sound.{AreOwned, IsExactlyOne}
-use Rattle.store_residents.specs.Slots.{HasSlots}
+use Rattle.desc_parents.specs.desc_stores.specs.declared.items.Item.TheVariants as item
+use Rattle.desc_parents.specs.desc_stores.specs.Contents.{content_of, residents_of, Contents}
+use Rattle.desc_parents.specs.desc_stores.specs.Sound.{AreOwned, IsExactlyOne}
+use Rattle.desc_parents.specs.store_residents.specs.Slots.{HasSlots}
 use Rattle.desc_parents.specs.Seen.{seen, HasPlainRows}
 
 -- a kernel's counts are those of its descriptors that are locked

@@ -5,14 +5,14 @@ ghost use Rattle.cache_ident.specs.Names.{amount_of};
 ghost use Rattle.cache_ident.specs.declared.names.KernelNo.{KernelNo};
 ghost use Rattle.cache_ident.specs.declared.names.Name.{Name};
 ghost use Rattle.kernel_cache.specs.declared.KernelRec.{KernelRec};
-ghost use Rattle.desc_stores.specs.declared.items.Item.{Item};
-ghost use Rattle.desc_stores.specs.Changes.{HasContent};
-ghost use Rattle.desc_stores.specs.Contents.{content_of, residents_of};
-ghost use Rattle.desc_stores.specs.Sound.{AreOwned};
+ghost use Rattle.desc_parents.specs.desc_stores.specs.declared.items.Item.{Item};
+ghost use Rattle.desc_parents.specs.desc_stores.specs.Changes.{HasContent};
+ghost use Rattle.desc_parents.specs.desc_stores.specs.Contents.{content_of, residents_of};
+ghost use Rattle.desc_parents.specs.desc_stores.specs.Sound.{AreOwned};
 ghost use Rattle.desc_groups.specs.Moves.{counted_down, counted_up, with_amount, IsPutKernel};
 
 use cache_ident::{Caps, KernelNo, Kind, Name};
-use desc_stores::{ItemRef, Stores};
+use desc_parents::desc_stores::{ItemRef, Stores};
 
 /// The record of a kernel, which may lock more of the kind, has one more that is locked.
 pub(crate) fn count_up(stores: &mut Stores, kernel: KernelNo, kind: Kind)

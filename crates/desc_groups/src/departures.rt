@@ -9,11 +9,11 @@ ghost use Rattle.writeback_order.specs.Order.{IsOrder};
 ghost use Rattle.flat_state.specs.Dependence.{owner};
 ghost use Rattle.run_journal.specs.Groups.{IsGroup, node_of, NothingDependsOn};
 ghost use Rattle.kernel_cache.specs.declared.KernelRec.{KernelRec};
-ghost use Rattle.desc_stores.specs.declared.items.Item.{Item};
-ghost use Rattle.desc_stores.specs.Contents.{content_of, residents_of, resident_as};
-ghost use Rattle.desc_stores.specs.Sound.{AreOwned, IsExactlyOne};
-ghost use Rattle.store_residents.specs.Slots.{KeepsSlots};
-ghost use Rattle.group_laws.specs.Leaving.{without_all};
+ghost use Rattle.desc_parents.specs.desc_stores.specs.declared.items.Item.{Item};
+ghost use Rattle.desc_parents.specs.desc_stores.specs.Contents.{content_of, residents_of, resident_as};
+ghost use Rattle.desc_parents.specs.desc_stores.specs.Sound.{AreOwned, IsExactlyOne};
+ghost use Rattle.desc_parents.specs.store_residents.specs.Slots.{KeepsSlots};
+ghost use Rattle.desc_parents.specs.group_laws.specs.Leaving.{without_all};
 ghost use Rattle.desc_parents.specs.Seen.{seen};
 ghost use Rattle.desc_groups.specs.Whole.{AreWhole, HasCounts, IsWhole};
 ghost use Rattle.desc_groups.specs.Moves.{KeepsButCounts, gone_as, departed_all, idents_of, HasPlaces};
@@ -22,8 +22,8 @@ use crate::counts::count_down;
 use crate::owners::{class_of, each_is_one, owner_by};
 use cache_ident::{Cause, Ident};
 use depend_lists::Node;
-use desc_stores::Stores;
-use resident_pairs::ResidentPairs;
+use desc_parents::desc_stores::Stores;
+use desc_parents::resident_pairs::ResidentPairs;
 
 /// A descriptor that left its cache, and why.
 #[derive(Clone, Copy, PartialEq, Eq, Debug)]

@@ -5,17 +5,17 @@ ghost use Rattle.cache_ident.specs.Rolls.{just_issued};
 ghost use Rattle.cache_ident.specs.Names.{kind_of};
 ghost use Rattle.cache_ident.specs.Residents.{with_loaded};
 ghost use Rattle.flat_state.specs.declared.events.Machine.{Machine};
-ghost use Rattle.desc_stores.specs.Contents.{residents_of, IsLowestFreeOf};
-ghost use Rattle.desc_stores.specs.Changes.{KeepsContents, room_of};
-ghost use Rattle.shown_state.specs.Shown.{shown};
+ghost use Rattle.desc_parents.specs.desc_stores.specs.Contents.{residents_of, IsLowestFreeOf};
+ghost use Rattle.desc_parents.specs.desc_stores.specs.Changes.{KeepsContents, room_of};
+ghost use Rattle.desc_parents.specs.shown_state.specs.Shown.{shown};
 ghost use Rattle.desc_groups.specs.Whole.{AreWhole};
 ghost use Rattle.desc_groups.specs.Moves.{MayEnter};
 
 use crate::owners::{class_of, each_is_one};
 use cache_ident::{Ident, Name};
 use depend_lists::Node;
-use desc_stores::Stores;
-use resident_pairs::ResidentPairs;
+use desc_parents::desc_stores::Stores;
+use desc_parents::resident_pairs::ResidentPairs;
 
 /// Loads a descriptor from the shelf into the lowest free slot of its kind, with an identifier that is issued now. It isn't
 /// locked, and depends on the parents, which are those of all that it depends on.

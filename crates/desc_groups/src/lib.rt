@@ -3,6 +3,9 @@
 //! The calls are over the contents of all kinds and the pairs of what depends on what, which the tables above keep as one.
 #![tactic(auto)]
 
+pub use desc_parents as desc_parents;
+pub use desc_parents::{desc_stores as desc_stores, resident_pairs as resident_pairs};
+
 mod counts;
 mod departures;
 mod entering;

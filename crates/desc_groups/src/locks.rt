@@ -4,14 +4,14 @@ ghost use Rattle.std.specs.Prelude.{◌≡◌, true, false};
 ghost use Rattle.cache_ident.specs.Rolls.{standing_in};
 ghost use Rattle.cache_ident.specs.declared.idents.Standing.TheVariants.{Live};
 ghost use Rattle.cache_ident.specs.Residents.{with_lock};
-ghost use Rattle.desc_stores.specs.Contents.{residents_of};
+ghost use Rattle.desc_parents.specs.desc_stores.specs.Contents.{residents_of};
 ghost use Rattle.desc_groups.specs.Whole.{IsWhole, StaysWhole};
 ghost use Rattle.desc_groups.specs.Moves.{KeepsButCounts, MayBeLocked};
 
 use crate::counts::{count_down, count_up};
 use crate::owners::{each_is_one, owner_by};
 use cache_ident::Ident;
-use desc_stores::Stores;
+use desc_parents::desc_stores::Stores;
 
 /// Locks a loaded descriptor, so that it is no victim, and counts it with its owner. Nothing changes where it is locked
 /// already.

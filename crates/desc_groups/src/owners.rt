@@ -3,8 +3,8 @@
 ghost use Rattle.cache_ident.specs.Rolls.{standing_in};
 ghost use Rattle.cache_ident.specs.declared.idents.Standing.TheVariants.{Live};
 ghost use Rattle.cache_ident.specs.Residents.{Resident};
-ghost use Rattle.desc_stores.specs.Contents.{resident_as};
-ghost use Rattle.desc_stores.specs.Sound.{IsExactlyOne};
+ghost use Rattle.desc_parents.specs.desc_stores.specs.Contents.{resident_as};
+ghost use Rattle.desc_parents.specs.desc_stores.specs.Sound.{IsExactlyOne};
 ghost use Rattle.desc_groups.specs.Whole.{IsWhole};
 ghost use Rattle.std.specs.Prelude.{◌≡◌, is_some, Some};
 ghost use Rattle.flat_state.specs.Dependence.{owner};
@@ -13,8 +13,8 @@ ghost use Rattle.cache_ident.specs.declared.names.Name.{Name};
 ghost use Rattle.desc_parents.specs.Seen.{seen};
 
 use cache_ident::{Class, Ident, KernelNo, Name};
+use desc_parents::desc_stores::{ItemRef, Stores};
 use desc_parents::kernel_of;
-use desc_stores::{ItemRef, Stores};
 use phys_groups::Row;
 
 /// The kernel that owns a descriptor; `None` where there is none of that name. The first kernel owns kernels, a kernel its

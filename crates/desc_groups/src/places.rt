@@ -4,7 +4,7 @@ ghost use Rattle.std.specs.Prelude.{◌+◌, ◌≤◌, ◌^◌, ℕ, length, Li
 ghost use Rattle.cache_ident.specs.declared.idents.Ident.{Ident};
 ghost use Rattle.cache_ident.specs.declared.names.Caps.{Caps};
 ghost use Rattle.depend_lists.specs.declared.nodes.Node.{Node};
-ghost use Rattle.desc_stores.specs.Contents.{residents_of, Contents};
+ghost use Rattle.desc_parents.specs.desc_stores.specs.Contents.{residents_of, Contents};
 ghost use Rattle.desc_groups.specs.Moves.{HasPlaces};
 ghost use Rattle.desc_groups.specs.Whole.{AreWhole};
 

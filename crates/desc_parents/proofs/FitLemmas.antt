@@ -10,10 +10,10 @@ use Rattle.cache_ident.specs.declared.names.SpaceNo.{SpaceNo}
 use Rattle.phys_groups.specs.Translation.{right_on}
 use Rattle.flat_state.specs.Dependence.{owner}
 use Rattle.flat_state.specs.Translation.{kernel_rights, rights_in, rights_of}
-use Rattle.desc_stores.specs.declared.items.ItemRef.{ItemRef}
-use Rattle.desc_stores.specs.Contents.{content_of, Contents}
-use Rattle.desc_stores.specs.Items.{shown}
-use Rattle.desc_stores.specs.Sound.{IsExactlyOne}
+use Rattle.store_residents.specs.desc_stores.specs.declared.items.ItemRef.{ItemRef}
+use Rattle.store_residents.specs.desc_stores.specs.Contents.{content_of, Contents}
+use Rattle.store_residents.specs.desc_stores.specs.Items.{shown}
+use Rattle.store_residents.specs.desc_stores.specs.Sound.{IsExactlyOne}
 use Rattle.shown_state.specs.Shown.{kernel_of, space_of}
 use Rattle.shown_state.proofs.LookupLemmas.{found_kernel, found_space}
 use Rattle.desc_parents.specs.Seen.{seen}

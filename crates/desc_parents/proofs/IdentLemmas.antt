@@ -16,11 +16,11 @@ use Rattle.flat_state.specs.State.{FlatState}
 use Rattle.flat_state.proofs.Finding.{find-contains, find-passes}
 use Rattle.owner_shelf.proofs.NameLemmas.{eq_same, same_by_eq}
 use Rattle.kind_store.specs.Changes.{is_name}
-use Rattle.journal_laws.specs.Leaving.{HaveOneEach}
+use Rattle.store_residents.specs.journal_laws.specs.Leaving.{HaveOneEach}
 use Rattle.group_laws.proofs.Remaining.{pairs_head, pairs_tail}
-use Rattle.desc_stores.specs.Contents.{residents_of, Contents, HasNoResident, IsResidentAs}
-use Rattle.desc_stores.specs.Sound.{IsExactlyOne}
-use Rattle.resident_pairs.specs.Among.{AreParents}
+use Rattle.store_residents.specs.desc_stores.specs.Contents.{residents_of, Contents, HasNoResident, IsResidentAs}
+use Rattle.store_residents.specs.desc_stores.specs.Sound.{IsExactlyOne}
+use Rattle.store_residents.specs.resident_pairs.specs.Among.{AreParents}
 use Rattle.store_residents.proofs.ResidentLemmas.{absent_iff, named_iff, one_each}
 use Rattle.desc_parents.specs.Idents.{ident_of, idents_of}
 

@@ -15,13 +15,13 @@ use Rattle.space_cache.specs.Spaces as space_rec
 use Rattle.thread_cache.specs.declared.ThreadRec.{ThreadRec}
 use Rattle.thread_cache.specs.Threads as thread_rec
 use Rattle.kind_store.specs.Kept as stored
-use Rattle.desc_stores.specs.declared.items.Item.{Item}
-use Rattle.desc_stores.specs.declared.items.Item.TheVariants as item
-use Rattle.desc_stores.specs.declared.items.ItemRef.{ItemRef}
-use Rattle.desc_stores.specs.Contents.{content_of, residents_of, Contents}
-use Rattle.desc_stores.specs.Items.{shown}
-use Rattle.desc_stores.specs.Sound.{IsExactlyOne}
-use Rattle.resident_pairs.specs.Among.{AreParents}
+use Rattle.store_residents.specs.desc_stores.specs.declared.items.Item.{Item}
+use Rattle.store_residents.specs.desc_stores.specs.declared.items.Item.TheVariants as item
+use Rattle.store_residents.specs.desc_stores.specs.declared.items.ItemRef.{ItemRef}
+use Rattle.store_residents.specs.desc_stores.specs.Contents.{content_of, residents_of, Contents}
+use Rattle.store_residents.specs.desc_stores.specs.Items.{shown}
+use Rattle.store_residents.specs.desc_stores.specs.Sound.{IsExactlyOne}
+use Rattle.store_residents.specs.resident_pairs.specs.Among.{AreParents}
 use Rattle.shown_state.specs.Shown.{row_of_item, space_of, thread_of}
 use Rattle.shown_state.proofs.LookupLemmas.{found_row, found_space, found_thread}
 use Rattle.desc_parents.specs.Idents.{idents_of}

@@ -7,8 +7,8 @@ use Rattle.phys_groups.specs.declared.rows.Row.{Row}
 use Rattle.signal_pages.specs.Signals.{is_signal_row_of}
 use Rattle.flat_laws.proofs.Members.{Contains-from_filter_map}
 use Rattle.flat_state.specs.Declaration.{agree}
-use Rattle.desc_stores.specs.Contents.{content_of, Contents}
-use Rattle.desc_stores.specs.Sound.{IsExactlyOne}
+use Rattle.store_residents.specs.desc_stores.specs.Contents.{content_of, Contents}
+use Rattle.store_residents.specs.desc_stores.specs.Sound.{IsExactlyOne}
 use Rattle.shown_state.specs.Shown.{row_of_item, shown}
 use Rattle.shown_state.proofs.LookupLemmas.{count_rows}
 use Rattle.desc_parents.specs.Seen.{seen, HasPlainRows}

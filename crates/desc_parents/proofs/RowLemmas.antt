@@ -25,8 +25,8 @@ use Rattle.flat_state.specs.Dependence.{parents_of_row, signal_rows_of}
 use Rattle.flat_state.specs.Names.{is_fit_found}
 use Rattle.flat_state.specs.Translation.{is_fit_row}
 use Rattle.row_store.specs.Kept.{is_signal, is_signal_of, signal_names}
-use Rattle.desc_stores.specs.Contents.{content_of, Contents}
-use Rattle.desc_stores.specs.Sound.{IsExactlyOne}
+use Rattle.store_residents.specs.desc_stores.specs.Contents.{content_of, Contents}
+use Rattle.store_residents.specs.desc_stores.specs.Sound.{IsExactlyOne}
 use Rattle.shown_state.specs.Shown.{row_of_item, shown}
 use Rattle.shown_state.proofs.ContentLemmas.{row_has_name, row_named, row_there}
 use Rattle.shown_state.proofs.ListLemmas.{map-filter-filter_map}

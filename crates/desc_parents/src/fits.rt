@@ -6,13 +6,13 @@ ghost use Rattle.phys_groups.specs.Translation.{right_on};
 ghost use Rattle.flat_state.specs.Dependence.{owner};
 ghost use Rattle.flat_state.specs.Names.{is_fit_found};
 ghost use Rattle.flat_state.specs.Translation.{is_fit_row, rights_of};
-ghost use Rattle.desc_stores.specs.Contents.{content_of};
+ghost use Rattle.store_residents.specs.desc_stores.specs.Contents.{content_of};
 ghost use Rattle.shown_state.specs.Shown.{row_of_item};
 ghost use Rattle.desc_parents.specs.Seen.{seen, HasPlainRows};
 
 use cache_ident::{KernelNo, Name, SpaceNo};
-use desc_stores::{ItemRef, Stores};
 use phys_groups::{Rights, Row};
+use store_residents::desc_stores::{ItemRef, Stores};
 
 /// The kernel of a space; `None` where there is no such space. One search.
 pub fn kernel_of(stores: &Stores, space: SpaceNo) -> Option<KernelNo>

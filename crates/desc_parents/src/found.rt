@@ -3,8 +3,8 @@
 ghost use Rattle.std.specs.Prelude.{◌≡◌, ◌≢◌, ◌<◌, ◌≤◌, [], ◌∷◌, length, AllPairs, Contains};
 ghost use Rattle.depend_lists.specs.declared.nodes.TheConstants.{MOST_PARENTS};
 ghost use Rattle.flat_state.specs.Dependence.{parents_of_row};
-ghost use Rattle.desc_stores.specs.Contents.{residents_of};
-ghost use Rattle.resident_pairs.specs.Among.{AreParents};
+ghost use Rattle.store_residents.specs.desc_stores.specs.Contents.{residents_of};
+ghost use Rattle.store_residents.specs.resident_pairs.specs.Among.{AreParents};
 ghost use Rattle.desc_parents.specs.Idents.{fit_signal_names, idents_of, HasAlsoIdentsOf};
 ghost use Rattle.desc_parents.specs.Seen.{seen, HasPlainRows};
 
@@ -12,8 +12,8 @@ use crate::fits::names_fit_row;
 use arrayvec::ArrayVec;
 use cache_ident::{Frame, Ident, Name};
 use depend_lists::MOST_PARENTS;
-use desc_stores::{ItemRef, Stores};
 use phys_groups::Row;
+use store_residents::desc_stores::{ItemRef, Stores};
 
 /// The identifiers of what a descriptor depends on: a message row depends on its space and at most four signal rows, any
 /// other row on its space and its receiver.

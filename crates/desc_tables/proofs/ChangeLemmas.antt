@@ -31,29 +31,29 @@ use Rattle.flat_state.proofs.Finding.{find-contains}
 use Rattle.flat_state.proofs.Places.{get-set_same, get-set_other}
 use Rattle.flat_laws.proofs.Members.{Contains-from_map}
 use Rattle.run_journal.specs.Legal.{AreGood}
-use Rattle.group_laws.proofs.Ranks.{own_row}
+use Rattle.desc_admits.specs.group_laws.proofs.Ranks.{own_row}
 use Rattle.kind_store.specs.Changes.{is_name}
-use Rattle.desc_stores.specs.declared.items.Item.{Item}
-use Rattle.desc_stores.specs.declared.items.Item.TheVariants as item
-use Rattle.desc_stores.specs.Changes.{with_item, with_named, HasContent, KeepsContents}
-use Rattle.desc_stores.specs.Contents.{content_of, item_as, residents_of, Contents}
-use Rattle.desc_stores.specs.Items.{name_of, Agrees}
-use Rattle.desc_stores.specs.Sound.{AreOwned, IsExactlyOne}
+use Rattle.desc_admits.specs.desc_stores.specs.declared.items.Item.{Item}
+use Rattle.desc_admits.specs.desc_stores.specs.declared.items.Item.TheVariants as item
+use Rattle.desc_admits.specs.desc_stores.specs.Changes.{with_item, with_named, HasContent, KeepsContents}
+use Rattle.desc_admits.specs.desc_stores.specs.Contents.{content_of, item_as, residents_of, Contents}
+use Rattle.desc_admits.specs.desc_stores.specs.Items.{name_of, Agrees}
+use Rattle.desc_admits.specs.desc_stores.specs.Sound.{AreOwned, IsExactlyOne}
 use Rattle.owner_shelf.proofs.NameLemmas.{same_by_eq}
-use Rattle.shown_state.specs.Shown.{flat_thread, row_of_item, shown, thread_of, HasSameNames}
-use Rattle.shown_state.specs.Edits.{in_place_of, with_changed}
-use Rattle.shown_state.specs.Owning.{OwnersStay}
-use Rattle.shown_state.proofs.AlikeLemmas.{alike_kept, shown_alike}
-use Rattle.shown_state.proofs.ChangeLemmas.{change_shown}
-use Rattle.shown_state.proofs.ContentLemmas.{item_has_name, named_by_page}
-use Rattle.shown_state.proofs.LookupLemmas.{found_row, found_thread, one_row_a_page}
-use Rattle.shown_state.proofs.MoveLemmas.{names_changed}
-use Rattle.shown_state.proofs.OwnerLemmas.{owners_row, owners_thread, stays_owned}
-use Rattle.shown_state.proofs.UpdateLemmas.{agreed_name, loaded_content}
-use Rattle.store_residents.specs.Slots.{KeepsSlots}
-use Rattle.store_residents.proofs.StayLemmas.{slots-changing}
-use Rattle.desc_parents.specs.Seen.{seen, HasPlainRows}
-use Rattle.desc_groups.specs.declared.departures.Gone.{Gone}
+use Rattle.desc_admits.specs.shown_state.specs.Shown.{flat_thread, row_of_item, shown, thread_of, HasSameNames}
+use Rattle.desc_admits.specs.shown_state.specs.Edits.{in_place_of, with_changed}
+use Rattle.desc_admits.specs.shown_state.specs.Owning.{OwnersStay}
+use Rattle.desc_admits.specs.shown_state.proofs.AlikeLemmas.{alike_kept, shown_alike}
+use Rattle.desc_admits.specs.shown_state.proofs.ChangeLemmas.{change_shown}
+use Rattle.desc_admits.specs.shown_state.proofs.ContentLemmas.{item_has_name, named_by_page}
+use Rattle.desc_admits.specs.shown_state.proofs.LookupLemmas.{found_row, found_thread, one_row_a_page}
+use Rattle.desc_admits.specs.shown_state.proofs.MoveLemmas.{names_changed}
+use Rattle.desc_admits.specs.shown_state.proofs.OwnerLemmas.{owners_row, owners_thread, stays_owned}
+use Rattle.desc_admits.specs.shown_state.proofs.UpdateLemmas.{agreed_name, loaded_content}
+use Rattle.desc_admits.specs.store_residents.specs.Slots.{KeepsSlots}
+use Rattle.desc_admits.specs.store_residents.proofs.StayLemmas.{slots-changing}
+use Rattle.desc_admits.specs.desc_parents.specs.Seen.{seen, HasPlainRows}
+use Rattle.desc_admits.specs.desc_groups.specs.declared.departures.Gone.{Gone}
 use Rattle.desc_tables.specs.Calls.{IsLike}
 use Rattle.desc_tables.specs.Tables.{ArePlaced, AreSound}
 use Rattle.desc_tables.proofs.LikeLemmas.{fit_there, like_for, KeepsLoaded}

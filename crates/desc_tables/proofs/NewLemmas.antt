@@ -7,7 +7,7 @@ use Rattle.cache_ident.specs.declared.names.Name.TheVariants as name
 use Rattle.cache_ident.specs.declared.rolls.Issued.{Issued}
 use Rattle.cache_ident.specs.Residents.{Resident}
 use Rattle.depend_lists.specs.Pairs.{count_of}
-use Rattle.resident_pairs.specs.Among.{Among}
+use Rattle.desc_admits.specs.resident_pairs.specs.Among.{Among}
 use Rattle.owner_shelf.specs.declared.shelved.Shelved.{Shelved}
 use Rattle.slot_cache.specs.Rows.{row_name}
 use Rattle.kernel_cache.specs.Kernels as kernel_rec
@@ -18,15 +18,15 @@ use Rattle.flat_state.specs.Dependence.{owner}
 use Rattle.flat_state.specs.Names.{stands}
 use Rattle.flat_laws.proofs.Members.{contains_nothing}
 use Rattle.kind_store.specs.Kept as stored
-use Rattle.desc_stores.specs.declared.items.Item.{Item}
-use Rattle.desc_stores.specs.Changes.{IsNothing}
-use Rattle.desc_stores.specs.Contents.{content_of, residents_of, Contents}
-use Rattle.desc_stores.specs.Sound.{IsExactlyOne}
-use Rattle.shown_state.proofs.DeclareLemmas.{nothing_shown}
-use Rattle.shown_state.proofs.LookupLemmas.{name_stands}
-use Rattle.store_residents.proofs.StayLemmas.{slots-nothing}
-use Rattle.desc_parents.specs.Seen.{seen, HasPlainRows}
-use Rattle.desc_groups.specs.declared.departures.Gone.{Gone}
+use Rattle.desc_admits.specs.desc_stores.specs.declared.items.Item.{Item}
+use Rattle.desc_admits.specs.desc_stores.specs.Changes.{IsNothing}
+use Rattle.desc_admits.specs.desc_stores.specs.Contents.{content_of, residents_of, Contents}
+use Rattle.desc_admits.specs.desc_stores.specs.Sound.{IsExactlyOne}
+use Rattle.desc_admits.specs.shown_state.proofs.DeclareLemmas.{nothing_shown}
+use Rattle.desc_admits.specs.shown_state.proofs.LookupLemmas.{name_stands}
+use Rattle.desc_admits.specs.store_residents.proofs.StayLemmas.{slots-nothing}
+use Rattle.desc_admits.specs.desc_parents.specs.Seen.{seen, HasPlainRows}
+use Rattle.desc_admits.specs.desc_groups.specs.declared.departures.Gone.{Gone}
 use Rattle.desc_tables.specs.Tables.{ArePlaced, AreSound}
 
 none_stands : (n : Name) → stands nothing_declared n ≡ false

@@ -30,22 +30,22 @@ use Rattle.space_cache.specs.declared.SpaceRec.{SpaceRec}
 use Rattle.space_cache.specs.Spaces as space_rec
 use Rattle.kind_store.specs.Changes.{is_name}
 use Rattle.kind_store.specs.Kept as stored
-use Rattle.desc_stores.specs.declared.items.Item.{Item}
-use Rattle.desc_stores.specs.declared.items.Item.TheVariants as item
-use Rattle.desc_stores.specs.Changes.{HasContent, IsDeclaring, IsNext}
-use Rattle.desc_stores.specs.Contents.{content_of, residents_of, Contents}
-use Rattle.desc_stores.specs.Items.{name_of}
-use Rattle.desc_stores.specs.Sound.{AreOwned, IsExactlyOne}
-use Rattle.shown_state.specs.Shown.{flat_kernel, flat_thread, row_of_item, space_of, thread_of}
-use Rattle.shown_state.specs.Edits.{with_new}
-use Rattle.shown_state.specs.Owning.{kernel_in, owner_in}
-use Rattle.shown_state.proofs.ChangeLemmas.{at_name, elsewhere}
-use Rattle.shown_state.proofs.DeclareLemmas.{declaration_shown}
-use Rattle.shown_state.proofs.LookupLemmas.{count_kernels, found_row, name_stands}
-use Rattle.shown_state.proofs.OwnerLemmas.{owner_found, owners_declared, stays_owned}
-use Rattle.store_residents.proofs.StayLemmas.{slots-declaring}
-use Rattle.desc_parents.specs.Seen.{seen, HasPlainRows}
-use Rattle.desc_groups.specs.declared.departures.Gone.{Gone}
+use Rattle.desc_admits.specs.desc_stores.specs.declared.items.Item.{Item}
+use Rattle.desc_admits.specs.desc_stores.specs.declared.items.Item.TheVariants as item
+use Rattle.desc_admits.specs.desc_stores.specs.Changes.{HasContent, IsDeclaring, IsNext}
+use Rattle.desc_admits.specs.desc_stores.specs.Contents.{content_of, residents_of, Contents}
+use Rattle.desc_admits.specs.desc_stores.specs.Items.{name_of}
+use Rattle.desc_admits.specs.desc_stores.specs.Sound.{AreOwned, IsExactlyOne}
+use Rattle.desc_admits.specs.shown_state.specs.Shown.{flat_kernel, flat_thread, row_of_item, space_of, thread_of}
+use Rattle.desc_admits.specs.shown_state.specs.Edits.{with_new}
+use Rattle.desc_admits.specs.shown_state.specs.Owning.{kernel_in, owner_in}
+use Rattle.desc_admits.specs.shown_state.proofs.ChangeLemmas.{at_name, elsewhere}
+use Rattle.desc_admits.specs.shown_state.proofs.DeclareLemmas.{declaration_shown}
+use Rattle.desc_admits.specs.shown_state.proofs.LookupLemmas.{count_kernels, found_row, name_stands}
+use Rattle.desc_admits.specs.shown_state.proofs.OwnerLemmas.{owner_found, owners_declared, stays_owned}
+use Rattle.desc_admits.specs.store_residents.proofs.StayLemmas.{slots-declaring}
+use Rattle.desc_admits.specs.desc_parents.specs.Seen.{seen, HasPlainRows}
+use Rattle.desc_admits.specs.desc_groups.specs.declared.departures.Gone.{Gone}
 use Rattle.desc_admits.specs.May.{no_locks, IsNewItem, IsNewRow}
 use Rattle.desc_tables.specs.Calls.{OwnsNew}
 use Rattle.desc_tables.specs.Tables.{ArePlaced, AreSound, IsLimited}

@@ -4,9 +4,9 @@ use Rattle.std.specs.Prelude.{IfNone, IfSome}
 use Rattle.cache_ident.specs.declared.idents.Ident.{Ident}
 use Rattle.cache_ident.specs.declared.names.Name.{Name}
 use Rattle.cache_ident.specs.Residents.{IsNameResident, IsResident}
-use Rattle.desc_stores.specs.Contents.{residents_of, Contents, HasNoResident, IsResidentAs}
-use Rattle.desc_stores.specs.Sound.{AreSound}
-use Rattle.store_residents.proofs.ResidentLemmas.{absent_iff, named_iff}
+use Rattle.desc_admits.specs.desc_stores.specs.Contents.{residents_of, Contents, HasNoResident, IsResidentAs}
+use Rattle.desc_admits.specs.desc_stores.specs.Sound.{AreSound}
+use Rattle.desc_admits.specs.store_residents.proofs.ResidentLemmas.{absent_iff, named_iff}
 
 module _ (c : Contents) (sound : AreSound c) (name : Name) where
   pub found_resident : (o : Option Ident) → IfSome o (IsResidentAs c name) → IfSome o (λ ident. IsResident (residents_of c) ident name)

@@ -11,8 +11,8 @@ use Rattle.flat_state.specs.State.{FlatState}
 use Rattle.flat_state.specs.Dependence.{Depends}
 use Rattle.flat_laws.proofs.Members.{Contains-here, Contains-cases, contains_nothing}
 use Rattle.run_journal.specs.Groups.{node_of, ArePairsOf, HasParents, IsGroup}
-use Rattle.group_laws.specs.Leaving.{without_all}
-use Rattle.group_laws.proofs.Remaining.{stays_without_all}
+use Rattle.desc_admits.specs.group_laws.specs.Leaving.{without_all}
+use Rattle.desc_admits.specs.group_laws.proofs.Remaining.{stays_without_all}
 
 abbrev ident_of : Node → Ident
 ident_of node = node.ident

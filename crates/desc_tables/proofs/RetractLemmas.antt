@@ -27,22 +27,22 @@ use Rattle.run_journal.specs.Legal.{AreGood}
 use Rattle.owner_shelf.specs.Rows.{content_under}
 use Rattle.owner_shelf.proofs.NameLemmas.{eq_same}
 use Rattle.kind_store.specs.Changes.{is_name}
-use Rattle.desc_stores.specs.declared.items.Item.{Item}
-use Rattle.desc_stores.specs.declared.items.Item.TheVariants as item
-use Rattle.desc_stores.specs.Changes.{HasNoContent}
-use Rattle.desc_stores.specs.Contents.{content_of, names_of, resident_of, residents_of, Contents, IsShelved}
-use Rattle.desc_stores.specs.Sound.{AreOwned, IsExactlyOne}
-use Rattle.desc_stores.proofs.PutLemmas.{shelved_content}
-use Rattle.shown_state.specs.Edits.{without_row}
-use Rattle.shown_state.proofs.ContentLemmas.{named_by_page}
-use Rattle.shown_state.proofs.DeclareLemmas.{retraction_shown}
-use Rattle.shown_state.proofs.LookupLemmas.{one_row_a_page}
-use Rattle.shown_state.proofs.OwnerLemmas.{owners_retracted, stays_owned}
-use Rattle.store_residents.proofs.ContentLemmas.{shelved_iff}
-use Rattle.store_residents.proofs.ResidentLemmas.{seat_resident}
-use Rattle.store_residents.proofs.StayLemmas.{slots-retracting}
-use Rattle.desc_parents.specs.Seen.{seen, HasPlainRows}
-use Rattle.desc_groups.specs.declared.departures.Gone.{Gone}
+use Rattle.desc_admits.specs.desc_stores.specs.declared.items.Item.{Item}
+use Rattle.desc_admits.specs.desc_stores.specs.declared.items.Item.TheVariants as item
+use Rattle.desc_admits.specs.desc_stores.specs.Changes.{HasNoContent}
+use Rattle.desc_admits.specs.desc_stores.specs.Contents.{content_of, names_of, resident_of, residents_of, Contents, IsShelved}
+use Rattle.desc_admits.specs.desc_stores.specs.Sound.{AreOwned, IsExactlyOne}
+use Rattle.desc_admits.specs.desc_stores.proofs.PutLemmas.{shelved_content}
+use Rattle.desc_admits.specs.shown_state.specs.Edits.{without_row}
+use Rattle.desc_admits.specs.shown_state.proofs.ContentLemmas.{named_by_page}
+use Rattle.desc_admits.specs.shown_state.proofs.DeclareLemmas.{retraction_shown}
+use Rattle.desc_admits.specs.shown_state.proofs.LookupLemmas.{one_row_a_page}
+use Rattle.desc_admits.specs.shown_state.proofs.OwnerLemmas.{owners_retracted, stays_owned}
+use Rattle.desc_admits.specs.store_residents.proofs.ContentLemmas.{shelved_iff}
+use Rattle.desc_admits.specs.store_residents.proofs.ResidentLemmas.{seat_resident}
+use Rattle.desc_admits.specs.store_residents.proofs.StayLemmas.{slots-retracting}
+use Rattle.desc_admits.specs.desc_parents.specs.Seen.{seen, HasPlainRows}
+use Rattle.desc_admits.specs.desc_groups.specs.declared.departures.Gone.{Gone}
 use Rattle.desc_tables.specs.Tables.{ArePlaced, AreSound}
 use Rattle.desc_tables.proofs.LikeLemmas.{fit_there, like_for, KeepsLoaded}
 use Rattle.desc_tables.proofs.ListLemmas.{filter-kept, find-kept}

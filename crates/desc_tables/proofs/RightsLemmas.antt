@@ -33,27 +33,27 @@ use Rattle.flat_state.proofs.Places.{get-set_other, get-set_same, sum_by-set_sam
 use Rattle.flat_laws.proofs.Members.{Contains-behind, Contains-map}
 use Rattle.run_journal.specs.Legal.{locked_by, AreGood}
 use Rattle.run_journal.proofs.Others.{Contains-from_filter}
-use Rattle.group_laws.proofs.Ranks.{own_row}
+use Rattle.desc_admits.specs.group_laws.proofs.Ranks.{own_row}
 use Rattle.kernel_cache.specs.Kernels as kernel_rec
 use Rattle.kind_store.specs.Kept as stored
 use Rattle.kind_store.specs.Changes.{is_name}
-use Rattle.desc_stores.specs.declared.items.Item.{Item}
-use Rattle.desc_stores.specs.declared.items.Item.TheVariants as item
-use Rattle.desc_stores.specs.Changes.{HasContent}
-use Rattle.desc_stores.specs.Contents.{content_of, residents_of, Contents}
-use Rattle.desc_stores.specs.Items.{name_of}
-use Rattle.desc_stores.specs.Sound.{AreOwned, IsExactlyOne}
+use Rattle.desc_admits.specs.desc_stores.specs.declared.items.Item.{Item}
+use Rattle.desc_admits.specs.desc_stores.specs.declared.items.Item.TheVariants as item
+use Rattle.desc_admits.specs.desc_stores.specs.Changes.{HasContent}
+use Rattle.desc_admits.specs.desc_stores.specs.Contents.{content_of, residents_of, Contents}
+use Rattle.desc_admits.specs.desc_stores.specs.Items.{name_of}
+use Rattle.desc_admits.specs.desc_stores.specs.Sound.{AreOwned, IsExactlyOne}
 use Rattle.owner_shelf.proofs.NameLemmas.{same_by_eq}
-use Rattle.shown_state.specs.Shown.{flat_kernel, kernel_of, shown}
-use Rattle.shown_state.specs.Edits.{with_changed}
-use Rattle.shown_state.proofs.ChangeLemmas.{change_shown}
-use Rattle.shown_state.proofs.ContentLemmas.{item_has_name, same_tests}
-use Rattle.shown_state.proofs.LookupLemmas.{found_kernel, one_row_a_page}
-use Rattle.shown_state.proofs.MoveLemmas.{names_in_kernels}
-use Rattle.shown_state.proofs.OwnerLemmas.{owners_kernel, stays_owned}
-use Rattle.store_residents.proofs.StayLemmas.{slots-is, slots-kernels}
-use Rattle.desc_parents.specs.Seen.{seen, HasPlainRows}
-use Rattle.desc_groups.specs.declared.departures.Gone.{Gone}
+use Rattle.desc_admits.specs.shown_state.specs.Shown.{flat_kernel, kernel_of, shown}
+use Rattle.desc_admits.specs.shown_state.specs.Edits.{with_changed}
+use Rattle.desc_admits.specs.shown_state.proofs.ChangeLemmas.{change_shown}
+use Rattle.desc_admits.specs.shown_state.proofs.ContentLemmas.{item_has_name, same_tests}
+use Rattle.desc_admits.specs.shown_state.proofs.LookupLemmas.{found_kernel, one_row_a_page}
+use Rattle.desc_admits.specs.shown_state.proofs.MoveLemmas.{names_in_kernels}
+use Rattle.desc_admits.specs.shown_state.proofs.OwnerLemmas.{owners_kernel, stays_owned}
+use Rattle.desc_admits.specs.store_residents.proofs.StayLemmas.{slots-is, slots-kernels}
+use Rattle.desc_admits.specs.desc_parents.specs.Seen.{seen, HasPlainRows}
+use Rattle.desc_admits.specs.desc_groups.specs.declared.departures.Gone.{Gone}
 use Rattle.desc_tables.specs.Calls.{with_right, with_rights}
 use Rattle.desc_admits.specs.May.{wanted_of}
 use Rattle.desc_tables.specs.Tables.{ArePlaced, AreSound}

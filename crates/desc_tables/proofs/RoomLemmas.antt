@@ -19,19 +19,19 @@ use Rattle.flat_state.specs.State.{FlatState}
 use Rattle.flat_state.specs.Translation.{is_fit_row}
 use Rattle.kind_store.specs.Changes.{is_name}
 use Rattle.kind_store.specs.Kept as stored
-use Rattle.desc_stores.specs.declared.items.Item.{Item}
-use Rattle.desc_stores.specs.declared.items.Item.TheVariants as item
-use Rattle.desc_stores.specs.Changes.{HasContent, IsNext, KeepsContents, OnlyMakesRoom}
-use Rattle.desc_stores.specs.Contents.{content_of, resident_as, resident_in, residents_of, Contents}
-use Rattle.desc_stores.specs.Items.{name_of}
-use Rattle.desc_stores.specs.Sound.{AreOwned, IsExactlyOne}
-use Rattle.shown_state.specs.Shown.{shown}
-use Rattle.shown_state.proofs.AlikeLemmas.{shown_alike}
-use Rattle.shown_state.proofs.ListLemmas.{filter_map-agree}
-use Rattle.shown_state.proofs.MoveLemmas.{alike_room, alike_spare}
-use Rattle.store_residents.proofs.StayLemmas.{slots-roomier, slots-reserving}
-use Rattle.desc_parents.specs.Seen.{seen}
-use Rattle.desc_groups.specs.declared.departures.Gone.{Gone}
+use Rattle.desc_admits.specs.desc_stores.specs.declared.items.Item.{Item}
+use Rattle.desc_admits.specs.desc_stores.specs.declared.items.Item.TheVariants as item
+use Rattle.desc_admits.specs.desc_stores.specs.Changes.{HasContent, IsNext, KeepsContents, OnlyMakesRoom}
+use Rattle.desc_admits.specs.desc_stores.specs.Contents.{content_of, resident_as, resident_in, residents_of, Contents}
+use Rattle.desc_admits.specs.desc_stores.specs.Items.{name_of}
+use Rattle.desc_admits.specs.desc_stores.specs.Sound.{AreOwned, IsExactlyOne}
+use Rattle.desc_admits.specs.shown_state.specs.Shown.{shown}
+use Rattle.desc_admits.specs.shown_state.proofs.AlikeLemmas.{shown_alike}
+use Rattle.desc_admits.specs.shown_state.proofs.ListLemmas.{filter_map-agree}
+use Rattle.desc_admits.specs.shown_state.proofs.MoveLemmas.{alike_room, alike_spare}
+use Rattle.desc_admits.specs.store_residents.proofs.StayLemmas.{slots-roomier, slots-reserving}
+use Rattle.desc_admits.specs.desc_parents.specs.Seen.{seen}
+use Rattle.desc_admits.specs.desc_groups.specs.declared.departures.Gone.{Gone}
 use Rattle.desc_admits.specs.May.{IsNewItem, MayBeDeclared, wanted_of}
 use Rattle.desc_tables.specs.Tables.{AreSound}
 use Rattle.desc_tables.proofs.SoundLemmas.{sound_kept}

@@ -15,15 +15,15 @@ use Rattle.flat_state.specs.Names.{class_of}
 use Rattle.run_journal.specs.Groups.{node_of, ArePairsOf}
 use Rattle.run_journal.specs.Legal.{locked_by, AreGood}
 use Rattle.kernel_cache.specs.declared.KernelRec.{KernelRec}
-use Rattle.desc_stores.specs.declared.items.Item.TheVariants as item
-use Rattle.desc_stores.specs.Changes.{KeepsContents}
-use Rattle.desc_stores.specs.Contents.{content_of, residents_of, Contents}
-use Rattle.desc_stores.specs.Sound.{AreOwned, IsExactlyOne}
-use Rattle.store_residents.specs.Slots.{KeepsSlots}
-use Rattle.store_residents.proofs.StayLemmas.{slots-kept}
-use Rattle.group_laws.proofs.LockCounts.{locks_same}
-use Rattle.desc_parents.specs.Seen.{seen, HasPlainRows}
-use Rattle.desc_groups.specs.declared.departures.Gone.{Gone}
+use Rattle.desc_admits.specs.desc_stores.specs.declared.items.Item.TheVariants as item
+use Rattle.desc_admits.specs.desc_stores.specs.Changes.{KeepsContents}
+use Rattle.desc_admits.specs.desc_stores.specs.Contents.{content_of, residents_of, Contents}
+use Rattle.desc_admits.specs.desc_stores.specs.Sound.{AreOwned, IsExactlyOne}
+use Rattle.desc_admits.specs.store_residents.specs.Slots.{KeepsSlots}
+use Rattle.desc_admits.specs.store_residents.proofs.StayLemmas.{slots-kept}
+use Rattle.desc_admits.specs.group_laws.proofs.LockCounts.{locks_same}
+use Rattle.desc_admits.specs.desc_parents.specs.Seen.{seen, HasPlainRows}
+use Rattle.desc_admits.specs.desc_groups.specs.declared.departures.Gone.{Gone}
 use Rattle.desc_admits.specs.May.{wanted_of}
 use Rattle.desc_tables.specs.Tables.{ArePlaced, AreSound, IsLimited, LeavesRoom}
 

@@ -16,19 +16,19 @@ use Rattle.flat_state.specs.Names.{is_fit_name, stands}
 use Rattle.flat_laws.proofs.ParentLaws.{there_is}
 use Rattle.run_journal.specs.Groups.{HasParents, IsGroup}
 use Rattle.run_journal.specs.Legal.{count_of, is_kind}
-use Rattle.desc_stores.specs.Contents.{content_of, residents_of, Contents, IsFullOf, IsLowestFreeOf, NoneMayGoOf}
-use Rattle.shown_state.proofs.LookupLemmas.{name_stands}
-use Rattle.store_residents.specs.Slots.{resident_at}
-use Rattle.store_residents.specs.Victims.{IsOldest}
-use Rattle.store_residents.proofs.ContentLemmas.{shelved_iff}
-use Rattle.store_residents.proofs.SlotLaws.{few, full_at, full_iff, lowest_at, what_is_there}
-use Rattle.store_residents.proofs.SlotLemmas.{is_kind-refl, kind_is}
-use Rattle.store_residents.proofs.VictimLemmas.{locked_or_kept}
-use Rattle.group_laws.specs.Leaving.{without_all}
-use Rattle.group_laws.proofs.Remaining.{without_all_cases}
-use Rattle.desc_parents.specs.Seen.{seen}
-use Rattle.desc_groups.specs.Moves.{but_for_counts, departed_all, KeepsButCounts}
-use Rattle.desc_groups.specs.Whole.{AreWhole}
+use Rattle.desc_admits.specs.desc_stores.specs.Contents.{content_of, residents_of, Contents, IsFullOf, IsLowestFreeOf, NoneMayGoOf}
+use Rattle.desc_admits.specs.shown_state.proofs.LookupLemmas.{name_stands}
+use Rattle.desc_admits.specs.store_residents.specs.Slots.{resident_at}
+use Rattle.desc_admits.specs.store_residents.specs.Victims.{IsOldest}
+use Rattle.desc_admits.specs.store_residents.proofs.ContentLemmas.{shelved_iff}
+use Rattle.desc_admits.specs.store_residents.proofs.SlotLaws.{few, full_at, full_iff, lowest_at, what_is_there}
+use Rattle.desc_admits.specs.store_residents.proofs.SlotLemmas.{is_kind-refl, kind_is}
+use Rattle.desc_admits.specs.store_residents.proofs.VictimLemmas.{locked_or_kept}
+use Rattle.desc_admits.specs.group_laws.specs.Leaving.{without_all}
+use Rattle.desc_admits.specs.group_laws.proofs.Remaining.{without_all_cases}
+use Rattle.desc_admits.specs.desc_parents.specs.Seen.{seen}
+use Rattle.desc_admits.specs.desc_groups.specs.Moves.{but_for_counts, departed_all, KeepsButCounts}
+use Rattle.desc_admits.specs.desc_groups.specs.Whole.{AreWhole}
 use Rattle.desc_admits.specs.May.{MayBeLoaded}
 use Rattle.desc_tables.specs.Calls.{IsReady}
 use Rattle.desc_tables.specs.Tables.{AreSound, Held}

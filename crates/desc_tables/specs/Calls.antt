@@ -15,16 +15,16 @@ use Rattle.flat_state.specs.Names.{is_fit_name}
 use Rattle.flat_state.specs.State.{FlatState}
 use Rattle.run_journal.specs.Groups.{HasParents}
 use Rattle.kernel_cache.specs.declared.KernelRec.{KernelRec}
-use Rattle.desc_stores.specs.declared.items.Item.{Item}
-use Rattle.desc_stores.specs.declared.items.Item.TheVariants as item
-use Rattle.desc_stores.specs.Changes.{with_named, HasContent}
-use Rattle.desc_stores.specs.Contents.{content_of, residents_of, IsFullOf, IsShelved, Contents}
-use Rattle.desc_stores.specs.Items.{name_of}
-use Rattle.shown_state.specs.Shown.{shown}
-use Rattle.shown_state.specs.Edits.{with_changed}
-use Rattle.store_residents.specs.Victims.{IsOldest}
-use Rattle.desc_parents.specs.Seen.{seen}
-use Rattle.desc_groups.specs.Moves.{HasPlaces}
+use Rattle.desc_admits.specs.desc_stores.specs.declared.items.Item.{Item}
+use Rattle.desc_admits.specs.desc_stores.specs.declared.items.Item.TheVariants as item
+use Rattle.desc_admits.specs.desc_stores.specs.Changes.{with_named, HasContent}
+use Rattle.desc_admits.specs.desc_stores.specs.Contents.{content_of, residents_of, IsFullOf, IsShelved, Contents}
+use Rattle.desc_admits.specs.desc_stores.specs.Items.{name_of}
+use Rattle.desc_admits.specs.shown_state.specs.Shown.{shown}
+use Rattle.desc_admits.specs.shown_state.specs.Edits.{with_changed}
+use Rattle.desc_admits.specs.store_residents.specs.Victims.{IsOldest}
+use Rattle.desc_admits.specs.desc_parents.specs.Seen.{seen}
+use Rattle.desc_admits.specs.desc_groups.specs.Moves.{HasPlaces}
 
 -- ---- what is loaded
 

@@ -1,3 +1,12 @@
+pub use Rattle.desc_admits
+pub use Rattle.desc_admits.specs.desc_groups
+pub use Rattle.desc_admits.specs.desc_parents
+pub use Rattle.desc_admits.specs.desc_stores
+pub use Rattle.desc_admits.specs.group_laws
+pub use Rattle.desc_admits.specs.journal_laws
+pub use Rattle.desc_admits.specs.resident_pairs
+pub use Rattle.desc_admits.specs.shown_state
+pub use Rattle.desc_admits.specs.store_residents
 pub mod Tables
 pub mod Calls
 pub mod Likes

@@ -1,1 +1,2 @@
+pub use Rattle.flat_events
 pub mod Readings

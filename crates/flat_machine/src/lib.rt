@@ -3,6 +3,8 @@
 //! `flat_events` over its tables.
 #![tactic(auto)]
 
+pub use flat_events as flat_events;
+
 mod apply;
 mod changes;
 mod flat;

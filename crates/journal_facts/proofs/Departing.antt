@@ -12,8 +12,8 @@ use Rattle.run_journal.specs.declared.entries.Entry.TheVariants.{WrittenBack}
 use Rattle.run_journal.specs.Told.{Told, told_after}
 use Rattle.run_journal.specs.Legal.{LeavesBy, MayLeave}
 use Rattle.run_journal.specs.Points.{IsFollowed}
-use Rattle.journal_tables.specs.declared.tables.Tables.{Tables}
-use Rattle.journal_tables.specs.Tables.{AreOf, MayLeaveAs}
+use Rattle.journal_groups.specs.journal_tables.specs.declared.tables.Tables.{Tables}
+use Rattle.journal_groups.specs.journal_tables.specs.Tables.{AreOf, MayLeaveAs}
 use Rattle.journal_facts.specs.declared.facts.Facts.{Facts}
 use Rattle.journal_facts.specs.Facts.{AreFactsBehind, AreFactsOf}
 use Rattle.journal_facts.proofs.Standing.{match_map}

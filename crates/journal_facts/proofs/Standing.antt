@@ -16,7 +16,7 @@ use Rattle.run_journal.specs.declared.entries.Entry.TheVariants.{Declared, Seale
 use Rattle.run_journal.specs.Told.{Told}
 use Rattle.run_journal.specs.Legal.{IsInPlace}
 use Rattle.run_journal.proofs.Growth.{after_events-append}
-use Rattle.journal_tables.specs.Tables.{AreOf}
+use Rattle.journal_groups.specs.journal_tables.specs.Tables.{AreOf}
 use Rattle.journal_groups.specs.declared.group.Group.{Group}
 use Rattle.journal_groups.specs.Leaving.{IsLeaving}
 use Rattle.journal_facts.specs.declared.facts.Facts.{Facts}

@@ -6,7 +6,7 @@ use Rattle.flat_state.specs.declared.events.Event.{Event}
 use Rattle.flat_state.specs.Events.{flat}
 use Rattle.run_journal.specs.declared.entries.Entry.TheVariants.{WrittenBack}
 use Rattle.run_journal.specs.Told.{Told, told_after}
-use Rattle.journal_tables.specs.Tables.{AreOf}
+use Rattle.journal_groups.specs.journal_tables.specs.Tables.{AreOf}
 use Rattle.journal_groups.specs.Leaving.{IsLeaving}
 use Rattle.journal_facts.specs.declared.facts.Facts.{Facts}
 use Rattle.journal_facts.specs.Order.{beginning_of}

@@ -11,15 +11,15 @@ ghost use Rattle.run_journal.specs.declared.entries.Entry.TheVariants as entries
 ghost use Rattle.run_journal.specs.Legal.{IsFullBefore, IsInPlace, LeavesBy, MayComplete, MayEnd, MayLeave, MayLoad, MayLock, MayRun, MayUnlock};
 ghost use Rattle.run_journal.specs.Points.{IsFollowed, IsInOrder};
 ghost use Rattle.run_journal.specs.Told.{Told, nothing_told, told_after};
-ghost use Rattle.journal_tables.specs.Tables.{MayLeaveAs};
+ghost use Rattle.journal_groups.specs.journal_tables.specs.Tables.{MayLeaveAs};
 
 use crate::order::Due;
 use cache_ident::{Cause, Ident, Kind, Name, NoMemory, ThreadNo};
-use flat_machine::Flat;
 use flat_state::{Decl, Event};
 use journal_groups::Group;
-use journal_rules::{cap, complete, is_followed, may_step, run};
-use journal_tables::Tables;
+use journal_groups::flat_machine::Flat;
+use journal_groups::journal_rules::{cap, complete, is_followed, may_step, run};
+use journal_groups::journal_tables::Tables;
 use residents::Held;
 use run_journal::Entry;
 use std::alloc::Global;

@@ -10,7 +10,7 @@ use Rattle.depend_lists.specs.declared.nodes.Node.{Node}
 use Rattle.writeback_order.specs.Order.{leaving_cmp}
 use Rattle.flat_state.specs.State.{FlatState}
 use Rattle.run_journal.specs.Groups.{HasParents}
-use Rattle.journal_laws.specs.Leaving.{LacksParent}
+use Rattle.journal_tables.specs.journal_laws.specs.Leaving.{LacksParent}
 use Rattle.journal_groups.specs.declared.gone.Gone.{Gone}
 use Rattle.journal_groups.specs.Leaving.{node_of_gone, IsBehindLast, LackOneEach}
 use Rattle.journal_groups.proofs.Rising.{IsLastBefore}

@@ -8,13 +8,13 @@ ghost use Rattle.flat_state.specs.WellFormed.{IsWellFormed};
 ghost use Rattle.residents.specs.Tables.{AreThose, resident_of};
 ghost use Rattle.run_journal.specs.Groups.{IsGroup};
 ghost use Rattle.run_journal.specs.Legal.{AreGood, count_of, is_kind};
-ghost use Rattle.journal_laws.specs.Leaving.{HaveOneEach};
+ghost use Rattle.journal_tables.specs.journal_laws.specs.Leaving.{HaveOneEach};
 ghost use Rattle.journal_tables.specs.Whole.{AreApart};
 
 use crate::gone::Gone;
 use cache_ident::{Kind, NoMemory};
-use flat_machine::Flat;
-use journal_rules::{class, has_parents};
+use journal_tables::flat_machine::Flat;
+use journal_tables::journal_rules::{class, has_parents};
 use residents::{Held, Residents};
 use std::alloc::Global;
 

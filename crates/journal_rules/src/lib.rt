@@ -2,6 +2,8 @@
 //! thread may take its steps, and whether its call may be completed.
 #![tactic(auto)]
 
+pub use flat_machine as flat_machine;
+
 mod calls;
 mod follow;
 mod names;

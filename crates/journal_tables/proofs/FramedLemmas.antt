@@ -12,7 +12,7 @@ use Rattle.flat_state.specs.State.{FlatState}
 use Rattle.run_journal.proofs.Others.{without_cases, stays_without, locked_keeps}
 use Rattle.residents.specs.declared.frames.FrameRows.{FrameRows}
 use Rattle.residents.specs.Framed.{IsFramed}
-use Rattle.journal_laws.specs.Touching.{frame_of}
+use Rattle.journal_rules.specs.journal_laws.specs.Touching.{frame_of}
 use Rattle.journal_rules.specs.Framed.{AreFramedBy}
 
 abbrev new_one : Ident → Name → Resident

@@ -17,8 +17,8 @@ use Rattle.flat_state.specs.WellFormed.{IsWellFormed}
 use Rattle.flat_state.proofs.FormedEvents.{flat_formed}
 use Rattle.flat_laws.proofs.Members.{contains_nothing}
 use Rattle.flat_laws.proofs.StepSame.{IsSameBut, step_same, found_row, same_owner, same_parents}
-use Rattle.journal_laws.specs.Touching.{frame_of}
-use Rattle.journal_laws.proofs.SameDependence.{depends_on_same, owner_stays, frame_stays}
+use Rattle.journal_rules.specs.journal_laws.specs.Touching.{frame_of}
+use Rattle.journal_rules.specs.journal_laws.proofs.SameDependence.{depends_on_same, owner_stays, frame_stays}
 use Rattle.run_journal.specs.declared.entries.Entry.TheVariants.{Declared, Sealed, Ran, Ended, Completed}
 use Rattle.run_journal.specs.Told.{Told, told_after}
 use Rattle.run_journal.specs.Legal.{MayRun, MayEnd, MayComplete}

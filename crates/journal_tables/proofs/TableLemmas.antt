@@ -24,7 +24,7 @@ use Rattle.residents.specs.Framed.{IsFramed}
 use Rattle.residents.specs.Pairs.{IsPair}
 use Rattle.residents.specs.Slots.{IsCount, IsLowest, IsTakenIn}
 use Rattle.residents.specs.Tables.{AreThose, HasNoSerial, IsHeldAs, resident_of}
-use Rattle.journal_laws.specs.Touching.{frame_of}
+use Rattle.journal_rules.specs.journal_laws.specs.Touching.{frame_of}
 use Rattle.journal_rules.specs.Framed.{AreFramedBy}
 use Rattle.journal_tables.specs.declared.kind_slots.KindSlots.{KindSlots}
 use Rattle.journal_tables.specs.declared.locks.Locks.{Locks}

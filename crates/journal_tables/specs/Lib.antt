@@ -1,3 +1,6 @@
+pub use Rattle.journal_rules.specs.flat_machine
+pub use Rattle.journal_rules.specs.journal_laws
+pub use Rattle.journal_rules
 pub mod KindSlots
 pub mod Locks
 pub mod Whole

@@ -4,7 +4,7 @@ use Rattle.cache_ident.specs.Names.{kind_of}
 use Rattle.cache_ident.specs.Residents.{Resident}
 use Rattle.flat_state.specs.State.{FlatState}
 use Rattle.run_journal.specs.Legal.{AreGood}
-use Rattle.journal_laws.specs.Leaving.{HaveOneEach}
+use Rattle.journal_rules.specs.journal_laws.specs.Leaving.{HaveOneEach}
 
 -- no identifier stands twice
 abbrev pub AreApart : List Resident → Type 0

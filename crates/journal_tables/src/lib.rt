@@ -2,6 +2,9 @@
 //! each kind, what depends on what, the rows of each frame, and how many are locked.
 #![tactic(auto)]
 
+pub use journal_rules as journal_rules;
+pub use journal_rules::flat_machine as flat_machine;
+
 mod kind_slots;
 mod laws;
 mod locks;

@@ -14,14 +14,14 @@ ghost use Rattle.run_journal.specs.declared.entries.Entry.TheVariants as entries
 ghost use Rattle.run_journal.specs.Groups.{NothingDependsOn};
 ghost use Rattle.run_journal.specs.Legal.{MayLeave, MayLoad, MayLock, MayUnlock, cap_of, count_of};
 ghost use Rattle.run_journal.specs.Told.{Told, nothing_told, told_after};
-ghost use Rattle.journal_laws.specs.Touching.{frame_of};
+ghost use Rattle.journal_rules.specs.journal_laws.specs.Touching.{frame_of};
 ghost use Rattle.journal_rules.specs.Framed.{AreFramedBy};
 ghost use Rattle.journal_tables.specs.Locks.{RecountsIf};
 
 use crate::kind_slots::KindSlots;
 use crate::locks::Locks;
 use cache_ident::{Ident, Kind, Name, NoMemory};
-use flat_machine::Flat;
+use journal_rules::flat_machine::Flat;
 use journal_rules::{cap, frame, limit, owner, stays_good};
 use residents::{Dependents, FrameRows, Held, Residents};
 use std::alloc::Global;

@@ -1,6 +1,9 @@
 //! What the contents of the stores say of a list of residents, and the list of them.
 #![tactic(auto)]
 
+pub use desc_stores as desc_stores;
+pub use resident_pairs as resident_pairs;
+
 mod laws;
 
 pub use laws::{

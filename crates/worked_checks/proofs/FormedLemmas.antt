@@ -15,12 +15,12 @@ use Rattle.flat_state.specs.declared.records.FlatThread.{FlatThread}
 use Rattle.flat_state.specs.Declaration.{locks_granted, may_lock_kernels}
 use Rattle.flat_state.specs.WellFormed.{AreKernels, AreRows, AreSpaces, AreThreads, AreWithin, IsRow, IsSized, IsThread, IsWellFormed}
 use Rattle.flat_state.proofs.Places.{Contains-from_get}
-use Rattle.desc_stores.specs.Contents.{content_of, Contents}
-use Rattle.shown_state.specs.Shown.{row_of_item, shown}
-use Rattle.shown_state.proofs.LookupLemmas.{count_kernels, count_rows, count_spaces, count_threads, found_kernel, found_thread, one_row_a_page, thread_number}
-use Rattle.desc_parents.specs.Seen.{seen}
-use Rattle.desc_groups.specs.Whole.{AreWhole}
-use Rattle.desc_tables.specs.Tables.{ArePlaced, AreSound, Held, LeavesRoom}
+use Rattle.board_checks.specs.desc_stores.specs.Contents.{content_of, Contents}
+use Rattle.board_checks.specs.shown_state.specs.Shown.{row_of_item, shown}
+use Rattle.board_checks.specs.shown_state.proofs.LookupLemmas.{count_kernels, count_rows, count_spaces, count_threads, found_kernel, found_thread, one_row_a_page, thread_number}
+use Rattle.board_checks.specs.desc_parents.specs.Seen.{seen}
+use Rattle.board_checks.specs.desc_groups.specs.Whole.{AreWhole}
+use Rattle.board_checks.specs.desc_tables.specs.Tables.{ArePlaced, AreSound, Held, LeavesRoom}
 use Rattle.board_checks.specs.Facts.{IsFormed}
 use Rattle.worked_checks.specs.Formed.{AreFormedRows, IsFirstAlone, IsFormedName, IsThreadAlone}
 

@@ -5,10 +5,10 @@ use Rattle.phys_groups.specs.declared.rows.Row.{Row}
 use Rattle.flat_state.specs.declared.records.FlatKernel.{FlatKernel}
 use Rattle.flat_state.specs.declared.records.FlatThread.{FlatThread}
 use Rattle.flat_state.specs.Declaration.{has_no_flag, is_receiver_in, may_lock_kernels}
-use Rattle.desc_stores.specs.Contents.{content_of, Contents}
-use Rattle.desc_stores.specs.Sound.{kernel_named, thread_named}
-use Rattle.shown_state.specs.Shown.{kernel_of, row_of_item, thread_of}
-use Rattle.desc_parents.specs.Seen.{seen}
+use Rattle.board_checks.specs.desc_stores.specs.Contents.{content_of, Contents}
+use Rattle.board_checks.specs.desc_stores.specs.Sound.{kernel_named, thread_named}
+use Rattle.board_checks.specs.shown_state.specs.Shown.{kernel_of, row_of_item, thread_of}
+use Rattle.board_checks.specs.desc_parents.specs.Seen.{seen}
 
 -- there is one kernel, which may lock itself
 pub record IsFirstAlone (c : Contents) : Type 0 where

@@ -1,17 +1,17 @@
 //! What a load keeps, of tables that show a machine that events can make.
 
 ghost use Rattle.std.specs.Prelude.{◌≡◌, true, IsTrue};
-ghost use Rattle.shown_state.specs.Shown.{flat_thread};
+ghost use Rattle.board_checks.specs.shown_state.specs.Shown.{flat_thread};
 ghost use Rattle.flat_state.specs.Declaration.{is_receiver_in};
-ghost use Rattle.desc_parents.specs.Seen.{seen};
+ghost use Rattle.board_checks.specs.desc_parents.specs.Seen.{seen};
 ghost use Rattle.board_checks.specs.Facts.{IsFormed};
 ghost use Rattle.worked_checks.specs.Formed.{AreFormedRows, IsFirstAlone, IsFormedName, IsFormedRow, IsFormedThread, IsThreadAlone};
 
 use crate::tables::*;
 use crate::threads::thread;
+use board_checks::desc_tables::{Item, ItemRef, Tables};
 use board_checks::{Keep, check_load_mapping, keep_of};
 use cache_ident::{Ident, KernelNo, Kind, Name, NoMemory, SpaceNo, ThreadNo, Vpn};
-use desc_tables::{Item, ItemRef, Tables};
 use phys_groups::Row;
 use std::alloc::Global;
 use std::mem;

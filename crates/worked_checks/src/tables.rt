@@ -4,11 +4,11 @@ ghost use Rattle.std.specs.Prelude.{◌≡◌, [], IfOk, IsSome, IsTrue};
 ghost use Rattle.cache_ident.specs.declared.idents.Ident.{Ident};
 ghost use Rattle.cache_ident.specs.declared.idents.Standing.TheVariants.{Live};
 ghost use Rattle.cache_ident.specs.Rolls.{standing_in};
-ghost use Rattle.desc_stores.specs.Contents.{content_of, residents_of};
-ghost use Rattle.desc_groups.specs.Moves.{HasPlaces};
+ghost use Rattle.board_checks.specs.desc_stores.specs.Contents.{content_of, residents_of};
+ghost use Rattle.board_checks.specs.desc_groups.specs.Moves.{HasPlaces};
 
+use board_checks::desc_tables::{Item, Tables};
 use cache_ident::{Caps, Frame, Ident, KernelNo, Name, NoMemory, SpaceNo, Standing, ThreadNo, Vpn};
-use desc_tables::{Item, Tables};
 use kernel_cache::KernelRec;
 use phys_groups::{Flags, Rights, Row};
 use space_cache::SpaceRec;

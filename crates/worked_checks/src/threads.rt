@@ -1,10 +1,10 @@
 //! Threads that are declared in tables.
 
-ghost use Rattle.desc_tables.specs.Likes.{IsThreadOf};
+ghost use Rattle.board_checks.specs.desc_tables.specs.Likes.{IsThreadOf};
 
 use arrayvec::ArrayVec;
+use board_checks::desc_tables::Item;
 use cache_ident::{SpaceNo, ThreadNo};
-use desc_tables::Item;
 use rv32_exec::{Context, Output, Status};
 use std::alloc::Global;
 use thread_cache::ThreadRec;

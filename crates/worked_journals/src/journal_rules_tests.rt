@@ -1,8 +1,8 @@
 //! A sender, which takes its message row or its kernel's rights away by a call, and a receiver, in one space.
 
 use cache_ident::{Caps, Cause, Class, Frame, Ident, KernelNo, Kind, Name, SpaceNo, ThreadNo, Vpn};
-use flat_machine::{Decl, Event, Flat, GREATEST_CAPS, Machine};
-use journal_rules::*;
+use journal_facts::flat_machine::{Decl, Event, Flat, GREATEST_CAPS, Machine};
+use journal_facts::journal_rules::*;
 use phys_groups::Flags;
 use residents::{FrameRows, Residents};
 use run_journal::Entry;

@@ -4,16 +4,16 @@ ghost use Rattle.std.specs.Prelude.{◌≡◌, ◌+◌, ◌^◌, ◌<◌, true, 
 ghost use Rattle.cache_ident.specs.Names.{kind_of};
 ghost use Rattle.phys_groups.specs.declared.rows.Row.{Row};
 ghost use Rattle.flat_state.specs.Declaration.{agree};
-ghost use Rattle.desc_stores.specs.Items.{name_of};
-ghost use Rattle.desc_stores.specs.Contents.{content_of, IsFullOf, IsShelved};
-ghost use Rattle.desc_stores.specs.Changes.{IsNext};
-ghost use Rattle.shown_state.specs.Shown.{row_of_item};
-ghost use Rattle.desc_parents.specs.Seen.{seen, HasPlainRows};
+ghost use Rattle.desc_tables.specs.desc_stores.specs.Items.{name_of};
+ghost use Rattle.desc_tables.specs.desc_stores.specs.Contents.{content_of, IsFullOf, IsShelved};
+ghost use Rattle.desc_tables.specs.desc_stores.specs.Changes.{IsNext};
+ghost use Rattle.desc_tables.specs.shown_state.specs.Shown.{row_of_item};
+ghost use Rattle.desc_tables.specs.desc_parents.specs.Seen.{seen, HasPlainRows};
 
 use arrayvec::ArrayVec;
 use cache_ident::{Caps, Frame, Ident, KernelNo, Kind, Name, NoMemory, SpaceNo, ThreadNo, Vpn};
-use desc_parents::{is_fit, kernel_of, parents_of};
-use desc_stores::{Item, ItemRef, Stores};
+use desc_tables::desc_parents::{is_fit, kernel_of, parents_of};
+use desc_tables::desc_stores::{Item, ItemRef, Stores};
 use kernel_cache::KernelRec;
 use phys_groups::{Flags, Rights, Row};
 use rv32_exec::{Context, Output, Status};

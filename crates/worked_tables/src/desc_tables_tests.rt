@@ -1,8 +1,8 @@
 //! The tables by calls: what displaces what, in which order dependents leave, and what stands on the shelves afterwards.
 
 ghost use Rattle.std.specs.Prelude.{◌≡◌, Some, IfSome, IsTrue};
-ghost use Rattle.desc_stores.specs.declared.items.Item.TheVariants as Item;
-ghost use Rattle.desc_stores.specs.Contents.{item_as};
+ghost use Rattle.desc_tables.specs.desc_stores.specs.declared.items.Item.TheVariants as Item;
+ghost use Rattle.desc_tables.specs.desc_stores.specs.Contents.{item_as};
 ghost use Rattle.desc_tables.specs.Likes.{IsThreadAs};
 
 use crate::tables::*;

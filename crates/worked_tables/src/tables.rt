@@ -4,9 +4,9 @@ ghost use Rattle.std.specs.Prelude.{◌≡◌, ◌+◌, ◌<◌, ◌^◌, [], le
 ghost use Rattle.cache_ident.specs.declared.idents.Ident.{Ident};
 ghost use Rattle.cache_ident.specs.declared.idents.Standing.TheVariants.{Live};
 ghost use Rattle.cache_ident.specs.Rolls.{standing_in};
-ghost use Rattle.desc_stores.specs.Items.{shown as item_shown};
-ghost use Rattle.desc_stores.specs.Contents.{content_of, item_as, residents_of, IsShelved};
-ghost use Rattle.desc_groups.specs.Moves.{HasPlaces};
+ghost use Rattle.desc_tables.specs.desc_stores.specs.Items.{shown as item_shown};
+ghost use Rattle.desc_tables.specs.desc_stores.specs.Contents.{content_of, item_as, residents_of, IsShelved};
+ghost use Rattle.desc_tables.specs.desc_groups.specs.Moves.{HasPlaces};
 
 use crate::threads::thread;
 use cache_ident::{

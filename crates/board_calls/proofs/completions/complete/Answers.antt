@@ -7,12 +7,12 @@ use Rattle.flat_state.specs.Call.{is_completable}
 use Rattle.flat_state.specs.Events.{applied}
 use Rattle.flat_state.specs.State.{FlatState}
 use Rattle.flat_rules.specs.Readings.{OfThread}
-use Rattle.desc_stores.specs.declared.items.Item.TheVariants as item
-use Rattle.desc_stores.specs.Changes.{room_of}
-use Rattle.desc_stores.specs.Contents.{item_as, residents_of}
-use Rattle.desc_tables.specs.Tables.{Held}
-use Rattle.thread_sets.specs.Sets.{Sets}
-use Rattle.cached_machine.specs.Cached.{state_of, Cached}
+use Rattle.board_core.specs.desc_stores.specs.declared.items.Item.TheVariants as item
+use Rattle.board_core.specs.desc_stores.specs.Changes.{room_of}
+use Rattle.board_core.specs.desc_stores.specs.Contents.{item_as, residents_of}
+use Rattle.board_core.specs.desc_tables.specs.Tables.{Held}
+use Rattle.board_core.specs.thread_sets.specs.Sets.{Sets}
+use Rattle.board_core.specs.cached_machine.specs.Cached.{state_of, Cached}
 use Rattle.board_core.specs.Core.{contents_of, Recorded}
 use Rattle.board_core.specs.Growth.{OnlyMakesRoom}
 use Rattle.board_calls.specs.Leaving.{AreBad}

@@ -1,5 +1,5 @@
 use Rattle.std.proofs.Common.{OnOk, sym, subst}
-use Rattle.flat_events.specs.declared.asked.Asked.{Asked}
+use Rattle.board_core.specs.flat_events.specs.declared.asked.Asked.{Asked}
 use Rattle.board_calls.specs.Leaving.{AddsThose, GoesFor}
 use Rattle.board_calls.proofs.leaving.add_for.Goals as goal
 

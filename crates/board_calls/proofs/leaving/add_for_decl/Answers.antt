@@ -3,7 +3,7 @@ use Rattle.cache_ident.specs.declared.names.ThreadNo.{ThreadNo}
 use Rattle.flat_state.specs.declared.events.Decl.{Decl}
 use Rattle.flat_state.specs.declared.events.Decl.TheVariants as decls
 use Rattle.flat_state.specs.Declaration.{broken_rule}
-use Rattle.cached_machine.specs.Cached.{state_of}
+use Rattle.board_core.specs.cached_machine.specs.Cached.{state_of}
 use Rattle.board_calls.specs.Leaving.{AddsThose, GoesForDecl}
 use Rattle.board_calls.proofs.BadLaws.{map_placed, right_placed}
 use Rattle.board_calls.proofs.leaving.add_for_decl.Goals as goal

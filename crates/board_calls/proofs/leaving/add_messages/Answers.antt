@@ -1,8 +1,8 @@
 use Rattle.std.proofs.Common.{◌↔◌, Contains, List, [], ◌∷◌, ◌++◌, sym, ◌∙◌, subst}
 use Rattle.cache_ident.specs.declared.idents.Ident.{Ident}
-use Rattle.desc_stores.specs.Contents.{item_as}
-use Rattle.store_residents.specs.Frames.{IsResidentOn}
-use Rattle.desc_tables.specs.Tables.{Held}
+use Rattle.board_core.specs.desc_stores.specs.Contents.{item_as}
+use Rattle.board_core.specs.store_residents.specs.Frames.{IsResidentOn}
+use Rattle.board_core.specs.desc_tables.specs.Tables.{Held}
 use Rattle.board_calls.specs.Leaving.{is_message, passes, AddsThose, IsRowAs}
 use Rattle.board_calls.proofs.LoopLaws.{adds_as, each_came, passing_one, passing_past, IsOf}
 use Rattle.board_calls.proofs.RowLaws.{on_frame}

@@ -1,5 +1,5 @@
 use Rattle.cache_ident.specs.declared.idents.Ident.{Ident}
-use Rattle.desc_stores.specs.Contents.{item_as}
+use Rattle.board_core.specs.desc_stores.specs.Contents.{item_as}
 use Rattle.board_calls.specs.Leaving.{is_message, passes, AddsThose}
 use Rattle.board_calls.proofs.LoopLaws.{IsOf}
 use Rattle.board_calls.proofs.leaving.add_messages.Given as goal

@@ -3,7 +3,7 @@ use Rattle.std.proofs.Common.{◌≡◌, true, sym, ◌∙◌, ap}
 use Rattle.cache_ident.specs.declared.idents.Ident.{Ident}
 use Rattle.phys_groups.specs.Translation.{covers}
 use Rattle.flat_state.specs.Translation.{rights_of}
-use Rattle.cached_machine.specs.Cached.{state_of}
+use Rattle.board_core.specs.cached_machine.specs.Cached.{state_of}
 use Rattle.board_calls.specs.Leaving.{is_message, IsRowAs}
 use Rattle.board_calls.proofs.LoopLaws.{adds_as}
 use Rattle.board_calls.proofs.leaving.add_messages_for.Goals as goal

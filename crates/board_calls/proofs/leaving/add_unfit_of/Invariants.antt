@@ -1,6 +1,6 @@
 use Rattle.cache_ident.specs.declared.idents.Ident.{Ident}
-use Rattle.desc_stores.specs.Contents.{item_as}
-use Rattle.cached_machine.specs.Cached.{state_of}
+use Rattle.board_core.specs.desc_stores.specs.Contents.{item_as}
+use Rattle.board_core.specs.cached_machine.specs.Cached.{state_of}
 use Rattle.board_calls.specs.Leaving.{after_grant, goes_so, passes, AddsThose}
 use Rattle.board_calls.proofs.LoopLaws.{IsOf}
 use Rattle.board_calls.proofs.leaving.add_unfit_of.Given as goal

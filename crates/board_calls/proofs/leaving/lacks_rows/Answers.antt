@@ -1,5 +1,5 @@
 use Rattle.std.proofs.Common.{◌∙◌}
-use Rattle.cached_machine.specs.Cached.{state_of}
+use Rattle.board_core.specs.cached_machine.specs.Cached.{state_of}
 use Rattle.board_calls.proofs.RowLaws.{no_row, signal_row_at}
 use Rattle.board_calls.proofs.leaving.lacks_rows.Goals as goal
 

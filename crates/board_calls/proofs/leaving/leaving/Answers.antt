@@ -1,9 +1,9 @@
 use Rattle.std.proofs.Common.{rules, ◌∙◌, subst}
 use Rattle.std.proofs.lemmas.List.Sorted.{answers_always, Contains-permutation, IsNonDecreasingBy-from_sort, IsPermutation-sym}
 use Rattle.cache_ident.specs.declared.idents.Ident.{Ident}
-use Rattle.flat_events.specs.declared.asked.Asked.{Asked}
-use Rattle.cached_machine.specs.Cached.{state_of}
-use Rattle.cached_machine.proofs.CompleteLaws.{found_at}
+use Rattle.board_core.specs.flat_events.specs.declared.asked.Asked.{Asked}
+use Rattle.board_core.specs.cached_machine.specs.Cached.{state_of}
+use Rattle.board_core.specs.cached_machine.proofs.CompleteLaws.{found_at}
 use Rattle.board_calls.specs.Leaving.{GoesFor}
 use Rattle.board_calls.proofs.BadLaws.{all_bad}
 use Rattle.board_calls.proofs.LoopLaws.{adds_to_nothing, nothing_in}

@@ -1,9 +1,9 @@
 use Rattle.std.proofs.Common.{[], ◌∷◌, length, get_or, ◌∙◌, ap, subst, length-append, arith}
 use Rattle.cache_ident.specs.Names.{first_name}
 use Rattle.cache_ident.specs.Residents.{IsNameResident, IsResident}
-use Rattle.desc_stores.specs.Contents.{residents_of}
-use Rattle.desc_tables.specs.Tables.{Held}
-use Rattle.store_residents.proofs.ResidentLemmas.{one_each}
+use Rattle.cached_machine.specs.desc_stores.specs.Contents.{residents_of}
+use Rattle.cached_machine.specs.desc_tables.specs.Tables.{Held}
+use Rattle.cached_machine.specs.store_residents.proofs.ResidentLemmas.{one_each}
 use Rattle.board_chains.proofs.LoadLemmas.{loaded_more, not_loaded_more}
 use Rattle.board_chains.proofs.loads.loaded_among.Goals.{in-Some, in_default}
 use Rattle.board_chains.proofs.loads.loaded_among.Goals as goal

@@ -1,6 +1,6 @@
 use Rattle.std.proofs.Common.{◌≡◌, ◌≤◌, length, take}
-use Rattle.desc_parents.specs.Idents.{idents_of}
-use Rattle.desc_stores.specs.Contents.{residents_of}
+use Rattle.cached_machine.specs.desc_parents.specs.Idents.{idents_of}
+use Rattle.cached_machine.specs.desc_stores.specs.Contents.{residents_of}
 use Rattle.board_chains.proofs.loads.loaded_among.Given as goal
 
 -- the identifiers so far

@@ -3,7 +3,7 @@ use Rattle.std.specs.Option.{option_or}
 use Rattle.std.proofs.lemmas.Result.{err_from_is_err_and}
 use Rattle.cache_ident.specs.declared.idents.Kind.TheVariants as kind
 use Rattle.cache_ident.specs.declared.names.Name.TheVariants as name
-use Rattle.desc_stores.specs.declared.items.Item.TheVariants as item
+use Rattle.desc_tables.specs.desc_stores.specs.declared.items.Item.TheVariants as item
 use Rattle.board_ops.specs.declared.refusals.Refused.{Refused}
 use Rattle.board_checks.specs.Identifiers.{not_a}
 use Rattle.board_checks.specs.Refusals.{not_owned_as}

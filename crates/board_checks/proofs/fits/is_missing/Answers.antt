@@ -1,7 +1,7 @@
 use Rattle.std.proofs.Common.{Some, sym, ◌∙◌, ap}
-use Rattle.desc_stores.specs.Items.{shown}
-use Rattle.shown_state.specs.Shown.{row_of_item}
-use Rattle.desc_parents.proofs.RowLemmas.{row_shown}
+use Rattle.desc_tables.specs.desc_stores.specs.Items.{shown}
+use Rattle.desc_tables.specs.shown_state.specs.Shown.{row_of_item}
+use Rattle.desc_tables.specs.desc_parents.proofs.RowLemmas.{row_shown}
 use Rattle.board_checks.proofs.FitLemmas.{ident_tested, is_none_told, missing_tested}
 use Rattle.board_checks.proofs.fits.is_missing.Goals as goal
 

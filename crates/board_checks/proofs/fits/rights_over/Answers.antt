@@ -1,6 +1,6 @@
 use Rattle.std.proofs.Common.{Some, None, ◌∙◌, ap}
-use Rattle.desc_stores.specs.declared.items.ItemRef.TheVariants as ref
-use Rattle.desc_parents.proofs.FitLemmas.{none_over, none_right, rights_found}
+use Rattle.desc_tables.specs.desc_stores.specs.declared.items.ItemRef.TheVariants as ref
+use Rattle.desc_tables.specs.desc_parents.proofs.FitLemmas.{none_over, none_right, rights_found}
 use Rattle.board_checks.proofs.fits.rights_over.Goals as goal
 
 pub returns-in_default : goal.returns-in_default

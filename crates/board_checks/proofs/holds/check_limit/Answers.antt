@@ -1,8 +1,8 @@
 use Rattle.std.proofs.Common.{sym, ◌∙◌, ap}
 use Rattle.std.specs.Option.{option_and_then}
 use Rattle.flat_state.specs.Dependence.{owner}
-use Rattle.store_residents.proofs.KindLemmas.{loaded_live}
-use Rattle.desc_parents.specs.Seen.{seen}
+use Rattle.desc_tables.specs.store_residents.proofs.KindLemmas.{loaded_live}
+use Rattle.desc_tables.specs.desc_parents.specs.Seen.{seen}
 use Rattle.board_checks.specs.Refusals.{at_limit}
 use Rattle.board_checks.proofs.HoldLemmas.{held_as, locked_tested, owner_there, unlocked_tested}
 use Rattle.board_checks.proofs.holds.check_limit.Goals as goal

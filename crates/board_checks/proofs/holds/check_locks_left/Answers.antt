@@ -1,5 +1,5 @@
 use Rattle.board_checks.proofs.HoldLemmas.{full_tested, left_tested}
-use Rattle.desc_groups.proofs.OwnerLemmas.{kernel_there}
+use Rattle.desc_tables.specs.desc_groups.proofs.OwnerLemmas.{kernel_there}
 use Rattle.board_checks.proofs.holds.check_locks_left.Goals as goal
 
 pub unreachable-requires : goal.unreachable-requires

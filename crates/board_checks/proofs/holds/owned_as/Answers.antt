@@ -5,8 +5,8 @@ use Rattle.cache_ident.specs.declared.idents.Kind.TheVariants as kind
 use Rattle.board_ops.specs.declared.refusals.Refused.{Refused}
 use Rattle.cache_ident.specs.declared.names.Name.{Name}
 use Rattle.cache_ident.specs.Residents.{IsResident}
-use Rattle.desc_stores.specs.Contents.{residents_of}
-use Rattle.desc_stores.specs.Items.{shown}
+use Rattle.desc_tables.specs.desc_stores.specs.Contents.{residents_of}
+use Rattle.desc_tables.specs.desc_stores.specs.Items.{shown}
 use Rattle.board_checks.specs.Identifiers.{not_a, not_live}
 use Rattle.board_checks.specs.Refusals.{not_owned_as}
 use Rattle.board_checks.proofs.FirstLemmas.{err_shown, first_passes}

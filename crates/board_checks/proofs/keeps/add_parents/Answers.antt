@@ -1,8 +1,8 @@
 use Rattle.std.proofs.Common.{sym, subst, arith}
 use Rattle.std.proofs.lemmas.List.Elements.{Contains-get_or}
-use Rattle.desc_stores.specs.Contents.{residents_of}
-use Rattle.desc_parents.specs.Seen.{seen}
-use Rattle.resident_pairs.specs.Among.{AreParents}
+use Rattle.desc_tables.specs.desc_stores.specs.Contents.{residents_of}
+use Rattle.desc_tables.specs.desc_parents.specs.Seen.{seen}
+use Rattle.desc_tables.specs.resident_pairs.specs.Among.{AreParents}
 use Rattle.board_checks.proofs.KeepLemmas.{also_kept, also_starts, also_there, one_parent_more, parent_above, parents_kept, room_for_one, starts_so}
 use Rattle.board_checks.proofs.keeps.add_parents.Goals as goal
 

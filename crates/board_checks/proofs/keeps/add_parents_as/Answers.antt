@@ -1,5 +1,5 @@
 use Rattle.std.proofs.Common.{sym, subst}
-use Rattle.desc_stores.specs.Items.{shown}
+use Rattle.desc_tables.specs.desc_stores.specs.Items.{shown}
 use Rattle.board_checks.specs.Keeps.{IsOrIsAbove}
 use Rattle.board_checks.proofs.KeepLemmas.{item_above, item_keeps, nothing_keeps}
 use Rattle.board_checks.proofs.keeps.add_parents_as.Goals as goal

@@ -6,7 +6,7 @@ use Rattle.cache_ident.specs.declared.names.Name.TheVariants as name
 use Rattle.board_ops.specs.declared.refusals.Refused.{Refused}
 use Rattle.cache_ident.specs.declared.names.SpaceNo.{SpaceNo}
 use Rattle.phys_groups.specs.Translation.{row_of}
-use Rattle.desc_parents.specs.Seen.{seen}
+use Rattle.desc_tables.specs.desc_parents.specs.Seen.{seen}
 use Rattle.board_checks.specs.Identifiers.{not_a, not_a_receiver, space_as}
 use Rattle.board_checks.specs.Refusals.{already_loaded, beyond_rights, not_declared, not_owned, receivers_absent, refusal_in_space, refusal_of_row, wrong_parent, wrong_receiver}
 use Rattle.board_checks.proofs.FirstLemmas.{err_shown, first_fails, first_passes}

@@ -1,11 +1,11 @@
 use Rattle.std.proofs.Common.{[], Some, None, sym, ◌∙◌, ap}
 use Rattle.std.specs.Option.{option_map}
 use Rattle.cache_ident.specs.declared.names.Name.TheVariants as name
-use Rattle.desc_stores.specs.declared.items.ItemRef.TheVariants as ref
-use Rattle.desc_stores.specs.Items.{shown}
-use Rattle.shown_state.specs.Shown.{row_of_item}
-use Rattle.shown_state.proofs.LookupLemmas.{found_row}
-use Rattle.desc_parents.proofs.RowLemmas.{row_shown}
+use Rattle.desc_tables.specs.desc_stores.specs.declared.items.ItemRef.TheVariants as ref
+use Rattle.desc_tables.specs.desc_stores.specs.Items.{shown}
+use Rattle.desc_tables.specs.shown_state.specs.Shown.{row_of_item}
+use Rattle.desc_tables.specs.shown_state.proofs.LookupLemmas.{found_row}
+use Rattle.desc_tables.specs.desc_parents.proofs.RowLemmas.{row_shown}
 use Rattle.board_checks.proofs.OwnerLemmas.{declared_tested}
 use Rattle.board_checks.proofs.loads.row_of_page.Goals as goal
 

@@ -2,10 +2,10 @@ use Rattle.std.proofs.Common.{[], Some, None, sym, ◌∙◌, ap}
 use Rattle.std.specs.Option.{option_map}
 use Rattle.cache_ident.specs.declared.names.Name.TheVariants as name
 use Rattle.flat_state.specs.declared.records.FlatThread.{FlatThread}
-use Rattle.desc_stores.specs.declared.items.ItemRef.TheVariants as ref
-use Rattle.desc_stores.specs.Items.{shown}
-use Rattle.shown_state.specs.Shown.{thread_of}
-use Rattle.shown_state.proofs.LookupLemmas.{found_thread}
+use Rattle.desc_tables.specs.desc_stores.specs.declared.items.ItemRef.TheVariants as ref
+use Rattle.desc_tables.specs.desc_stores.specs.Items.{shown}
+use Rattle.desc_tables.specs.shown_state.specs.Shown.{thread_of}
+use Rattle.desc_tables.specs.shown_state.proofs.LookupLemmas.{found_thread}
 use Rattle.board_checks.proofs.OwnerLemmas.{declared_tested}
 use Rattle.board_checks.proofs.loads.space_of_thread.Goals as goal
 

@@ -1,6 +1,6 @@
 use Rattle.std.proofs.Common.{Some, None, ◌∙◌, ap}
-use Rattle.desc_stores.specs.declared.items.ItemRef.TheVariants as ref
-use Rattle.desc_parents.proofs.FitLemmas.{owner_found}
+use Rattle.desc_tables.specs.desc_stores.specs.declared.items.ItemRef.TheVariants as ref
+use Rattle.desc_tables.specs.desc_parents.proofs.FitLemmas.{owner_found}
 use Rattle.board_checks.proofs.owners.kernel_of.Goals as goal
 
 pub returns-in-Some-Space : goal.returns-in-Some-Space

@@ -1,14 +1,14 @@
 use Rattle.std.proofs.Common.{◌≡◌, ◌∙◌, ap, sym, Option, Some, None}
 use Rattle.flat_state.specs.Dependence.{owner, owner_of_row, owner_of_thread}
 use Rattle.cache_ident.specs.declared.names.Name.TheVariants as name
-use Rattle.desc_stores.specs.declared.items.Item.{Item}
-use Rattle.desc_stores.specs.declared.items.Item.TheVariants as item
-use Rattle.desc_stores.specs.declared.items.ItemRef.{ItemRef}
-use Rattle.desc_stores.specs.Contents.{content_of}
-use Rattle.desc_stores.specs.Items.{shown}
-use Rattle.shown_state.specs.Shown.{row_of_item, thread_of}
-use Rattle.desc_parents.specs.Seen.{seen}
-use Rattle.desc_groups.proofs.OwnerLemmas.{owner_of_its_space, owner_of_page, owner_row, owner_thread}
+use Rattle.desc_tables.specs.desc_stores.specs.declared.items.Item.{Item}
+use Rattle.desc_tables.specs.desc_stores.specs.declared.items.Item.TheVariants as item
+use Rattle.desc_tables.specs.desc_stores.specs.declared.items.ItemRef.{ItemRef}
+use Rattle.desc_tables.specs.desc_stores.specs.Contents.{content_of}
+use Rattle.desc_tables.specs.desc_stores.specs.Items.{shown}
+use Rattle.desc_tables.specs.shown_state.specs.Shown.{row_of_item, thread_of}
+use Rattle.desc_tables.specs.desc_parents.specs.Seen.{seen}
+use Rattle.desc_tables.specs.desc_groups.proofs.OwnerLemmas.{owner_of_its_space, owner_of_page, owner_row, owner_thread}
 use Rattle.board_checks.proofs.owners.owner_of.Goals as goal
 
 pub returns-in_err-thread-in-Thread : goal.returns-in_err-thread-in-Thread

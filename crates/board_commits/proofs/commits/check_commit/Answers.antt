@@ -2,11 +2,11 @@ use Rattle.std.proofs.Common.{ℕ, List, Some, None, sym, ap, subst, ◌∙◌}
 use Rattle.std.specs.Option.{option_and_then}
 use Rattle.std.proofs.lemmas.Result.{err_from_is_err_and}
 use Rattle.page_views.specs.Views.{View}
-use Rattle.desc_tables.specs.Tables.{Held}
-use Rattle.board_checks.specs.Identifiers.{not_live, thread_as}
-use Rattle.cached_machine.specs.Cached.{state_of, Cached}
-use Rattle.board_core.specs.Core.{contents_of}
-use Rattle.board_core.specs.Growth.{AreInMemory}
+use Rattle.board_threads.specs.desc_tables.specs.Tables.{Held}
+use Rattle.board_threads.specs.board_checks.specs.Identifiers.{not_live, thread_as}
+use Rattle.board_threads.specs.cached_machine.specs.Cached.{state_of, Cached}
+use Rattle.board_threads.specs.board_core.specs.Core.{contents_of}
+use Rattle.board_threads.specs.board_core.specs.Growth.{AreInMemory}
 use Rattle.board_commits.specs.Refusals.{changed, moved, not_loaded}
 use Rattle.board_threads.specs.Refusals.{over}
 use Rattle.board_commits.proofs.CommitLaws.{all_in_memory, may_happen}

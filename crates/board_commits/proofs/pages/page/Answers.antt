@@ -3,11 +3,11 @@ use Rattle.cache_ident.specs.declared.names.Name.TheVariants as name
 use Rattle.cache_ident.specs.Residents.{IsNameResident, IsResident}
 use Rattle.phys_groups.specs.Memory.{page_at, HasFrame}
 use Rattle.phys_groups.specs.Translation.{row_of}
-use Rattle.desc_stores.specs.Contents.{residents_of}
-use Rattle.desc_tables.specs.Tables.{Held}
-use Rattle.shown_state.specs.Shown.{flat_thread}
-use Rattle.cached_machine.specs.Cached.{state_of, Cached}
-use Rattle.board_core.specs.Core.{contents_of}
+use Rattle.board_threads.specs.desc_stores.specs.Contents.{residents_of}
+use Rattle.board_threads.specs.desc_tables.specs.Tables.{Held}
+use Rattle.board_threads.specs.shown_state.specs.Shown.{flat_thread}
+use Rattle.board_threads.specs.cached_machine.specs.Cached.{state_of, Cached}
+use Rattle.board_threads.specs.board_core.specs.Core.{contents_of}
 use Rattle.board_commits.proofs.PageLaws.{all_of_ticket, paged, row_there}
 use Rattle.board_commits.proofs.ThreadLaws.{page_passes, page_refused}
 use Rattle.board_commits.proofs.TicketLaws.{framed_now, memory_shown}

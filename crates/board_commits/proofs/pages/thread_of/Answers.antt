@@ -2,11 +2,11 @@ use Rattle.std.proofs.Common.{◌≡◌, Some, ap, subst, ◌∙◌}
 use Rattle.std.specs.Prelude.{IfOk}
 use Rattle.std.specs.Result.{result_err}
 use Rattle.cache_ident.specs.declared.idents.Kind.TheVariants as kind
-use Rattle.desc_stores.specs.declared.items.Item.TheVariants as item
-use Rattle.desc_stores.specs.Contents.{item_as}
-use Rattle.desc_tables.specs.Tables.{Held}
-use Rattle.board_checks.specs.Identifiers.{not_a, not_live}
-use Rattle.board_core.specs.Core.{contents_of}
+use Rattle.board_threads.specs.desc_stores.specs.declared.items.Item.TheVariants as item
+use Rattle.board_threads.specs.desc_stores.specs.Contents.{item_as}
+use Rattle.board_threads.specs.desc_tables.specs.Tables.{Held}
+use Rattle.board_threads.specs.board_checks.specs.Identifiers.{not_a, not_live}
+use Rattle.board_threads.specs.board_core.specs.Core.{contents_of}
 use Rattle.board_commits.proofs.ThreadLaws.{ok_content, ok_named, ok_shown, thread_tested}
 use Rattle.board_commits.proofs.pages.thread_of.Goals as goal
 

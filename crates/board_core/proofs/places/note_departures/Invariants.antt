@@ -1,5 +1,5 @@
 use Rattle.std.proofs.Common.{◌≡◌, ◌+◌, ◌≤◌, ◌++◌, take}
-use Rattle.board_laws.specs.Moves.{written_back}
+use Rattle.cached_machine.specs.board_laws.specs.Moves.{written_back}
 use Rattle.board_core.proofs.places.note_departures.Given as goal
 
 abbrev pub invariant-loop-left : goal.invariant-loop-left

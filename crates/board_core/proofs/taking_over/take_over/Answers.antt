@@ -6,8 +6,8 @@ use Rattle.rv32_exec.specs.declared.contexts.Context.{Context}
 use Rattle.flat_state.specs.declared.records.FlatThread.{FlatThread}
 use Rattle.flat_state.specs.State.{FlatState}
 use Rattle.page_views.specs.Views.{View}
-use Rattle.quantum.specs.LocalRun.{committed, status_by, touched_views}
-use Rattle.shown_state.specs.Shown.{flat_thread}
+use Rattle.cached_machine.specs.quantum.specs.LocalRun.{committed, status_by, touched_views}
+use Rattle.cached_machine.specs.shown_state.specs.Shown.{flat_thread}
 use Rattle.cached_machine.specs.Cached.{state_of}
 use Rattle.board_core.specs.Stamps.{AreStamped}
 use Rattle.board_core.proofs.ClearedLaws.{context_aligned}

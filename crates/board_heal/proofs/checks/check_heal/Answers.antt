@@ -1,7 +1,7 @@
 use Rattle.std.proofs.Common.{◌≡◌, ℕ, Some, slice_get, sym, subst}
 use Rattle.flat_state.specs.WellFormed.{IsThread}
-use Rattle.shown_state.specs.Shown.{flat_thread}
-use Rattle.cached_machine.specs.Cached.{state_of}
+use Rattle.board_core.specs.shown_state.specs.Shown.{flat_thread}
+use Rattle.board_core.specs.cached_machine.specs.Cached.{state_of}
 use Rattle.board_heal.proofs.checks.check_heal.Goals as goal
 
 pub check_receivers-requires : goal.check_receivers-requires

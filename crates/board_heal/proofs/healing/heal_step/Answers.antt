@@ -6,7 +6,7 @@ use Rattle.flat_state.specs.declared.records.FlatThread.{FlatThread}
 use Rattle.flat_state.specs.NextSteps.{next_step}
 use Rattle.flat_state.specs.Signals.{full_receiver}
 use Rattle.flat_state.specs.State.{FlatState}
-use Rattle.cached_machine.specs.Cached.{state_of, Cached}
+use Rattle.board_core.specs.cached_machine.specs.Cached.{state_of, Cached}
 use Rattle.board_core.specs.Core.{contents_of}
 use Rattle.board_heal.proofs.HealLaws.{can_heal, chain_so, formed_so, healed, here_still, may_come, may_step, room_for_all, some_next, steps_still, thread_loaded, unmarked_still}
 use Rattle.board_heal.proofs.WayLaws.{none_yet, one_further}

@@ -1,14 +1,14 @@
 use Rattle.std.proofs.Common.{◌≡◌, List, length, sym, ◌∙◌, ap, subst, inr, arith}
 use Rattle.cache_ident.specs.declared.idents.Ident.{Ident}
 use Rattle.cache_ident.specs.Residents.{IsNameResident}
-use Rattle.desc_stores.specs.Contents.{residents_of}
-use Rattle.desc_tables.specs.Tables.{Held}
-use Rattle.desc_parents.specs.Idents.{idents_of}
-use Rattle.board_laws.specs.Moves.{IsLoad}
-use Rattle.cached_machine.specs.Cached.{Cached}
+use Rattle.board_core.specs.desc_stores.specs.Contents.{residents_of}
+use Rattle.board_core.specs.desc_tables.specs.Tables.{Held}
+use Rattle.board_core.specs.desc_parents.specs.Idents.{idents_of}
+use Rattle.board_core.specs.board_laws.specs.Moves.{IsLoad}
+use Rattle.board_core.specs.cached_machine.specs.Cached.{Cached}
 use Rattle.board_core.specs.Core.{contents_of}
 use Rattle.board_core.specs.Growth.{count_unkept}
-use Rattle.desc_admits.specs.May.{MayBeLoaded}
+use Rattle.board_core.specs.desc_admits.specs.May.{MayBeLoaded}
 use Rattle.board_heal.proofs.NextLaws.{comes, count_is, fewer_others, may_load, none_found, stays, were}
 use Rattle.board_heal.proofs.loads.load_missing.Goals as goal
 

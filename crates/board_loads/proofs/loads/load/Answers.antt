@@ -3,9 +3,9 @@ use Rattle.std.specs.Prelude.{IfOk}
 use Rattle.std.proofs.lemmas.Result.{IfOk-at_ok}
 use Rattle.cache_ident.specs.declared.idents.Ident.{Ident}
 use Rattle.cache_ident.specs.declared.names.Name.{Name}
-use Rattle.desc_admits.specs.May.{MayBeLoaded}
-use Rattle.desc_tables.specs.Tables.{Held}
-use Rattle.board_ops.specs.declared.refusals.Refused.{Refused}
+use Rattle.board_core.specs.desc_admits.specs.May.{MayBeLoaded}
+use Rattle.board_core.specs.desc_tables.specs.Tables.{Held}
+use Rattle.board_core.specs.board_ops.specs.declared.refusals.Refused.{Refused}
 use Rattle.board_checks.specs.Facts.{IsFormed, IsLoadable}
 use Rattle.board_core.specs.Core.{contents_of}
 use Rattle.board_loads.specs.Loads.{IsLoadedAs}

@@ -1,5 +1,5 @@
 use Rattle.std.proofs.Common.{ap, ◌∙◌}
-use Rattle.desc_tables.specs.Tables.{Held}
+use Rattle.board_core.specs.desc_tables.specs.Tables.{Held}
 use Rattle.board_checks.specs.Refusals.{refusal_of_load_kernel}
 use Rattle.board_loads.proofs.WhyLaws.{called_sealed, load_kernel_tells, told_why}
 use Rattle.board_loads.proofs.loads.load_kernel.Goals as goal

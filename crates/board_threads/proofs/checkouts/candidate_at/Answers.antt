@@ -1,6 +1,6 @@
 use Rattle.std.proofs.Common.{◌≡◌, None, Some, subst}
-use Rattle.shown_state.specs.Shown.{flat_thread}
-use Rattle.cached_machine.specs.Cached.{Cached}
+use Rattle.board_core.specs.shown_state.specs.Shown.{flat_thread}
+use Rattle.board_core.specs.cached_machine.specs.Cached.{Cached}
 use Rattle.board_threads.specs.Refusals.{not_waiting}
 use Rattle.board_threads.proofs.CandidateLemmas.{free_in, no_record, nobody_in, not_free, somebody_in}
 use Rattle.board_threads.proofs.checkouts.candidate_at.Goals as goal

@@ -1,8 +1,8 @@
 use Rattle.std.proofs.Common.{◌≡◌, ℕ, ◌≤◌, ap, subst, ◌∙◌, arith}
 use Rattle.std.proofs.lemmas.List.{length_push}
 use Rattle.cache_ident.specs.declared.names.Caps.{Caps}
-use Rattle.desc_tables.specs.Tables.{Held}
-use Rattle.cached_machine.specs.Cached.{Cached}
+use Rattle.board_core.specs.desc_tables.specs.Tables.{Held}
+use Rattle.board_core.specs.cached_machine.specs.Cached.{Cached}
 use Rattle.board_threads.proofs.CandidateLemmas.{all_those, few_slots, none_more, one_more, AreThose}
 use Rattle.board_threads.proofs.checkouts.candidates.Goals as goal
 use Rattle.board_threads.proofs.checkouts.candidates.Goals.{in-Some, in_default}

@@ -1,11 +1,11 @@
 use Rattle.std.proofs.Common.{◌≡◌, ℕ, None, Some, ap, subst, sym, ◌∙◌}
 use Rattle.cache_ident.specs.declared.idents.Kind.TheVariants as kind
-use Rattle.desc_stores.specs.declared.items.Item.TheVariants as item
-use Rattle.desc_stores.specs.Contents.{item_as}
-use Rattle.desc_tables.specs.Tables.{Held}
+use Rattle.board_core.specs.desc_stores.specs.declared.items.Item.TheVariants as item
+use Rattle.board_core.specs.desc_stores.specs.Contents.{item_as}
+use Rattle.board_core.specs.desc_tables.specs.Tables.{Held}
 use Rattle.board_checks.specs.Identifiers.{not_a}
-use Rattle.cached_machine.specs.Cached.{Cached}
-use Rattle.cached_machine.specs.Posts.{mark_of}
+use Rattle.board_core.specs.cached_machine.specs.Cached.{Cached}
+use Rattle.board_core.specs.cached_machine.specs.Posts.{mark_of}
 use Rattle.board_threads.proofs.PostLemmas.{alone_out, none_out, not_out, out_if}
 use Rattle.board_threads.proofs.checkouts.out_with.Goals as goal
 

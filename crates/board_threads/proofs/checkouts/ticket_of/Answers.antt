@@ -1,10 +1,10 @@
 use Rattle.std.proofs.Common.{◌≡◌, None, Some, ap, sym, subst, ◌∙◌, slice_get}
 use Rattle.cache_ident.specs.declared.names.Name.TheVariants as name
 use Rattle.cache_ident.specs.Residents.{IsResident}
-use Rattle.desc_stores.specs.Contents.{residents_of}
-use Rattle.desc_tables.specs.Tables.{Held}
-use Rattle.shown_state.specs.Shown.{flat_thread}
-use Rattle.cached_machine.specs.Cached.{state_of, Cached}
+use Rattle.board_core.specs.desc_stores.specs.Contents.{residents_of}
+use Rattle.board_core.specs.desc_tables.specs.Tables.{Held}
+use Rattle.board_core.specs.shown_state.specs.Shown.{flat_thread}
+use Rattle.board_core.specs.cached_machine.specs.Cached.{state_of, Cached}
 use Rattle.board_core.specs.Core.{contents_of}
 use Rattle.board_threads.proofs.IdentLemmas.{thread_kind}
 use Rattle.board_threads.proofs.PostLemmas.{not_gone}

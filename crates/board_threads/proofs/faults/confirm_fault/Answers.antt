@@ -1,8 +1,8 @@
 use Rattle.std.proofs.Common.{◌≢◌, Some, inr, ap, sym, ◌∙◌}
 use Rattle.std.proofs.lemmas.Result.{err_from_is_err_and}
 use Rattle.cache_ident.specs.declared.names.Name.TheVariants as name
-use Rattle.board_ops.specs.declared.refusals.Refused.{Refused}
-use Rattle.board_ops.specs.declared.refusals.Refused.TheVariants as why
+use Rattle.board_core.specs.board_ops.specs.declared.refusals.Refused.{Refused}
+use Rattle.board_core.specs.board_ops.specs.declared.refusals.Refused.TheVariants as why
 use Rattle.board_core.specs.Answers.{IsRefused}
 use Rattle.board_threads.specs.Refusals.{refusal_of_fault}
 use Rattle.board_threads.proofs.FaultLemmas.{err_given}

@@ -1,7 +1,7 @@
 use Rattle.std.proofs.Common.{◌≡◌, ap, subst, ◌∙◌}
 use Rattle.std.specs.Option.{is_some}
-use Rattle.desc_tables.specs.Tables.{Held}
-use Rattle.cached_machine.specs.Cached.{is_loaded, Cached}
+use Rattle.board_core.specs.desc_tables.specs.Tables.{Held}
+use Rattle.board_core.specs.cached_machine.specs.Cached.{is_loaded, Cached}
 use Rattle.board_threads.proofs.IdentLemmas.{loaded_tested}
 use Rattle.board_threads.proofs.known.is_loaded.Goals as goal
 

@@ -1,4 +1,4 @@
-use Rattle.cached_machine.specs.Cached.{state_of}
+use Rattle.board_core.specs.cached_machine.specs.Cached.{state_of}
 use Rattle.board_threads.proofs.TestLemmas.{none_runs, runs_if}
 use Rattle.board_threads.proofs.known.is_runnable.Goals as goal
 

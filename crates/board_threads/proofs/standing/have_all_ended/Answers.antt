@@ -1,7 +1,7 @@
 use Rattle.std.proofs.Common.{length, sym, ap, ◌∙◌, arith}
 use Rattle.flat_state.specs.State.{is_ended}
-use Rattle.cached_machine.specs.Cached.{state_of, Cached}
-use Rattle.cached_machine.proofs.AlikeLaws.{at_place}
+use Rattle.board_core.specs.cached_machine.specs.Cached.{state_of, Cached}
+use Rattle.board_core.specs.cached_machine.proofs.AlikeLaws.{at_place}
 use Rattle.board_threads.specs.Tests.{passes}
 use Rattle.board_threads.proofs.SettleLemmas.{one_fails, one_more_passes}
 use Rattle.board_threads.proofs.standing.have_all_ended.Goals as goal

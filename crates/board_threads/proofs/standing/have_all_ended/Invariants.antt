@@ -1,7 +1,7 @@
 use Rattle.std.proofs.Common.{◌≡◌, true, take}
 use Rattle.std.specs.List.{list_all}
 use Rattle.flat_state.specs.State.{is_ended}
-use Rattle.cached_machine.specs.Cached.{state_of}
+use Rattle.board_core.specs.cached_machine.specs.Cached.{state_of}
 use Rattle.board_threads.proofs.standing.have_all_ended.Given as goal
 
 abbrev pub invariant-loop-number : goal.invariant-loop-number

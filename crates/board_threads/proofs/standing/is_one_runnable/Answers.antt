@@ -1,6 +1,6 @@
 use Rattle.std.proofs.Common.{sym, ◌∙◌}
 use Rattle.flat_state.specs.Signals.{is_runnable}
-use Rattle.cached_machine.specs.Cached.{state_of}
+use Rattle.board_core.specs.cached_machine.specs.Cached.{state_of}
 use Rattle.board_threads.specs.Tests.{goes_on}
 use Rattle.board_threads.proofs.SettleLemmas.{found_by, none_passes, one_passes}
 use Rattle.board_threads.proofs.TestLemmas.{idle_going, none_at_all}

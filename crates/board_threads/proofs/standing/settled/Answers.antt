@@ -1,5 +1,5 @@
 use Rattle.std.proofs.Common.{sym, ◌∙◌, arith}
-use Rattle.cached_machine.specs.Cached.{state_of}
+use Rattle.board_core.specs.cached_machine.specs.Cached.{state_of}
 use Rattle.board_threads.specs.Tests.{completes}
 use Rattle.board_threads.proofs.SettleLemmas.{all_done, all_stalled, completable_runs, none_first, runnable_runs, runnable_spent, some_first}
 use Rattle.board_threads.proofs.standing.settled.Goals as goal

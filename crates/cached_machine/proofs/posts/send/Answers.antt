@@ -1,7 +1,7 @@
 use Rattle.std.proofs.Common.{◌≡◌, rules, subst}
 use Rattle.thread_cache.specs.declared.ThreadRec.{ThreadRec}
-use Rattle.desc_stores.specs.declared.items.Item.TheVariants as item
-use Rattle.desc_stores.specs.Changes.{with_named, HasContent}
+use Rattle.board_laws.specs.desc_stores.specs.declared.items.Item.TheVariants as item
+use Rattle.board_laws.specs.desc_stores.specs.Changes.{with_named, HasContent}
 use Rattle.cached_machine.specs.Posts.{posted}
 use Rattle.cached_machine.proofs.PostLaws.{posted_no, posted_shows, shows_the_same}
 use Rattle.cached_machine.proofs.posts.send.Goals as goal

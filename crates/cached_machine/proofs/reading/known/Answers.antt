@@ -1,4 +1,4 @@
-use Rattle.shown_state.proofs.LookupLemmas.{all_found, all_listed}
+use Rattle.board_laws.specs.shown_state.proofs.LookupLemmas.{all_found, all_listed}
 use Rattle.cached_machine.proofs.reading.known.Goals as goal
 
 pub returns-clause-found : goal.returns-clause-found

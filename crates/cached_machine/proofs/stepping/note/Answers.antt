@@ -2,9 +2,9 @@ use Rattle.std.proofs.Common.{◌≡◌, ◌<◌, Some, length, sym, ◌∙◌, 
 use Rattle.std.specs.Option.{option_map}
 use Rattle.cache_ident.specs.declared.names.Name.TheVariants as name
 use Rattle.cache_ident.specs.declared.names.ThreadNo.{ThreadNo}
-use Rattle.desc_stores.specs.declared.items.Item.TheVariants as item
-use Rattle.desc_stores.specs.Contents.{content_of}
-use Rattle.desc_stores.specs.Items as items
+use Rattle.board_laws.specs.desc_stores.specs.declared.items.Item.TheVariants as item
+use Rattle.board_laws.specs.desc_stores.specs.Contents.{content_of}
+use Rattle.board_laws.specs.desc_stores.specs.Items as items
 use Rattle.cached_machine.proofs.StepLaws.{number_found}
 use Rattle.cached_machine.proofs.stepping.note.Goals as goal
 

@@ -2,11 +2,11 @@ use Rattle.std.proofs.Common.{◌≡◌, rules, Option, Some, ◌∙◌, ap, sub
 use Rattle.cache_ident.specs.declared.names.Name.{Name}
 use Rattle.cache_ident.specs.declared.names.Name.TheVariants as name
 use Rattle.thread_cache.specs.declared.ThreadRec.{ThreadRec}
-use Rattle.desc_stores.specs.declared.items.Item.{Item}
-use Rattle.desc_stores.specs.declared.items.Item.TheVariants as item
-use Rattle.desc_stores.specs.Changes.{HasContent}
-use Rattle.desc_stores.specs.Contents.{content_of, Contents}
-use Rattle.shown_state.proofs.ChangeLemmas.{at_name}
+use Rattle.board_laws.specs.desc_stores.specs.declared.items.Item.{Item}
+use Rattle.board_laws.specs.desc_stores.specs.declared.items.Item.TheVariants as item
+use Rattle.board_laws.specs.desc_stores.specs.Changes.{HasContent}
+use Rattle.board_laws.specs.desc_stores.specs.Contents.{content_of, Contents}
+use Rattle.board_laws.specs.shown_state.proofs.ChangeLemmas.{at_name}
 use Rattle.thread_sets.specs.Sets.{noted}
 use Rattle.cached_machine.specs.Stepping.{left_by, IfThread}
 use Rattle.cached_machine.proofs.stepping.update.Goals as goal

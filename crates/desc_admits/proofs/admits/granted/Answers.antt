@@ -3,8 +3,8 @@ use Rattle.std.specs.List.{sum_by}
 use Rattle.std.proofs.lemmas.List.{take_all}
 use Rattle.cache_ident.specs.Names.{amount_of}
 use Rattle.flat_state.specs.declared.records.FlatKernel.{FlatKernel}
-use Rattle.shown_state.proofs.LookupLemmas.{count_kernels}
-use Rattle.desc_parents.specs.Seen.{seen}
+use Rattle.desc_groups.specs.shown_state.proofs.LookupLemmas.{count_kernels}
+use Rattle.desc_groups.specs.desc_parents.specs.Seen.{seen}
 use Rattle.desc_admits.proofs.RecordLemmas.{granted_more, granted_of}
 use Rattle.desc_admits.proofs.admits.granted.Goals as goal
 

@@ -2,7 +2,7 @@ use Rattle.std.proofs.Common.{◌≡◌, ◌*◌, ◌-◌, ◌^◌, ◌≤◌, t
 use Rattle.std.specs.List.{sum_by}
 use Rattle.cache_ident.specs.Names.{amount_of}
 use Rattle.flat_state.specs.declared.records.FlatKernel.{FlatKernel}
-use Rattle.desc_parents.specs.Seen.{seen}
+use Rattle.desc_groups.specs.desc_parents.specs.Seen.{seen}
 use Rattle.desc_admits.proofs.admits.granted.Given as goal
 
 -- the sum is that of the limits of the kernels before this one

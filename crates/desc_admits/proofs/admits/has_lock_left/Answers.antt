@@ -1,6 +1,6 @@
 use Rattle.std.proofs.Common.{Some, sym, ◌∙◌, ap}
 use Rattle.std.specs.Option.{option_map}
-use Rattle.desc_stores.specs.Items.{shown}
+use Rattle.desc_groups.specs.desc_stores.specs.Items.{shown}
 use Rattle.desc_admits.proofs.AdmitLemmas.{is_not}
 use Rattle.desc_admits.proofs.RecordLemmas.{lock_left, no_lock_left}
 use Rattle.desc_admits.proofs.admits.has_lock_left.Goals as goal

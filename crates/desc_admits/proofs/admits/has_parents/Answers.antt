@@ -1,6 +1,6 @@
 use Rattle.std.proofs.Common.{Some, None, ◌∙◌, ap}
 use Rattle.cache_ident.specs.declared.names.Name.TheVariants as name
-use Rattle.desc_stores.specs.declared.items.ItemRef.TheVariants as ref
+use Rattle.desc_groups.specs.desc_stores.specs.declared.items.ItemRef.TheVariants as ref
 use Rattle.desc_admits.proofs.AdmitLemmas.{and_so, found_parents, it_is, none_loaded, one_loaded}
 use Rattle.desc_admits.proofs.admits.has_parents.Goals as goal
 

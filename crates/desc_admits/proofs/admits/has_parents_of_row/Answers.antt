@@ -1,7 +1,7 @@
 use Rattle.std.proofs.Common.{[], refl}
 use Rattle.std.proofs.lemmas.Bool.{false≢true}
-use Rattle.desc_parents.specs.Idents.{fit_signal_names}
-use Rattle.desc_parents.specs.Seen.{seen}
+use Rattle.desc_groups.specs.desc_parents.specs.Idents.{fit_signal_names}
+use Rattle.desc_groups.specs.desc_parents.specs.Seen.{seen}
 use Rattle.desc_admits.proofs.AdmitLemmas.{and_so, is_not, it_is, none_loaded, receiver_of_row, rest_of_row, signals_of_message, signals_of_other, space_of_row}
 use Rattle.desc_admits.proofs.admits.has_parents_of_row.Goals as goal
 

@@ -1,7 +1,7 @@
 use Rattle.std.proofs.Common.{None, [], refl, sym, ◌∙◌, ap}
 use Rattle.flat_state.specs.Names.{is_fit_found, is_fit_name}
-use Rattle.shown_state.proofs.LookupLemmas.{found_row}
-use Rattle.desc_parents.specs.Seen.{seen}
+use Rattle.desc_groups.specs.shown_state.proofs.LookupLemmas.{found_row}
+use Rattle.desc_groups.specs.desc_parents.specs.Seen.{seen}
 use Rattle.desc_admits.proofs.admits.is_fit_name.Goals as goal
 
 pub returns-in-Kernel : goal.returns-in-Kernel

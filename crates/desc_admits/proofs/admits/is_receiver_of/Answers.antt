@@ -1,6 +1,6 @@
 use Rattle.std.proofs.Common.{Some, sym, ◌∙◌, ap}
 use Rattle.std.specs.Option.{option_map}
-use Rattle.desc_stores.specs.Items.{shown}
+use Rattle.desc_groups.specs.desc_stores.specs.Items.{shown}
 use Rattle.desc_admits.proofs.RecordLemmas.{receiver_found, receiver_none}
 use Rattle.desc_admits.proofs.admits.is_receiver_of.Goals as goal
 

@@ -1,5 +1,5 @@
 use Rattle.std.proofs.Common.{sym}
-use Rattle.desc_stores.specs.Items.{shown}
+use Rattle.desc_groups.specs.desc_stores.specs.Items.{shown}
 use Rattle.desc_admits.proofs.AdmitLemmas.{and_so, it_is, kept_as, none_as}
 use Rattle.desc_admits.proofs.admits.keeps_parents_as.Goals as goal
 

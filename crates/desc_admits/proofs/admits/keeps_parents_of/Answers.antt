@@ -1,7 +1,7 @@
 use Rattle.std.proofs.Common.{sym, subst}
-use Rattle.desc_stores.specs.Contents.{residents_of}
-use Rattle.resident_pairs.specs.Among.{AreParents}
-use Rattle.desc_parents.specs.Seen.{seen}
+use Rattle.desc_groups.specs.desc_stores.specs.Contents.{residents_of}
+use Rattle.desc_groups.specs.resident_pairs.specs.Among.{AreParents}
+use Rattle.desc_groups.specs.desc_parents.specs.Seen.{seen}
 use Rattle.desc_admits.proofs.AdmitLemmas.{and_so, parents_kept}
 use Rattle.desc_admits.proofs.admits.keeps_parents_of.Goals as goal
 

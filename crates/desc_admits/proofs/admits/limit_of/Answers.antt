@@ -1,6 +1,6 @@
 use Rattle.std.proofs.Common.{Some, sym, ◌∙◌, ap}
 use Rattle.std.specs.Option.{option_map}
-use Rattle.desc_stores.specs.Items.{shown}
+use Rattle.desc_groups.specs.desc_stores.specs.Items.{shown}
 use Rattle.desc_admits.proofs.RecordLemmas.{limit_found, limit_none}
 use Rattle.desc_admits.proofs.admits.limit_of.Goals as goal
 

@@ -1,7 +1,7 @@
 use Rattle.std.proofs.Common.{Some, ◌∙◌, ap, sym}
-use Rattle.desc_stores.specs.Items.{shown}
-use Rattle.shown_state.specs.Shown.{row_of_item}
-use Rattle.desc_parents.proofs.RowLemmas.{row_shown}
+use Rattle.desc_groups.specs.desc_stores.specs.Items.{shown}
+use Rattle.desc_groups.specs.shown_state.specs.Shown.{row_of_item}
+use Rattle.desc_groups.specs.desc_parents.proofs.RowLemmas.{row_shown}
 use Rattle.desc_admits.proofs.admits.names_fit_row.Goals as goal
 
 pub is_fit-requires : goal.is_fit-requires

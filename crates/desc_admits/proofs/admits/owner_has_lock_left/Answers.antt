@@ -1,5 +1,5 @@
 use Rattle.std.proofs.Common.{sym}
-use Rattle.desc_stores.specs.Items.{shown}
+use Rattle.desc_groups.specs.desc_stores.specs.Items.{shown}
 use Rattle.desc_admits.proofs.AdmitLemmas.{and_so, owner_left}
 use Rattle.desc_admits.proofs.admits.owner_has_lock_left.Goals as goal
 

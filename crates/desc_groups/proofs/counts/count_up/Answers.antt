@@ -3,12 +3,12 @@ use Rattle.std.specs.Option.{option_map}
 use Rattle.cache_ident.specs.declared.names.Caps.{Caps}
 use Rattle.cache_ident.specs.declared.names.Name.{Name}
 use Rattle.cache_ident.specs.declared.names.Name.TheVariants as name
-use Rattle.desc_stores.specs.declared.items.Item.{Item}
-use Rattle.desc_stores.specs.declared.items.Item.TheVariants as item
-use Rattle.desc_stores.specs.declared.items.ItemRef.{ItemRef}
-use Rattle.desc_stores.specs.Contents.{content_of}
-use Rattle.desc_stores.specs.Items.{shown}
-use Rattle.shown_state.proofs.ContentLemmas.{item_has_name}
+use Rattle.desc_parents.specs.desc_stores.specs.declared.items.Item.{Item}
+use Rattle.desc_parents.specs.desc_stores.specs.declared.items.Item.TheVariants as item
+use Rattle.desc_parents.specs.desc_stores.specs.declared.items.ItemRef.{ItemRef}
+use Rattle.desc_parents.specs.desc_stores.specs.Contents.{content_of}
+use Rattle.desc_parents.specs.desc_stores.specs.Items.{shown}
+use Rattle.desc_parents.specs.shown_state.proofs.ContentLemmas.{item_has_name}
 use Rattle.desc_groups.specs.Moves.{counted_up, with_amount, IsPutKernel}
 use Rattle.desc_groups.proofs.counts.count_up.Goals as goal
 

@@ -2,11 +2,11 @@ use Rattle.std.proofs.Common.{◌≡◌, Contains, Some, sym, ◌∙◌, ap, sub
 use Rattle.cache_ident.specs.declared.idents.Ident.{Ident}
 use Rattle.cache_ident.specs.declared.names.Caps.{Caps}
 use Rattle.cache_ident.specs.Residents.{Resident, without}
-use Rattle.resident_pairs.specs.Among.{Among}
+use Rattle.desc_parents.specs.resident_pairs.specs.Among.{Among}
 use Rattle.run_journal.specs.Groups.{ArePairsOf}
-use Rattle.desc_stores.specs.Contents.{resident_as, residents_of, Contents}
-use Rattle.store_residents.proofs.KindLemmas.{at_as, live_loaded}
-use Rattle.store_residents.proofs.ResidentLemmas.{loaded_resident, one_each}
+use Rattle.desc_parents.specs.desc_stores.specs.Contents.{resident_as, residents_of, Contents}
+use Rattle.desc_parents.specs.store_residents.proofs.KindLemmas.{at_as, live_loaded}
+use Rattle.desc_parents.specs.store_residents.proofs.ResidentLemmas.{loaded_resident, one_each}
 use Rattle.desc_parents.specs.Seen.{seen}
 use Rattle.desc_groups.specs.Whole.{AreWhole}
 use Rattle.desc_groups.proofs.DepartLemmas.{whole_left}

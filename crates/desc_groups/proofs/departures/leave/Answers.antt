@@ -5,7 +5,7 @@ use Rattle.cache_ident.specs.declared.idents.Ident.{Ident}
 use Rattle.cache_ident.specs.declared.names.Caps.{Caps}
 use Rattle.cache_ident.specs.Rolls.{is_same}
 use Rattle.depend_lists.specs.declared.nodes.Node.{Node}
-use Rattle.resident_pairs.specs.Among.{Among}
+use Rattle.desc_parents.specs.resident_pairs.specs.Among.{Among}
 use Rattle.desc_groups.specs.Whole.{AreWhole}
 use Rattle.desc_groups.proofs.LeaveLemmas.{causes_all, gone_before, gone_of, group_all, issued_all, next_fits, next_last, next_left, next_live, next_within, places_all, residents_all}
 use Rattle.desc_groups.proofs.ShowLemmas.{but_counts_itself}

@@ -3,8 +3,8 @@ use Rattle.cache_ident.specs.declared.idents.Ident.{Ident}
 use Rattle.cache_ident.specs.declared.names.KernelNo.{KernelNo}
 use Rattle.flat_state.specs.Dependence.{owner}
 use Rattle.flat_state.specs.State.{FlatState}
-use Rattle.desc_stores.specs.Contents.{residents_of, Contents}
-use Rattle.desc_stores.specs.Sound.{AreOwned}
+use Rattle.desc_parents.specs.desc_stores.specs.Contents.{residents_of, Contents}
+use Rattle.desc_parents.specs.desc_stores.specs.Sound.{AreOwned}
 use Rattle.desc_parents.specs.Seen.{seen}
 use Rattle.desc_groups.proofs.DepartLemmas.{owner_counts, owner_kept, taken_locked, taken_unlocked, IsDisplaced, IsTakenOut}
 use Rattle.desc_groups.proofs.OwnedLemmas.{owner_there, HasOwner}

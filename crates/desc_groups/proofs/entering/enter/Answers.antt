@@ -5,14 +5,14 @@ use Rattle.cache_ident.specs.declared.names.Caps.{Caps}
 use Rattle.cache_ident.specs.Residents.{with_loaded, Resident}
 use Rattle.flat_state.specs.Dependence.{owner}
 use Rattle.run_journal.specs.Groups.{node_of}
-use Rattle.desc_stores.specs.Contents.{residents_of}
-use Rattle.resident_pairs.specs.Among.{AreFew}
-use Rattle.resident_pairs.proofs.Room.{has_room, no_child}
-use Rattle.shown_state.proofs.AlikeLemmas.{shown_alike}
-use Rattle.shown_state.proofs.MoveLemmas.{alike_loading}
-use Rattle.store_residents.proofs.ResidentLemmas.{no_later}
-use Rattle.store_residents.proofs.SlotLaws.{are_few}
-use Rattle.store_residents.proofs.StayLemmas.{slots-kept, slots-loading}
+use Rattle.desc_parents.specs.desc_stores.specs.Contents.{residents_of}
+use Rattle.desc_parents.specs.resident_pairs.specs.Among.{AreFew}
+use Rattle.desc_parents.specs.resident_pairs.proofs.Room.{has_room, no_child}
+use Rattle.desc_parents.specs.shown_state.proofs.AlikeLemmas.{shown_alike}
+use Rattle.desc_parents.specs.shown_state.proofs.MoveLemmas.{alike_loading}
+use Rattle.desc_parents.specs.store_residents.proofs.ResidentLemmas.{no_later}
+use Rattle.desc_parents.specs.store_residents.proofs.SlotLaws.{are_few}
+use Rattle.desc_parents.specs.store_residents.proofs.StayLemmas.{slots-kept, slots-loading}
 use Rattle.desc_parents.specs.Seen.{seen}
 use Rattle.desc_groups.specs.Whole.{AreWhole}
 use Rattle.desc_groups.proofs.EnterLemmas.{nothing_behind, whole_loaded}

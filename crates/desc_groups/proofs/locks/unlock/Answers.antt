@@ -3,12 +3,12 @@ use Rattle.cache_ident.specs.declared.idents.Ident.{Ident}
 use Rattle.cache_ident.specs.declared.names.Name.TheVariants as name
 use Rattle.cache_ident.specs.Names.{amount_of}
 use Rattle.run_journal.specs.Legal.{locked_by}
-use Rattle.desc_stores.specs.Contents.{resident_as, residents_of}
+use Rattle.desc_parents.specs.desc_stores.specs.Contents.{resident_as, residents_of}
 use Rattle.desc_parents.specs.Seen.{seen}
 use Rattle.desc_groups.specs.Moves.{counted_down}
-use Rattle.group_laws.proofs.LockCounts.{locked_already}
-use Rattle.store_residents.proofs.KindLemmas.{at_as}
-use Rattle.store_residents.proofs.ResidentLemmas.{resident_loaded}
+use Rattle.desc_parents.specs.group_laws.proofs.LockCounts.{locked_already}
+use Rattle.desc_parents.specs.store_residents.proofs.KindLemmas.{at_as}
+use Rattle.desc_parents.specs.store_residents.proofs.ResidentLemmas.{resident_loaded}
 use Rattle.desc_groups.proofs.OwnedLemmas.{owner_there, HasOwner}
 use Rattle.desc_groups.proofs.LockLemmas.{relocked_issued, relocked_kept, relocked_residents, unlocked_step, unlocked_whole}
 use Rattle.desc_groups.proofs.CountLemmas.{counted_some}

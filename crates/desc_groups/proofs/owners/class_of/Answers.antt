@@ -1,12 +1,12 @@
 use Rattle.std.proofs.Common.{◌≡◌, ◌∙◌, ap, sym, Option, Some, None}
 use Rattle.std.specs.Option.{option_map}
 use Rattle.flat_state.specs.Names.{class_of, class_of_row}
-use Rattle.desc_stores.specs.declared.items.Item.{Item}
-use Rattle.desc_stores.specs.declared.items.Item.TheVariants as item
-use Rattle.desc_stores.specs.declared.items.ItemRef.{ItemRef}
-use Rattle.desc_stores.specs.Contents.{content_of}
-use Rattle.desc_stores.specs.Items.{shown}
-use Rattle.shown_state.specs.Shown.{row_of_item}
+use Rattle.desc_parents.specs.desc_stores.specs.declared.items.Item.{Item}
+use Rattle.desc_parents.specs.desc_stores.specs.declared.items.Item.TheVariants as item
+use Rattle.desc_parents.specs.desc_stores.specs.declared.items.ItemRef.{ItemRef}
+use Rattle.desc_parents.specs.desc_stores.specs.Contents.{content_of}
+use Rattle.desc_parents.specs.desc_stores.specs.Items.{shown}
+use Rattle.desc_parents.specs.shown_state.specs.Shown.{row_of_item}
 use Rattle.desc_parents.specs.Seen.{seen}
 use Rattle.desc_groups.proofs.OwnerLemmas.{class_kernel, class_row, class_space, class_thread}
 use Rattle.desc_groups.proofs.owners.class_of.Goals as goal

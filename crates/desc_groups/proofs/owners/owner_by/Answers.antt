@@ -1,10 +1,10 @@
 use Rattle.std.proofs.Common.{◌≡◌, ◌∙◌, ap, sym, Option, Some, None, IsSome, subst}
 use Rattle.cache_ident.specs.declared.names.KernelNo.{KernelNo}
 use Rattle.flat_state.specs.Dependence.{owner}
-use Rattle.desc_stores.specs.Contents.{item_as, residents_of}
-use Rattle.desc_stores.specs.Items.{shown}
-use Rattle.store_residents.proofs.KindLemmas.{live_loaded}
-use Rattle.store_residents.proofs.ResidentLemmas.{loaded_resident}
+use Rattle.desc_parents.specs.desc_stores.specs.Contents.{item_as, residents_of}
+use Rattle.desc_parents.specs.desc_stores.specs.Items.{shown}
+use Rattle.desc_parents.specs.store_residents.proofs.KindLemmas.{live_loaded}
+use Rattle.desc_parents.specs.store_residents.proofs.ResidentLemmas.{loaded_resident}
 use Rattle.desc_parents.specs.Seen.{seen}
 use Rattle.desc_groups.proofs.OwnerLemmas.{name_of_loaded, resident_owned}
 use Rattle.desc_groups.proofs.owners.owner_by.Goals as goal

@@ -1,5 +1,5 @@
 use Rattle.std.proofs.Common.{Some, None, ◌∙◌, ap}
-use Rattle.desc_stores.specs.declared.items.ItemRef.TheVariants as ref
+use Rattle.store_residents.specs.desc_stores.specs.declared.items.ItemRef.TheVariants as ref
 use Rattle.desc_parents.proofs.FitLemmas.{owner_found}
 use Rattle.desc_parents.proofs.fits.kernel_of.Goals as goal
 

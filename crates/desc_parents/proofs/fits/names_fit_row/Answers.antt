@@ -1,5 +1,5 @@
 use Rattle.std.proofs.Common.{Some, ◌∙◌, ap, sym}
-use Rattle.desc_stores.specs.Items.{shown}
+use Rattle.store_residents.specs.desc_stores.specs.Items.{shown}
 use Rattle.shown_state.specs.Shown.{row_of_item}
 use Rattle.desc_parents.proofs.RowLemmas.{row_shown}
 use Rattle.desc_parents.proofs.fits.names_fit_row.Goals as goal

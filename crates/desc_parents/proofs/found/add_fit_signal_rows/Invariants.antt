@@ -1,5 +1,5 @@
 use Rattle.std.proofs.Common.{filter}
-use Rattle.desc_stores.specs.Contents.{residents_of}
+use Rattle.store_residents.specs.desc_stores.specs.Contents.{residents_of}
 use Rattle.desc_parents.specs.Idents.{HasAlsoIdentsOf}
 use Rattle.desc_parents.proofs.RowLemmas.{fit_in}
 use Rattle.desc_parents.proofs.found.add_fit_signal_rows.Given as goal

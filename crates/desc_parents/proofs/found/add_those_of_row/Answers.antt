@@ -1,5 +1,5 @@
 use Rattle.cache_ident.specs.declared.names.Name.TheVariants as name
-use Rattle.desc_stores.specs.Contents.{residents_of}
+use Rattle.store_residents.specs.desc_stores.specs.Contents.{residents_of}
 use Rattle.desc_parents.specs.Seen.{seen}
 use Rattle.desc_parents.proofs.RowLemmas.{few_from_nothing, no_receiver}
 use Rattle.desc_parents.proofs.found.add_those_of_row.Goals as goal

@@ -1,10 +1,10 @@
 use Rattle.std.proofs.Common.{[], ◌∷◌, Some, None, sym, ◌∙◌, ap}
 use Rattle.cache_ident.specs.declared.names.Name.TheVariants as name
-use Rattle.desc_stores.specs.Items.{shown}
-use Rattle.desc_stores.specs.declared.items.ItemRef.TheVariants as ref
+use Rattle.store_residents.specs.desc_stores.specs.Items.{shown}
+use Rattle.store_residents.specs.desc_stores.specs.declared.items.ItemRef.TheVariants as ref
 use Rattle.shown_state.specs.Shown.{row_of_item}
 use Rattle.flat_state.specs.Dependence.{parents_of_row}
-use Rattle.desc_stores.specs.Contents.{residents_of}
+use Rattle.store_residents.specs.desc_stores.specs.Contents.{residents_of}
 use Rattle.desc_parents.specs.Seen.{seen}
 use Rattle.desc_parents.proofs.ParentLemmas.{are_apart, are_found}
 use Rattle.desc_parents.proofs.RowLemmas.{from_nothing, parents_apart, row_shown}

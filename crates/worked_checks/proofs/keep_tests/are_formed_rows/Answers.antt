@@ -1,7 +1,7 @@
 use Rattle.std.proofs.Common.{All, length, refl, ap, subst, arith}
 use Rattle.std.proofs.lemmas.Bool.{leb-true}
 use Rattle.std.proofs.lemmas.List.Elements.{All-push}
-use Rattle.desc_parents.proofs.RowLemmas.{all_gone}
+use Rattle.board_checks.specs.desc_parents.proofs.RowLemmas.{all_gone}
 use Rattle.worked_checks.specs.Formed.{IsFormedName}
 use Rattle.worked_checks.proofs.keep_tests.are_formed_rows.Goals as goal
 

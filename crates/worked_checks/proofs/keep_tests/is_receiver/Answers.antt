@@ -1,8 +1,8 @@
 use Rattle.std.proofs.Common.{[], Some, None, sym, ◌∙◌, ap}
 use Rattle.flat_state.specs.Declaration.{thread_is_in}
-use Rattle.desc_stores.specs.Items.{shown}
-use Rattle.shown_state.specs.Shown.{thread_of}
-use Rattle.shown_state.proofs.LookupLemmas.{found_thread}
+use Rattle.board_checks.specs.desc_stores.specs.Items.{shown}
+use Rattle.board_checks.specs.shown_state.specs.Shown.{thread_of}
+use Rattle.board_checks.specs.shown_state.proofs.LookupLemmas.{found_thread}
 use Rattle.worked_checks.proofs.keep_tests.is_receiver.Goals as goal
 
 pub returns-in-Some-Thread : goal.returns-in-Some-Thread

@@ -1,6 +1,6 @@
 use Rattle.std.proofs.Common.{◌≡◌, [], List, ap}
 use Rattle.cache_ident.specs.declared.rolls.Issued.{Issued}
-use Rattle.desc_stores.specs.Contents.{residents_of, Contents}
+use Rattle.board_checks.specs.desc_stores.specs.Contents.{residents_of, Contents}
 use Rattle.worked_checks.proofs.tables.with_first_kernel.Goals as goal
 
 -- where nothing was issued, nothing is loaded

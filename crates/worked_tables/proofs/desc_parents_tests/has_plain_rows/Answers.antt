@@ -2,7 +2,7 @@ use Rattle.std.proofs.Common.{All, length, refl, ap, subst, arith}
 use Rattle.std.proofs.lemmas.Bool.{leb-true}
 use Rattle.std.proofs.lemmas.List.Elements.{All-push}
 use Rattle.worked_tables.proofs.PlainLemmas.{plain_rows, IsPlainIn}
-use Rattle.desc_parents.proofs.RowLemmas.{all_gone}
+use Rattle.desc_tables.specs.desc_parents.proofs.RowLemmas.{all_gone}
 use Rattle.worked_tables.proofs.desc_parents_tests.has_plain_rows.Goals as goal
 
 pub loop-name-preserved : goal.loop-name-preserved

@@ -1,6 +1,6 @@
 use Rattle.std.proofs.Common.{refl, subst}
 use Rattle.cache_ident.specs.Residents.{IsResident}
-use Rattle.desc_stores.specs.Contents.{content_of, residents_of}
+use Rattle.desc_tables.specs.desc_stores.specs.Contents.{content_of, residents_of}
 use Rattle.worked_tables.proofs.LoadedLemmas.{content_loaded, shown_loaded}
 use Rattle.worked_tables.proofs.tables.find_loaded.Goals as goal
 

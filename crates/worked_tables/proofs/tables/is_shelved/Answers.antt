@@ -1,5 +1,5 @@
 use Rattle.std.proofs.Common.{not, sym, ◌∙◌, ap}
-use Rattle.desc_stores.specs.Contents.{content_of, residents_of}
+use Rattle.desc_tables.specs.desc_stores.specs.Contents.{content_of, residents_of}
 use Rattle.worked_tables.proofs.LoadedLemmas.{is_shelved, none_resident, some_content}
 use Rattle.worked_tables.proofs.tables.is_shelved.Goals as goal
 

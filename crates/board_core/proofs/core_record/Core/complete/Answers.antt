@@ -8,7 +8,7 @@ use Rattle.flat_state.specs.Call.{is_completable}
 use Rattle.flat_state.specs.Events.{applied}
 use Rattle.flat_rules.specs.Readings.{OfThread}
 use Rattle.run_journal.specs.Legal.{AreGood}
-use Rattle.desc_stores.specs.Contents.{residents_of}
+use Rattle.cached_machine.specs.desc_stores.specs.Contents.{residents_of}
 use Rattle.cached_machine.specs.Cached.{state_of}
 use Rattle.board_core.specs.Core.{contents_of, Recorded}
 use Rattle.board_core.specs.Growth.{MayWrite}

@@ -6,13 +6,13 @@ use Rattle.cache_ident.specs.declared.names.Name.{Name}
 use Rattle.cache_ident.specs.Residents.{IsNameResident}
 use Rattle.run_journal.specs.declared.entries.Entry.{Entry}
 use Rattle.run_journal.specs.declared.entries.Entry.TheVariants.{Loaded, WrittenBack}
-use Rattle.desc_stores.specs.Contents.{residents_of}
-use Rattle.store_residents.proofs.ContentLemmas.{shelved_iff}
-use Rattle.desc_groups.specs.declared.departures.Gone.{Gone}
-use Rattle.desc_groups.specs.Whole.{AreWhole}
-use Rattle.desc_admits.specs.May.{MayBeLoaded}
-use Rattle.desc_tables.specs.Tables.{Held}
-use Rattle.board_laws.specs.Moves.{written_back, IsLoad}
+use Rattle.cached_machine.specs.desc_stores.specs.Contents.{residents_of}
+use Rattle.cached_machine.specs.store_residents.proofs.ContentLemmas.{shelved_iff}
+use Rattle.cached_machine.specs.desc_groups.specs.declared.departures.Gone.{Gone}
+use Rattle.cached_machine.specs.desc_groups.specs.Whole.{AreWhole}
+use Rattle.cached_machine.specs.desc_admits.specs.May.{MayBeLoaded}
+use Rattle.cached_machine.specs.desc_tables.specs.Tables.{Held}
+use Rattle.cached_machine.specs.board_laws.specs.Moves.{written_back, IsLoad}
 use Rattle.cached_machine.specs.Cached.{Cached}
 use Rattle.board_core.specs.Core.{contents_of, Recorded}
 use Rattle.board_core.specs.Growth.{count_unkept, MayWrite}

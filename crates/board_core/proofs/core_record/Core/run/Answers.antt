@@ -4,8 +4,8 @@ use Rattle.cache_ident.specs.declared.names.Name.{Name}
 use Rattle.cache_ident.specs.declared.names.Name.TheVariants as name
 use Rattle.cache_ident.specs.Residents.{IsNameResident, Resident}
 use Rattle.flat_state.specs.State.{FlatState}
-use Rattle.desc_stores.specs.Contents.{content_of, residents_of}
-use Rattle.store_residents.proofs.ContentLemmas.{resident_content}
+use Rattle.cached_machine.specs.desc_stores.specs.Contents.{content_of, residents_of}
+use Rattle.cached_machine.specs.store_residents.proofs.ContentLemmas.{resident_content}
 use Rattle.board_core.specs.Core.{contents_of, Recorded}
 use Rattle.board_core.proofs.AheadLaws.{same_posted}
 use Rattle.board_core.proofs.core_record.Core.run.Goals as goal

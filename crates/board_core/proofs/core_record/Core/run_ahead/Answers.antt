@@ -4,9 +4,9 @@ use Rattle.std.proofs.lemmas.Option.{slice_get_within}
 use Rattle.cache_ident.specs.declared.names.Name.TheVariants as name
 use Rattle.cache_ident.specs.Residents.{IsNameResident}
 use Rattle.flat_rules.specs.Readings.{OfThread}
-use Rattle.quantum.specs.LocalRun.{touched_views, CouldRun}
+use Rattle.cached_machine.specs.quantum.specs.LocalRun.{touched_views, CouldRun}
 use Rattle.run_journal.specs.declared.entries.Entry.TheVariants.{Ran}
-use Rattle.desc_stores.specs.Contents.{residents_of}
+use Rattle.cached_machine.specs.desc_stores.specs.Contents.{residents_of}
 use Rattle.cached_machine.specs.Aside.{Aside}
 use Rattle.cached_machine.specs.Cached.{state_of}
 use Rattle.cached_machine.specs.Posts.{mark_of}

@@ -5,7 +5,7 @@ use Rattle.cache_ident.specs.declared.idents.Ident.{Ident}
 use Rattle.cache_ident.specs.Names.{first_name}
 use Rattle.run_journal.specs.declared.entries.Entry.TheVariants.{Loaded, Locked, Sealed}
 use Rattle.run_journal.specs.Legal.{first_ident}
-use Rattle.desc_groups.specs.Whole.{AreWhole}
+use Rattle.cached_machine.specs.desc_groups.specs.Whole.{AreWhole}
 use Rattle.cached_machine.specs.Cached.{state_of, Cached}
 use Rattle.cached_machine.specs.Posts.{HasSameMarks}
 use Rattle.board_core.specs.Core.{contents_of, Recorded}

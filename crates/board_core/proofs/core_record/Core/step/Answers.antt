@@ -6,7 +6,7 @@ use Rattle.cache_ident.specs.Residents.{IsNameResident}
 use Rattle.flat_state.specs.NextSteps.{next_step}
 use Rattle.run_journal.specs.declared.entries.Entry.{Entry}
 use Rattle.run_journal.specs.Legal.{MayStep}
-use Rattle.desc_stores.specs.Contents.{residents_of}
+use Rattle.cached_machine.specs.desc_stores.specs.Contents.{residents_of}
 use Rattle.cached_machine.specs.Aside.{Aside}
 use Rattle.cached_machine.specs.Cached.{state_of}
 use Rattle.cached_machine.specs.Posts.{mark_of}

@@ -4,10 +4,10 @@ use Rattle.std.proofs.lemmas.List.{length-map}
 use Rattle.cache_ident.specs.Rolls.{standing_in}
 use Rattle.cache_ident.specs.declared.idents.Standing.TheVariants.{Live}
 use Rattle.run_journal.specs.declared.entries.Entry.TheVariants.{WrittenBack}
-use Rattle.desc_groups.specs.declared.departures.Gone.{Gone}
-use Rattle.desc_tables.specs.Tables.{Held}
-use Rattle.desc_groups.proofs.PlaceLemmas.{there_are_places}
-use Rattle.board_laws.specs.Moves.{written_back, IsUnload}
+use Rattle.cached_machine.specs.desc_groups.specs.declared.departures.Gone.{Gone}
+use Rattle.cached_machine.specs.desc_tables.specs.Tables.{Held}
+use Rattle.cached_machine.specs.desc_groups.proofs.PlaceLemmas.{there_are_places}
+use Rattle.cached_machine.specs.board_laws.specs.Moves.{written_back, IsUnload}
 use Rattle.cached_machine.specs.Cached.{Cached}
 use Rattle.board_core.specs.Core.{contents_of, Recorded}
 use Rattle.board_core.specs.Growth.{count_loaded, MayWrite}

@@ -3,9 +3,9 @@ use Rattle.std.proofs.Common.{◌≡◌, Bool, true, false, [], ◌∷◌, refl,
 use Rattle.cache_ident.specs.Rolls.{standing_in}
 use Rattle.cache_ident.specs.declared.idents.Standing.TheVariants.{Live}
 use Rattle.run_journal.specs.declared.entries.Entry.TheVariants.{Unlocked}
-use Rattle.desc_stores.specs.Contents.{LockIs}
-use Rattle.desc_tables.specs.Tables.{Held}
-use Rattle.board_laws.specs.Moves.{IsLock}
+use Rattle.cached_machine.specs.desc_stores.specs.Contents.{LockIs}
+use Rattle.cached_machine.specs.desc_tables.specs.Tables.{Held}
+use Rattle.cached_machine.specs.board_laws.specs.Moves.{IsLock}
 use Rattle.cached_machine.specs.Cached.{Cached}
 use Rattle.board_core.specs.Core.{contents_of, Recorded}
 use Rattle.board_core.specs.Growth.{MayWrite}

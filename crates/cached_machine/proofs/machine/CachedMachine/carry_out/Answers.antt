@@ -5,7 +5,7 @@ use Rattle.flat_state.specs.Call.{is_completable}
 use Rattle.flat_state.specs.State.{with_thread}
 use Rattle.flat_rules.specs.Readings.{OfThread}
 use Rattle.flat_thread.specs.Calls.{own_part}
-use Rattle.shown_state.specs.Shown.{flat_thread}
+use Rattle.board_laws.specs.shown_state.specs.Shown.{flat_thread}
 use Rattle.cached_machine.specs.Cached.{state_of, Cached}
 use Rattle.cached_machine.specs.Moved.{KeepsBeside, KeepsPost, OnlyRoom}
 use Rattle.cached_machine.proofs.CompleteLaws.{carried_beside, carried_err, carried_ok, carried_sound, stood}

@@ -1,8 +1,8 @@
 use Rattle.std.proofs.Common.{◌≡◌, Some, ◌<◌, length, slice_get, sym, ap, subst, ◌∙◌}
 use Rattle.std.proofs.lemmas.List.{length-map}
 use Rattle.flat_state.specs.State.{with_thread}
-use Rattle.shown_state.specs.Shown.{flat_thread}
-use Rattle.desc_tables.specs.Tables.{Held}
+use Rattle.board_laws.specs.shown_state.specs.Shown.{flat_thread}
+use Rattle.board_laws.specs.desc_tables.specs.Tables.{Held}
 use Rattle.cached_machine.specs.Aside.{aside_of}
 use Rattle.cached_machine.specs.Cached.{state_of, Cached}
 use Rattle.cached_machine.specs.Stepping.{shows_left_by}

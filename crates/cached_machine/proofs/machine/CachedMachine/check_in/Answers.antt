@@ -1,6 +1,6 @@
 use Rattle.std.proofs.Common.{None, IsSome, sym, ap, subst, ◌∙◌}
 use Rattle.cache_ident.specs.declared.names.Name.TheVariants as name
-use Rattle.desc_stores.specs.Contents.{content_of}
+use Rattle.board_laws.specs.desc_stores.specs.Contents.{content_of}
 use Rattle.cached_machine.specs.declared.posts.Post.TheVariants.{In}
 use Rattle.cached_machine.specs.Cached.{Cached}
 use Rattle.cached_machine.specs.Posts.{but_at, last_of, mark_of, OnlyPosts}

@@ -1,8 +1,8 @@
 use Rattle.std.proofs.Common.{IsSome, refl, subst}
 use Rattle.cache_ident.specs.declared.names.Name.{Name}
-use Rattle.desc_stores.specs.Contents.{content_of}
-use Rattle.desc_stores.specs.Sound.{IsExactlyOne}
-use Rattle.store_residents.proofs.ContentLemmas.{resident_content}
+use Rattle.board_laws.specs.desc_stores.specs.Contents.{content_of}
+use Rattle.board_laws.specs.desc_stores.specs.Sound.{IsExactlyOne}
+use Rattle.board_laws.specs.store_residents.proofs.ContentLemmas.{resident_content}
 use Rattle.cached_machine.specs.Cached.{Cached}
 use Rattle.cached_machine.proofs.CheckLaws.{nobody_there, one_came_away}
 use Rattle.cached_machine.proofs.machine.CachedMachine.check_in_at.Goals as goal

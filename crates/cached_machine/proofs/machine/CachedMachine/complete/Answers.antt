@@ -8,7 +8,7 @@ use Rattle.flat_state.specs.Declaration.{declared}
 use Rattle.flat_state.specs.State.{FlatState, with_thread}
 use Rattle.phys_groups.specs.Translation.{without}
 use Rattle.run_journal.specs.Legal.{AreGood}
-use Rattle.desc_stores.specs.Contents.{residents_of}
+use Rattle.board_laws.specs.desc_stores.specs.Contents.{residents_of}
 use Rattle.cached_machine.specs.Cached.{state_of}
 use Rattle.cached_machine.proofs.CompleteLaws.{beside_aside, found_at, row_gone, thread_stays}
 use Rattle.cached_machine.proofs.GoodLaws.{good_unanswered, not_good}

@@ -1,8 +1,8 @@
 use Rattle.std.proofs.Common.{refl, ap, sym, subst, arith}
 use Rattle.flat_state.specs.declared.events.Decl.TheVariants as decls
 use Rattle.flat_state.specs.Declaration.{new_row}
-use Rattle.desc_stores.specs.declared.items.Item.TheVariants as item
-use Rattle.desc_tables.specs.Tables.{Held}
+use Rattle.board_laws.specs.desc_stores.specs.declared.items.Item.TheVariants as item
+use Rattle.board_laws.specs.desc_tables.specs.Tables.{Held}
 use Rattle.cached_machine.specs.Cached.{Cached}
 use Rattle.cached_machine.specs.Moved.{IsMade, MayBeMade, OnlyRoom}
 use Rattle.cached_machine.specs.contracts.machine.CachedMachine.{the_view}

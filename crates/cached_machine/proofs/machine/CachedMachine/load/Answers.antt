@@ -1,10 +1,10 @@
 use Rattle.std.proofs.Common.{◌+◌, ◌<◌, ◌≤◌, Some, sym, ap, subst, ◌∙◌}
 use Rattle.cache_ident.specs.declared.names.Caps.{Caps}
 use Rattle.cache_ident.specs.Names.{amount_of, kind_of}
-use Rattle.desc_stores.specs.Changes.{room_of}
-use Rattle.desc_groups.specs.Moves.{idents_of}
-use Rattle.desc_admits.specs.May.{MayBeLoaded}
-use Rattle.desc_tables.specs.Calls.{HasPlacesFor}
+use Rattle.board_laws.specs.desc_stores.specs.Changes.{room_of}
+use Rattle.board_laws.specs.desc_groups.specs.Moves.{idents_of}
+use Rattle.board_laws.specs.desc_admits.specs.May.{MayBeLoaded}
+use Rattle.board_laws.specs.desc_tables.specs.Calls.{HasPlacesFor}
 use Rattle.board_laws.specs.Moves.{IsLoad}
 use Rattle.cached_machine.specs.declared.posts.Post.TheVariants.{In}
 use Rattle.cached_machine.specs.Cached.{Cached}

@@ -2,7 +2,7 @@ use Rattle.std.proofs.Common.{ℕ, ◌+◌, ◌*◌, List, refl, sym, subst, ari
 use Rattle.phys_groups.specs.Memory.{word_bytes, written}
 use Rattle.flat_state.specs.declared.events.Decl.TheVariants as decls
 use Rattle.flat_machine.proofs.DeclareSound.{word_rules}
-use Rattle.shown_state.specs.Shown.{shown}
+use Rattle.board_laws.specs.shown_state.specs.Shown.{shown}
 use Rattle.cached_machine.specs.Cached.{state_of, Cached, IsSound}
 use Rattle.cached_machine.specs.Moved.{IsMade, MayBeMade}
 use Rattle.cached_machine.specs.contracts.machine.CachedMachine.{the_view}

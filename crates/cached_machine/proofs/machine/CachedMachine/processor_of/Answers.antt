@@ -1,7 +1,7 @@
 use Rattle.std.proofs.Common.{None, Bool, sym, ap, ◌∙◌}
 use Rattle.std.specs.Prelude.{if◌then◌else◌}
 use Rattle.cache_ident.specs.declared.names.Name.TheVariants as name
-use Rattle.desc_stores.specs.Contents.{content_of, residents_of}
+use Rattle.board_laws.specs.desc_stores.specs.Contents.{content_of, residents_of}
 use Rattle.cached_machine.specs.Cached.{Cached}
 use Rattle.cached_machine.specs.Posts.{mark_in, mark_of}
 use Rattle.cached_machine.proofs.LoadedLaws.{not_loaded}

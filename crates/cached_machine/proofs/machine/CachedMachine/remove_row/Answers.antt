@@ -3,8 +3,8 @@ use Rattle.std.specs.Prelude.{is_some}
 use Rattle.cache_ident.specs.declared.names.Name.TheVariants as name
 use Rattle.cache_ident.specs.Residents.{IsNameResident}
 use Rattle.phys_groups.specs.Translation.{row_of, without}
-use Rattle.desc_stores.specs.Contents.{residents_of}
-use Rattle.store_residents.proofs.ContentLemmas.{shelved_iff}
+use Rattle.board_laws.specs.desc_stores.specs.Contents.{residents_of}
+use Rattle.board_laws.specs.store_residents.proofs.ContentLemmas.{shelved_iff}
 use Rattle.cached_machine.specs.Cached.{state_of, Cached}
 use Rattle.cached_machine.proofs.AdmitLaws.{row_there}
 use Rattle.cached_machine.proofs.CompleteLaws.{row_went, row_went_sound}

@@ -1,8 +1,8 @@
 use Rattle.std.proofs.Common.{ℕ, ◌+◌, ◌≤◌, ◌^◌, length, subst}
 use Rattle.cache_ident.specs.declared.idents.Ident.{Ident}
 use Rattle.depend_lists.specs.Pairs.{count_of}
-use Rattle.desc_groups.specs.Moves.{HasPlaces}
-use Rattle.desc_stores.specs.Contents.{residents_of}
+use Rattle.board_laws.specs.desc_groups.specs.Moves.{HasPlaces}
+use Rattle.board_laws.specs.desc_stores.specs.Contents.{residents_of}
 use Rattle.cached_machine.specs.Cached.{Cached}
 use Rattle.cached_machine.proofs.RoomLaws.{few_loaded}
 use Rattle.cached_machine.proofs.machine.CachedMachine.room.Goals as goal

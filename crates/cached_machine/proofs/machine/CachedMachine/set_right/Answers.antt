@@ -1,8 +1,8 @@
 use Rattle.std.proofs.Common.{Some, refl, ap, sym, subst}
 use Rattle.flat_state.specs.declared.events.Decl.TheVariants as decls
 use Rattle.flat_machine.proofs.DeclareSound.{right_rules}
-use Rattle.desc_stores.specs.Contents.{residents_of}
-use Rattle.desc_tables.specs.Tables.{Held}
+use Rattle.board_laws.specs.desc_stores.specs.Contents.{residents_of}
+use Rattle.board_laws.specs.desc_tables.specs.Tables.{Held}
 use Rattle.cached_machine.specs.Cached.{state_of, Cached}
 use Rattle.cached_machine.specs.Moved.{IsMade, MayBeMade}
 use Rattle.cached_machine.specs.contracts.machine.CachedMachine.{the_view}

@@ -2,7 +2,7 @@ use Rattle.std.proofs.Common.{◌≡◌, Some, slice_get, sym, ap, subst, ◌∙
 use Rattle.cache_ident.specs.declared.idents.Ident.{Ident}
 use Rattle.cache_ident.specs.declared.names.Name.TheVariants as name
 use Rattle.cache_ident.specs.Residents.{IsResident, Resident}
-use Rattle.desc_stores.specs.Contents.{residents_of}
+use Rattle.board_laws.specs.desc_stores.specs.Contents.{residents_of}
 use Rattle.std.proofs.lemmas.Option.{get_or_from_slice_get}
 use Rattle.cached_machine.specs.Cached.{Cached}
 use Rattle.cached_machine.proofs.LoadedLaws.{one_slot}

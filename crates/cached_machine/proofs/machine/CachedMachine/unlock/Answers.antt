@@ -1,8 +1,8 @@
 use Rattle.std.proofs.Common.{◌≡◌, false, Some, sym, ap, subst, ◌∙◌}
 use Rattle.cache_ident.specs.declared.idents.Standing.TheVariants.{Live}
 use Rattle.cache_ident.specs.Rolls.{standing_in}
-use Rattle.desc_stores.specs.Changes.{room_of}
-use Rattle.desc_tables.specs.Tables.{Held}
+use Rattle.board_laws.specs.desc_stores.specs.Changes.{room_of}
+use Rattle.board_laws.specs.desc_tables.specs.Tables.{Held}
 use Rattle.board_laws.specs.Moves.{IsLock}
 use Rattle.cached_machine.specs.Cached.{state_of, Cached}
 use Rattle.cached_machine.specs.Posts.{HasSameMarks}

@@ -1,7 +1,7 @@
 use Rattle.std.proofs.Common.{ap, sym, ◌∙◌}
-use Rattle.desc_stores.specs.Contents.{item_as}
-use Rattle.shown_state.specs.Shown.{shown}
-use Rattle.shown_state.specs.Edits.{with_changed}
+use Rattle.desc_admits.specs.desc_stores.specs.Contents.{item_as}
+use Rattle.desc_admits.specs.shown_state.specs.Shown.{shown}
+use Rattle.desc_admits.specs.shown_state.specs.Edits.{with_changed}
 use Rattle.desc_tables.specs.Calls.{IsLike}
 use Rattle.desc_tables.specs.Tables.{Held}
 use Rattle.desc_tables.proofs.ChangeLemmas.{like_agrees, shown_changed, sound_changed}

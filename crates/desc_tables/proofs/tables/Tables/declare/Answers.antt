@@ -1,7 +1,7 @@
 use Rattle.std.proofs.Common.{ap, sym, ◌∙◌, subst}
 use Rattle.cache_ident.specs.declared.names.Caps.{Caps}
 use Rattle.flat_state.specs.State.{FlatState}
-use Rattle.shown_state.specs.Edits.{with_new}
+use Rattle.desc_admits.specs.shown_state.specs.Edits.{with_new}
 use Rattle.desc_admits.specs.May.{MayBeDeclared}
 use Rattle.desc_tables.specs.Tables.{Held}
 use Rattle.desc_tables.proofs.RoomLemmas.{may_still, onward_from_room, residents_room, shows_room}

@@ -2,13 +2,13 @@
 use Rattle.std.proofs.Common.{ap, subst, sym, ◌∙◌, arith}
 use Rattle.cache_ident.specs.Names.{kind_of}
 use Rattle.depend_lists.specs.Pairs.{count_of}
-use Rattle.desc_stores.specs.Contents.{residents_of, IsFullOf, IsVictimOf, NoneMayGoOf}
+use Rattle.desc_admits.specs.desc_stores.specs.Contents.{residents_of, IsFullOf, IsVictimOf, NoneMayGoOf}
 use Rattle.run_journal.specs.Groups.{IsGroup}
-use Rattle.store_residents.specs.Victims.{IsOldest}
-use Rattle.store_residents.proofs.ResidentLemmas.{live_iff}
-use Rattle.store_residents.proofs.VictimLemmas.{victim_resident}
-use Rattle.desc_parents.specs.Seen.{seen}
-use Rattle.desc_groups.specs.Moves.{idents_of, HasPlaces}
+use Rattle.desc_admits.specs.store_residents.specs.Victims.{IsOldest}
+use Rattle.desc_admits.specs.store_residents.proofs.ResidentLemmas.{live_iff}
+use Rattle.desc_admits.specs.store_residents.proofs.VictimLemmas.{victim_resident}
+use Rattle.desc_admits.specs.desc_parents.specs.Seen.{seen}
+use Rattle.desc_admits.specs.desc_groups.specs.Moves.{idents_of, HasPlaces}
 use Rattle.desc_admits.specs.May.{MayBeLoaded}
 use Rattle.desc_tables.specs.Calls.{HasPlacesFor}
 use Rattle.desc_tables.specs.Tables.{Held}

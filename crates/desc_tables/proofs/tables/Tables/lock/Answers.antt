@@ -2,7 +2,7 @@
 use Rattle.std.proofs.Common.{◌≡◌, refl, subst, sym}
 use Rattle.cache_ident.specs.Rolls.{standing_in}
 use Rattle.cache_ident.specs.declared.idents.Standing.TheVariants.{Live}
-use Rattle.desc_groups.specs.Moves.{MayBeLocked}
+use Rattle.desc_admits.specs.desc_groups.specs.Moves.{MayBeLocked}
 use Rattle.desc_tables.specs.Tables.{Held}
 use Rattle.desc_tables.proofs.Limits.{locked_sound}
 use Rattle.desc_tables.proofs.tables.Tables.lock.Goals as goal

@@ -1,7 +1,7 @@
 -- A slot that is free needs no victim.
 use Rattle.std.proofs.Common.{subst, sym}
 use Rattle.cache_ident.specs.Names.{kind_of}
-use Rattle.desc_stores.specs.Contents.{IsLowestFreeOf}
+use Rattle.desc_admits.specs.desc_stores.specs.Contents.{IsLowestFreeOf}
 use Rattle.desc_admits.specs.May.{MayBeLoaded}
 use Rattle.desc_tables.specs.Tables.{Held}
 use Rattle.desc_tables.proofs.Victims.{not_full, ready_now}

@@ -1,5 +1,5 @@
 use Rattle.std.proofs.Common.{vec_capacity, ap, sym}
-use Rattle.resident_pairs.specs.Among.{Among}
+use Rattle.desc_admits.specs.resident_pairs.specs.Among.{Among}
 use Rattle.desc_tables.proofs.NewLemmas.{sound_new}
 use Rattle.desc_tables.proofs.tables.Tables.new.Goals as goal
 

@@ -1,7 +1,7 @@
 use Rattle.std.proofs.Common.{ap, sym, ◌∙◌, subst}
-use Rattle.shown_state.specs.Edits.{with_new}
-use Rattle.shown_state.specs.Shown.{shown}
-use Rattle.shown_state.proofs.DeclareLemmas.{declaration_shown}
+use Rattle.desc_admits.specs.shown_state.specs.Edits.{with_new}
+use Rattle.desc_admits.specs.shown_state.specs.Shown.{shown}
+use Rattle.desc_admits.specs.shown_state.proofs.DeclareLemmas.{declaration_shown}
 use Rattle.desc_admits.specs.May.{MayBeDeclared}
 use Rattle.desc_tables.specs.Tables.{Held}
 use Rattle.desc_tables.proofs.PutLemmas.{sound_declared}

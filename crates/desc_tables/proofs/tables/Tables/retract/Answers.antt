@@ -1,7 +1,7 @@
 use Rattle.std.proofs.Common.{ap, sym, ◌∙◌, subst}
 use Rattle.flat_state.specs.Dependence.{owner}
-use Rattle.desc_stores.specs.Contents.{content_of, IsShelved}
-use Rattle.desc_parents.specs.Seen.{seen}
+use Rattle.desc_admits.specs.desc_stores.specs.Contents.{content_of, IsShelved}
+use Rattle.desc_admits.specs.desc_parents.specs.Seen.{seen}
 use Rattle.desc_tables.specs.Tables.{Held}
 use Rattle.desc_tables.proofs.RetractLemmas.{shelved_row, sound_retracted}
 use Rattle.desc_tables.proofs.tables.Tables.retract.Goals as goal

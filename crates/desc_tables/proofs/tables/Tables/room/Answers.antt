@@ -1,8 +1,8 @@
 use Rattle.std.proofs.Common.{ℕ, ◌+◌, ◌≤◌, ◌^◌, subst, arith}
 use Rattle.cache_ident.specs.declared.idents.Ident.{Ident}
 use Rattle.depend_lists.specs.Pairs.{count_of}
-use Rattle.desc_groups.specs.Moves.{HasPlaces}
-use Rattle.desc_groups.proofs.PlaceLemmas.{there_are_places}
+use Rattle.desc_admits.specs.desc_groups.specs.Moves.{HasPlaces}
+use Rattle.desc_admits.specs.desc_groups.proofs.PlaceLemmas.{there_are_places}
 use Rattle.desc_tables.specs.Tables.{Held}
 use Rattle.desc_tables.proofs.Limits.{few_residents}
 use Rattle.desc_tables.proofs.tables.Tables.room.Goals as goal

@@ -1,4 +1,4 @@
-use Rattle.store_residents.proofs.FrameLemmas.{rows_on_frame}
+use Rattle.desc_admits.specs.store_residents.proofs.FrameLemmas.{rows_on_frame}
 use Rattle.desc_tables.proofs.tables.Tables.rows_of_frame.Goals as goal
 
 pub returns-clause-rows : goal.returns-clause-rows

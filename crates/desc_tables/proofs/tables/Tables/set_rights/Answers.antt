@@ -2,9 +2,9 @@ use Rattle.std.proofs.Common.{Bool, IsSome, ap, sym, ◌∙◌, subst}
 use Rattle.cache_ident.specs.declared.names.Name.TheVariants as name
 use Rattle.flat_state.specs.Dependence.{owner}
 use Rattle.run_journal.specs.Legal.{AreGood}
-use Rattle.desc_stores.specs.Contents.{content_of, residents_of}
-use Rattle.shown_state.specs.Shown.{shown}
-use Rattle.desc_parents.specs.Seen.{seen}
+use Rattle.desc_admits.specs.desc_stores.specs.Contents.{content_of, residents_of}
+use Rattle.desc_admits.specs.shown_state.specs.Shown.{shown}
+use Rattle.desc_admits.specs.desc_parents.specs.Seen.{seen}
 use Rattle.desc_tables.specs.Calls.{with_rights}
 use Rattle.desc_tables.specs.Tables.{Held}
 use Rattle.desc_tables.proofs.RightsLemmas.{kernel_there, shown_granted, sound_granted}

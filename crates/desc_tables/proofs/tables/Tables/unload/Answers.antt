@@ -1,7 +1,7 @@
 -- What leaves is among what is resident, for which there is room, and leaves no kernel more locks than it had.
 use Rattle.std.proofs.Common.{ap, subst, sym, ◌∙◌, arith}
 use Rattle.depend_lists.specs.Pairs.{count_of}
-use Rattle.desc_groups.specs.Moves.{idents_of, HasPlaces}
+use Rattle.desc_admits.specs.desc_groups.specs.Moves.{idents_of, HasPlaces}
 use Rattle.desc_tables.specs.Tables.{Held}
 use Rattle.desc_tables.proofs.Limits.{few_residents, left_sound}
 use Rattle.desc_tables.proofs.tables.Tables.unload.Goals as goal

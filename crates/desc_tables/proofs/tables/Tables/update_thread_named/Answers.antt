@@ -1,10 +1,10 @@
 -- What stands in the place of the content of the name is like it, so that all holds that held.
 use Rattle.std.proofs.Common.{ap, sym, ◌∙◌}
 use Rattle.flat_state.specs.Dependence.{owner}
-use Rattle.desc_stores.specs.declared.items.Item.TheVariants as item
-use Rattle.desc_stores.specs.Changes.{room_of}
-use Rattle.desc_stores.specs.Contents.{content_of, Contents}
-use Rattle.desc_parents.specs.Seen.{seen}
+use Rattle.desc_admits.specs.desc_stores.specs.declared.items.Item.TheVariants as item
+use Rattle.desc_admits.specs.desc_stores.specs.Changes.{room_of}
+use Rattle.desc_admits.specs.desc_stores.specs.Contents.{content_of, Contents}
+use Rattle.desc_admits.specs.desc_parents.specs.Seen.{seen}
 use Rattle.desc_tables.specs.Tables.{Held}
 use Rattle.desc_tables.proofs.ChangeLemmas.{called_named, like_agrees, shown_named, sound_named}
 use Rattle.desc_tables.proofs.tables.Tables.update_thread_named.Goals as goal

@@ -5,9 +5,9 @@ use Rattle.flat_state.specs.State.{FlatState}
 use Rattle.run_journal.specs.declared.entries.Entry.TheVariants.{Completed}
 use Rattle.run_journal.specs.Told.{told_after}
 use Rattle.run_journal.specs.Legal.{MayComplete, AreGood}
-use Rattle.journal_rules.specs.Framed.{AreFramedBy}
-use Rattle.journal_rules.specs.Running.{LeavesGood}
-use Rattle.journal_tables.proofs.Staying.{of_completed}
+use Rattle.journal_groups.specs.journal_rules.specs.Framed.{AreFramedBy}
+use Rattle.journal_groups.specs.journal_rules.specs.Running.{LeavesGood}
+use Rattle.journal_groups.specs.journal_tables.proofs.Staying.{of_completed}
 use Rattle.journal_facts.specs.Facts.{AreFactsOf}
 use Rattle.journal_facts.proofs.Standing.{late, match_map, stand_more}
 use Rattle.journal_facts.proofs.facts.Facts.take_call.Goals as goal

@@ -2,7 +2,7 @@ use Rattle.std.proofs.Common.{[], ◌∷◌, refl, sym}
 use Rattle.flat_state.specs.declared.events.Event.TheVariants.{Declare}
 use Rattle.run_journal.specs.declared.entries.Entry.TheVariants.{Declared}
 use Rattle.run_journal.specs.Told.{told_after}
-use Rattle.journal_tables.proofs.Staying.{of_declared}
+use Rattle.journal_groups.specs.journal_tables.proofs.Staying.{of_declared}
 use Rattle.journal_facts.proofs.Standing.{stand_more}
 use Rattle.journal_facts.proofs.facts.Facts.take_declaration.Goals as goal
 

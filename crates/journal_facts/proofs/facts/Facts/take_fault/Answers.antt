@@ -5,7 +5,7 @@ use Rattle.flat_state.specs.State.{FlatState}
 use Rattle.run_journal.specs.declared.entries.Entry.TheVariants.{Ended}
 use Rattle.run_journal.specs.Told.{told_after}
 use Rattle.run_journal.specs.Legal.{MayEnd, MayStep}
-use Rattle.journal_tables.proofs.Staying.{of_ended}
+use Rattle.journal_groups.specs.journal_tables.proofs.Staying.{of_ended}
 use Rattle.journal_facts.proofs.Standing.{late, stand_more}
 use Rattle.journal_facts.proofs.facts.Facts.take_fault.Goals as goal
 

@@ -2,7 +2,7 @@ use Rattle.std.proofs.Common.{[], refl, sym}
 use Rattle.std.proofs.lemmas.Bool.{false≢true}
 use Rattle.run_journal.specs.declared.entries.Entry.TheVariants.{Sealed}
 use Rattle.run_journal.specs.Told.{told_after}
-use Rattle.journal_tables.proofs.Staying.{of_sealed}
+use Rattle.journal_groups.specs.journal_tables.proofs.Staying.{of_sealed}
 use Rattle.journal_facts.proofs.Standing.{stand_more}
 use Rattle.journal_facts.proofs.facts.Facts.take_seal.Goals as goal
 

@@ -5,8 +5,8 @@ use Rattle.flat_state.specs.State.{FlatState}
 use Rattle.run_journal.specs.declared.entries.Entry.TheVariants.{Ran}
 use Rattle.run_journal.specs.Told.{told_after}
 use Rattle.run_journal.specs.Legal.{MayRun}
-use Rattle.journal_rules.specs.Running.{MayStepOn}
-use Rattle.journal_tables.proofs.Staying.{of_ran}
+use Rattle.journal_groups.specs.journal_rules.specs.Running.{MayStepOn}
+use Rattle.journal_groups.specs.journal_tables.proofs.Staying.{of_ran}
 use Rattle.journal_facts.specs.Facts.{AreFactsOf}
 use Rattle.journal_facts.proofs.Standing.{late, match_map, stand_more}
 use Rattle.journal_facts.proofs.facts.Facts.take_steps.Goals as goal

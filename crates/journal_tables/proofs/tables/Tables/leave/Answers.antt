@@ -5,7 +5,7 @@ use Rattle.flat_state.specs.State.{FlatState}
 use Rattle.flat_state.specs.Dependence.{owner, parents}
 use Rattle.residents.specs.Framed.{IsFramed}
 use Rattle.residents.specs.Pairs.{IsPair}
-use Rattle.journal_laws.specs.Touching.{frame_of}
+use Rattle.journal_rules.specs.journal_laws.specs.Touching.{frame_of}
 use Rattle.journal_tables.specs.Locks.{RecountsIf}
 use Rattle.journal_tables.proofs.TableLemmas.{of_left}
 use Rattle.journal_tables.proofs.tables.Tables.leave.Goals as goal
