@@ -1,6 +1,6 @@
 pub mod ListLemmas
-mod RankLemmas
+pub mod RankLemmas
 pub mod ChainLemmas
-mod LoadLemmas
-mod RowLemmas
+pub mod LoadLemmas
+pub mod RowLemmas
 pub mod WholeLemmas

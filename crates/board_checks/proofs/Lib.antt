@@ -1,7 +1,7 @@
-mod FirstLemmas
-mod IdentifierLemmas
-mod OwnerLemmas
-mod FitLemmas
-mod LoadLemmas
-mod HoldLemmas
-mod KeepLemmas
+pub mod FirstLemmas
+pub mod IdentifierLemmas
+pub mod OwnerLemmas
+pub mod FitLemmas
+pub mod LoadLemmas
+pub mod HoldLemmas
+pub mod KeepLemmas

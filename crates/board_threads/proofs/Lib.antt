@@ -1,8 +1,8 @@
-mod TestLemmas
-mod SettleLemmas
+pub mod TestLemmas
+pub mod SettleLemmas
 pub mod IdentLemmas
 pub mod FaultLemmas
-mod CandidateLemmas
+pub mod CandidateLemmas
 pub mod PostLemmas
 pub mod RoomLemmas
 pub mod NeverLemmas

@@ -6,8 +6,8 @@ pub mod MoveLaws
 pub mod RoomLaws
 pub mod AsideLaws
 pub mod StepLaws
-mod NewLaws
-mod ReadLaws
+pub mod NewLaws
+pub mod ReadLaws
 pub mod GoodLaws
 pub mod AdmitLaws
 pub mod MadeLaws

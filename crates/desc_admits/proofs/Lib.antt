@@ -1,3 +1,3 @@
-mod KindLemmas
-mod AdmitLemmas
-mod RecordLemmas
+pub mod KindLemmas
+pub mod AdmitLemmas
+pub mod RecordLemmas

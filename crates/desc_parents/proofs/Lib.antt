@@ -2,4 +2,4 @@ pub mod IdentLemmas
 pub mod FitLemmas
 pub mod RowLemmas
 pub mod ParentLemmas
-mod PlainLemmas
+pub mod PlainLemmas

@@ -1,19 +1,19 @@
-mod Counts
-mod Granted
-mod Limits
-mod LoadedLemmas
-mod Owners
-mod Remaining
-mod Victims
-mod SoundLemmas
-mod RoomLemmas
-mod NewLemmas
-mod ListLemmas
-mod LikeLemmas
-mod NamedLemmas
-mod ChangeLemmas
-mod RightsLemmas
-mod RetractLemmas
-mod DeclareLemmas
-mod PutLemmas
-mod ReadLemmas
+pub mod Counts
+pub mod Granted
+pub mod Limits
+pub mod LoadedLemmas
+pub mod Owners
+pub mod Remaining
+pub mod Victims
+pub mod SoundLemmas
+pub mod RoomLemmas
+pub mod NewLemmas
+pub mod ListLemmas
+pub mod LikeLemmas
+pub mod NamedLemmas
+pub mod ChangeLemmas
+pub mod RightsLemmas
+pub mod RetractLemmas
+pub mod DeclareLemmas
+pub mod PutLemmas
+pub mod ReadLemmas

@@ -1,4 +1,4 @@
-mod CallEnds
-mod CallParts
-mod RunLaws
-mod SendLaws
+pub mod CallEnds
+pub mod CallParts
+pub mod RunLaws
+pub mod SendLaws
