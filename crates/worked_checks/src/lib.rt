@@ -2,10 +2,10 @@
 //! is proved twice, from nothing both times.
 #![tactic(auto)]
 
+pub mod formed;
 #[cfg(test)]
 mod keep_tests;
 #[cfg(test)]
 mod refusal_tests;
 #[cfg(test)]
 mod tables;
-pub mod threads;

@@ -3,7 +3,6 @@
 ghost use Rattle.std.specs.Prelude.{◌≡◌};
 
 use crate::tables::*;
-use crate::threads::thread;
 use board_checks::board_ops::Refused;
 use board_checks::desc_tables::{Item, Tables};
 use board_checks::{
@@ -98,11 +97,11 @@ fn declare_all(rt: &impl Abort, tables: &mut Tables, alloc: Global) -> Result<()
     requires { tables.old.caps ≡ CAPS }
     ensures { tables.new.caps ≡ CAPS }
 {
-    declare(rt, tables, kernel(1, Caps::default()))?;
-    declare(rt, tables, kernel(2, Caps::default()))?;
-    declare(rt, tables, space(0, 0))?;
-    declare(rt, tables, space(1, 1))?;
-    declare(rt, tables, space(2, 0))?;
+    put(rt, tables, kernel(1, Caps::default()))?;
+    put(rt, tables, kernel(2, Caps::default()))?;
+    put(rt, tables, space(0, 0))?;
+    put(rt, tables, space(1, 1))?;
+    put(rt, tables, space(2, 0))?;
     declare_threads(rt, tables, alloc)?;
     declare_rows(rt, tables)
 }
@@ -113,7 +112,7 @@ fn declare_threads(rt: &impl Abort, tables: &mut Tables, alloc: Global) -> Resul
     ensures { tables.new.caps ≡ CAPS }
 {
     for no in 0..4u32 {
-        declare(rt, tables, thread(alloc, no))?;
+        put(rt, tables, thread(alloc, no, 0))?;
     }
     Ok(())
 }
@@ -124,13 +123,13 @@ fn declare_rows(rt: &impl Abort, tables: &mut Tables) -> Result<(), NoMemory>
     requires { tables.old.caps ≡ CAPS }
     ensures { tables.new.caps ≡ CAPS }
 {
-    declare(rt, tables, Item::Mapping(row(0, 0, 0, None)))?;
-    declare(rt, tables, Item::Mapping(row(0, 1, 1, None)))?;
-    declare(rt, tables, Item::Mapping(row(0, 2, 3, None)))?;
-    declare(rt, tables, Item::Mapping(row(0, 8, 200, None)))?;
-    declare(rt, tables, Item::Mapping(message_row(0, 16, 2)))?;
-    declare(rt, tables, Item::Mapping(row(0, 32, 2, Some(0))))?;
-    declare(rt, tables, Item::Mapping(row(1, 0, 0, None)))
+    put(rt, tables, Item::Mapping(row(0, 0, 0, None)))?;
+    put(rt, tables, Item::Mapping(row(0, 1, 1, None)))?;
+    put(rt, tables, Item::Mapping(row(0, 2, 3, None)))?;
+    put(rt, tables, Item::Mapping(row(0, 8, 200, None)))?;
+    put(rt, tables, Item::Mapping(message_row(0, 16, 2)))?;
+    put(rt, tables, Item::Mapping(row(0, 32, 2, Some(0))))?;
+    put(rt, tables, Item::Mapping(row(1, 0, 0, None)))
 }
 
 fn load_all(rt: &impl Abort, tables: &mut Tables)
@@ -150,7 +149,7 @@ fn load_all(rt: &impl Abort, tables: &mut Tables)
         (row_name(0, 1), of_first.as_slice(), ROW),
         (row_name(0, 2), of_first.as_slice(), GONE),
     ] {
-        let loaded = load(rt, tables, name, keep, 0);
+        let loaded = bring(rt, tables, name, keep, 0);
         assert!(rt; loaded == ident);
     }
 }
@@ -176,9 +175,9 @@ fn prepare(rt: &impl Abort, tables: &mut Tables, alloc: Global) -> Result<(), No
     load_all(rt, tables);
     trap(rt, tables, 1, 1);
     trap(rt, tables, 2, 3);
-    lock(rt, tables, FIRST);
-    lock(rt, tables, LOCKED);
-    unload(rt, tables, GONE, 30);
+    assert!(rt; lock(tables, FIRST));
+    assert!(rt; lock(tables, LOCKED));
+    assert!(rt; unload(tables, GONE, 30));
     Ok(())
 }
 
@@ -513,8 +512,8 @@ fn ask(rt: &impl Abort, tables: &mut Tables, alloc: Global) -> Result<(), NoMemo
 fn ask_again(rt: &impl Abort, tables: &mut Tables)
     requires { tables.old.caps ≡ CAPS }
 {
-    unlock(rt, tables, LOCKED);
-    let _signal = load(rt, tables, row_name(0, 32), &[FIRST, SPACE, READY], 31);
+    assert!(rt; unlock(tables, LOCKED));
+    let _signal = bring(rt, tables, row_name(0, 32), &[FIRST, SPACE, READY], 31);
     let calls = [
         (Call::Lock(FIRST, ROW), Ok(row_name(0, 1))),
         (Call::LoadRow(FIRST, SPACE, 16, None), Ok(row_name(0, 16))),
@@ -525,7 +524,7 @@ fn ask_again(rt: &impl Abort, tables: &mut Tables)
 #[test]
 fn each_refusal_comes_by_a_call(rt: HostRuntime) -> Result<(), Fail> {
     let alloc = rt.alloc();
-    let mut tables = with_first_kernel(&rt, alloc)?;
+    let mut tables = with_first_kernel(alloc)?;
     let done = ask(&rt, &mut tables, alloc);
     mem::forget(tables);
     Ok(done?)

@@ -1,22 +1,16 @@
 //! A kernel with a space, a thread in it that puts a byte out, and others that fault. There is room for five threads.
 
-use cache_ident::{Caps, Cause, Frame, Ident, KernelNo, Kind, Name, SpaceNo, ThreadNo, Vpn};
-use flat_state::{Decl, Machine};
+use crate::decls::*;
+use cache_ident::{Cause, Ident, Kind, Name, NoMemory, ThreadNo, Vpn};
+use flat_state::Decl;
 use journal_facts::*;
-use phys_groups::Flags;
 use run_journal::Entry;
 use std::alloc::Global;
+use std::mem;
+use std::process::Abort;
 use std::test::Fail;
 
-const KERNEL: KernelNo = KernelNo(0);
-
-const SPACE: SpaceNo = SpaceNo(0);
-
 const CODE_ROW: Name = Name::Mapping(SPACE, Vpn(0));
-
-fn ident(kind: Kind, slot: u32, serial: u64) -> Ident {
-    Ident { kind, slot, serial }
-}
 
 fn thread_ident(slot: u32, serial: u64) -> Ident {
     ident(Kind::Thread, slot, serial)
@@ -30,60 +24,12 @@ fn row_ident() -> Ident {
     ident(Kind::Mapping, 0, 7)
 }
 
-fn caps(kernels: u32, spaces: u32, threads: u32, mappings: u32) -> Caps {
-    Caps {
-        kernels,
-        spaces,
-        threads,
-        mappings,
-    }
+fn machine_of_six() -> Decl {
+    machine(caps(6, 6, 5, 6))
 }
 
-fn machine() -> Decl {
-    let (groups, caps) = (1, caps(6, 6, 5, 6));
-    let machine = Machine { groups, caps };
-    Decl::Machine { machine }
-}
-
-fn kernel() -> Decl {
-    let (no, limits) = (KERNEL, caps(1, 1, 0, 0));
-    Decl::Kernel { no, limits }
-}
-
-fn thread(no: u32, pc: u32) -> Decl {
-    let (no, space, priority, a0, a1) = (ThreadNo(no), SPACE, 0, 72, 0);
-    Decl::Thread {
-        no,
-        space,
-        pc,
-        priority,
-        a0,
-        a1,
-    }
-}
-
-fn code_row() -> Decl {
-    let (space, vpn, frame, receiver) = (SPACE, Vpn(0), Frame(0), None);
-    let flags = Flags {
-        x: true,
-        ..Flags::default()
-    };
-    Decl::Map {
-        space,
-        vpn,
-        frame,
-        flags,
-        receiver,
-    }
-}
-
-fn word(offset: u32, value: u32) -> Decl {
-    let frame = Frame(0);
-    Decl::Word {
-        frame,
-        offset,
-        value,
-    }
+fn kernel_of_two() -> Decl {
+    kernel(caps(1, 1, 0, 0))
 }
 
 fn loaded(ident: Ident, name: Name) -> Entry {
@@ -125,7 +71,7 @@ fn first_lock() -> Entry {
 }
 
 // Takes entries one after another, to the first that isn't in order or doesn't keep its rule, and answers its place.
-fn take(facts: &mut Facts, entries: &[Entry]) -> Result<Option<usize>, Fail> {
+fn take(facts: &mut Facts, entries: &[Entry]) -> Result<Option<usize>, NoMemory> {
     for (at, entry) in entries.iter().enumerate() {
         let next = entries.get(at + 1).copied();
         if !facts.is_in_order(Some(*entry)) || !facts.take(entry, next)? {
@@ -135,40 +81,32 @@ fn take(facts: &mut Facts, entries: &[Entry]) -> Result<Option<usize>, Fail> {
     Ok(None)
 }
 
-// The facts behind the declarations.
-fn declared(alloc: Global) -> Result<Facts, Fail> {
-    let (kernel, group, read, write) = (KERNEL, 0, true, true);
-    let mut facts = Facts::new(alloc);
+// Takes the declarations, and says whether each was in order.
+fn declares(facts: &mut Facts) -> Result<bool, NoMemory> {
     for decl in [
-        machine(),
-        self::kernel(),
-        Decl::Right {
-            kernel,
-            group,
-            read,
-            write,
-        },
-        Decl::Space { no: SPACE, kernel },
-        thread(0, 0),
-        thread(1, 16_384),
-        thread(2, 0),
-        thread(3, 0),
-        thread(4, 0),
-        thread(5, 0),
-        code_row(),
+        machine_of_six(),
+        kernel_of_two(),
+        right(),
+        space(),
+        thread(0, 0, 72),
+        thread(1, 16_384, 72),
+        thread(2, 0, 72),
+        thread(3, 0, 72),
+        thread(4, 0, 72),
+        thread(5, 0, 72),
+        map(0, 0, CODE, None),
         word(0, 0x0010_0893),
         word(4, 0x0000_0073),
     ] {
-        if take(&mut facts, &[Entry::Declared { decl }])?.is_some() {
-            return Err("a declaration".into());
+        if take(facts, &[Entry::Declared { decl }])?.is_some() {
+            return Ok(false);
         }
     }
-    Ok(facts)
+    Ok(true)
 }
 
-// Where these break a rule behind a beginning with a space, five threads and the row of their code.
-fn breaks_at(alloc: Global, entries: &[Entry]) -> Result<Option<usize>, Fail> {
-    let mut facts = declared(alloc)?;
+// Takes a beginning with a space, five threads and the row of their code, and says whether each entry was in order.
+fn begins(facts: &mut Facts) -> Result<bool, NoMemory> {
     let beginning = [
         Entry::Sealed,
         first_load(),
@@ -181,24 +119,38 @@ fn breaks_at(alloc: Global, entries: &[Entry]) -> Result<Option<usize>, Fail> {
         thread_loaded(4, 6, 4),
         loaded(row_ident(), CODE_ROW),
     ];
-    if take(&mut facts, &beginning)?.is_some() {
-        return Err("the beginning".into());
+    if !declares(facts)? {
+        return Ok(false);
     }
-    take(&mut facts, entries)
+    Ok(take(facts, &beginning)?.is_none())
+}
+
+// Whether these break a rule behind the beginning at that place, or none.
+fn breaks_at(
+    rt: &impl Abort,
+    alloc: Global,
+    entries: &[Entry],
+    due: Option<usize>,
+) -> Result<bool, NoMemory> {
+    let mut facts = Facts::new(alloc);
+    let begun = begins(&mut facts);
+    let found = take(&mut facts, entries);
+    mem::forget(facts);
+    assert!(rt; begun?, "the beginning");
+    Ok(found? == due)
 }
 
 #[test]
 fn each_kind_of_entry_is_kept(rt: HostRuntime) -> Result<(), Fail> {
-    let alloc = rt.alloc();
-    let (ident, cpu) = (space_ident(), 0);
+    let ident = space_ident();
     let entries = [
         ran(0, 2),
         completed(0),
         ended(1),
-        Entry::Locked { ident, cpu },
+        Entry::Locked { ident, cpu: 0 },
         left(thread_ident(1, 3), Cause::Displaced),
         thread_loaded(1, 8, 5),
-        Entry::Unlocked { ident, cpu },
+        Entry::Unlocked { ident, cpu: 0 },
         left(row_ident(), Cause::Dependent),
         left(thread_ident(0, 2), Cause::Dependent),
         left(thread_ident(2, 4), Cause::Dependent),
@@ -207,74 +159,102 @@ fn each_kind_of_entry_is_kept(rt: HostRuntime) -> Result<(), Fail> {
         left(thread_ident(1, 8), Cause::Dependent),
         left(ident, Cause::Unloaded),
     ];
-    assert_eq!(rt; breaks_at(alloc, &entries)?, None);
+    assert!(rt; breaks_at(&rt, rt.alloc(), &entries, None)?);
     Ok(())
 }
 
 #[test]
 fn each_kind_of_entry_is_broken(rt: HostRuntime) -> Result<(), Fail> {
-    let alloc = rt.alloc();
-    let (ident, cpu) = (self::ident(Kind::Kernel, 0, 0), 0);
+    let kernel = ident(Kind::Kernel, 0, 0);
     for entry in [
-        Entry::Declared { decl: machine() },
+        Entry::Declared {
+            decl: machine_of_six(),
+        },
         Entry::Sealed,
-        loaded(self::ident(Kind::Kernel, 1, 9), Name::Kernel(KERNEL)),
+        loaded(ident(Kind::Kernel, 1, 9), Name::Kernel(KERNEL)),
         left(space_ident(), Cause::Unloaded),
-        Entry::Locked { ident, cpu },
-        Entry::Unlocked { ident, cpu },
+        Entry::Locked {
+            ident: kernel,
+            cpu: 0,
+        },
+        Entry::Unlocked {
+            ident: kernel,
+            cpu: 0,
+        },
         ran(1, 1),
         ended(0),
         completed(1),
     ] {
-        assert_eq!(rt; breaks_at(alloc, &[entry])?, Some(0));
+        assert!(rt; breaks_at(&rt, rt.alloc(), &[entry], Some(0))?);
     }
     Ok(())
 }
 
 #[test]
 fn groups_are_whole_and_followed(rt: HostRuntime) -> Result<(), Fail> {
-    let alloc = rt.alloc();
     let row = left(row_ident(), Cause::Dependent);
     let thread = left(thread_ident(1, 3), Cause::Unloaded);
     let displaced = left(thread_ident(1, 3), Cause::Displaced);
-    assert_eq!(rt; breaks_at(alloc, &[thread])?, None);
-    // The row doesn't depend on the thread.
-    assert_eq!(rt; breaks_at(alloc, &[row, thread])?, Some(1));
-    // Nothing follows.
-    assert_eq!(rt; breaks_at(alloc, &[row])?, Some(0));
-    assert_eq!(rt; breaks_at(alloc, &[displaced])?, Some(0));
-    // The cache isn't full any more.
     let another = left(thread_ident(2, 4), Cause::Displaced);
-    assert_eq!(rt;
-        breaks_at(alloc, &[thread, another, thread_loaded(1, 8, 5)])?,
-        Some(1)
+    for (entries, due) in [
+        ([thread].as_slice(), None),
+        // The row doesn't depend on the thread.
+        ([row, thread].as_slice(), Some(1)),
+        // Nothing follows.
+        ([row].as_slice(), Some(0)),
+        ([displaced].as_slice(), Some(0)),
+        // The cache isn't full any more.
+        (
+            [thread, another, thread_loaded(1, 8, 5)].as_slice(),
+            Some(1),
+        ),
+    ] {
+        assert!(rt; breaks_at(&rt, rt.alloc(), entries, due)?);
+    }
+    Ok(())
+}
+
+fn begins_in_order(rt: &impl Abort, facts: &mut Facts) -> Result<(), NoMemory> {
+    assert!(rt; !facts.is_in_order(None));
+    assert!(rt;
+        !facts.is_in_order(Some(Entry::Declared {
+            decl: kernel_of_two()
+        }))
     );
+    assert!(rt;
+        facts.is_in_order(Some(Entry::Declared {
+            decl: machine_of_six()
+        }))
+    );
+    assert!(rt; declares(facts)?);
+    assert!(rt; !facts.is_in_order(Some(ran(0, 1))));
+    assert!(rt; take(facts, &[Entry::Sealed, first_load()])?.is_none());
+    assert!(rt; !facts.is_in_order(Some(ran(0, 1))));
+    assert!(rt; facts.is_in_order(Some(first_lock())));
     Ok(())
 }
 
 #[test]
 fn a_beginning_is_in_order(rt: HostRuntime) -> Result<(), Fail> {
-    let alloc = rt.alloc();
-    let nothing = Facts::new(alloc);
-    assert!(rt; !nothing.is_in_order(None));
-    assert!(rt; !nothing.is_in_order(Some(Entry::Declared { decl: kernel() })));
-    assert!(rt; nothing.is_in_order(Some(Entry::Declared { decl: machine() })));
-    let mut facts = declared(alloc)?;
-    assert!(rt; !facts.is_in_order(Some(ran(0, 1))));
-    assert_eq!(rt; take(&mut facts, &[Entry::Sealed, first_load()])?, None);
-    assert!(rt; !facts.is_in_order(Some(ran(0, 1))));
-    assert!(rt; facts.is_in_order(Some(first_lock())));
+    let mut facts = Facts::new(rt.alloc());
+    let done = begins_in_order(&rt, &mut facts);
     let flat = facts.into_flat();
-    assert_eq!(rt; flat.threads(), 6);
+    let threads = flat.threads();
+    mem::forget(flat);
+    done?;
+    assert!(rt; threads == 6);
     Ok(())
 }
 
 #[test]
-fn rules_have_numbers(rt: HostRuntime) -> Result<(), Fail> {
-    assert_eq!(rt; number(&Entry::Sealed), 1);
-    assert_eq!(rt; number(&first_load()), 2);
-    assert_eq!(rt; number(&left(space_ident(), Cause::Unloaded)), 3);
-    assert_eq!(rt; number(&first_lock()), 4);
-    assert_eq!(rt; number(&ran(0, 1)), 5);
-    Ok(())
+fn rules_have_numbers(rt: HostRuntime) {
+    for (entry, due) in [
+        (Entry::Sealed, 1),
+        (first_load(), 2),
+        (left(space_ident(), Cause::Unloaded), 3),
+        (first_lock(), 4),
+        (ran(0, 1), 5),
+    ] {
+        assert!(rt; number(&entry) == due, "rule {due}");
+    }
 }

@@ -1,15 +1,17 @@
 //! A kernel with one space and one thread in it, of each of which it may lock at most one.
 
-use cache_ident::{Caps, Ident, KernelNo, Kind, Name, SpaceNo, ThreadNo};
-use journal_facts::flat_machine::{Decl, Event, Flat, GREATEST_CAPS, Machine};
+use crate::decls::*;
+use cache_ident::{Ident, Kind, Name, NoMemory, ThreadNo};
+use journal_facts::flat_machine::{Flat, GREATEST_CAPS};
 use journal_facts::journal_tables::*;
 use residents::Held;
-use std::alloc::Global;
+use std::mem;
+use std::process::Abort;
 use std::test::Fail;
 
-const KERNEL: Name = Name::Kernel(KernelNo(0));
+const KERNEL_NAME: Name = Name::Kernel(KERNEL);
 
-const SPACE: Name = Name::Space(SpaceNo(0));
+const SPACE_NAME: Name = Name::Space(SPACE);
 
 const THREAD: Name = Name::Thread(ThreadNo(0));
 
@@ -31,116 +33,135 @@ const THREAD_IDENT: Ident = Ident {
     serial: 2,
 };
 
-fn machine(alloc: Global) -> Result<Flat, Fail> {
-    let (groups, caps) = (1, GREATEST_CAPS);
-    let machine = Machine { groups, caps };
-    let kernel = KernelNo(0);
-    let limits = Caps {
-        kernels: 1,
-        spaces: 1,
-        threads: 0,
-        mappings: 0,
-    };
-    let thread = Decl::Thread {
-        no: ThreadNo(0),
-        space: SpaceNo(0),
-        pc: 0,
-        priority: 0,
-        a0: 0,
-        a1: 0,
-    };
+fn declare_all(flat: &mut Flat) -> Result<(), NoMemory> {
     let decls = [
-        Decl::Machine { machine },
-        Decl::Kernel { no: kernel, limits },
-        Decl::Space {
-            no: SpaceNo(0),
-            kernel,
-        },
-        thread,
+        machine(GREATEST_CAPS),
+        kernel(caps(1, 1, 0, 0)),
+        space(),
+        thread(0, 0, 0),
     ];
-    let mut flat = Flat::new(alloc);
-    for decl in decls {
-        flat.apply(&Event::Declare(decl))?;
-    }
-    Ok(flat)
+    declare(flat, &decls)
 }
 
-fn loaded(alloc: Global, flat: &Flat) -> Result<Tables, Fail> {
-    let mut tables = Tables::new(alloc);
-    let _ = tables.load(flat, 0, KERNEL_IDENT, KERNEL)?;
-    let _ = tables.load(flat, 1, SPACE_IDENT, SPACE)?;
+fn load_all(flat: &mut Flat, tables: &mut Tables) -> Result<(), NoMemory> {
+    declare_all(flat)?;
+    let _ = tables.load(flat, 0, KERNEL_IDENT, KERNEL_NAME)?;
+    let _ = tables.load(flat, 1, SPACE_IDENT, SPACE_NAME)?;
     let _ = tables.load(flat, 2, THREAD_IDENT, THREAD)?;
-    Ok(tables)
+    Ok(())
 }
 
-#[test]
-fn what_is_loaded_is_resident(rt: HostRuntime) -> Result<(), Fail> {
-    let alloc = rt.alloc();
-    let flat = machine(alloc)?;
-    let tables = loaded(alloc, &flat)?;
-    assert_eq!(rt; tables.count(Kind::Thread), 1);
-    assert_eq!(rt; tables.count(Kind::Mapping), 0);
+fn is_loaded(rt: &impl Abort, flat: &mut Flat, tables: &mut Tables) -> Result<(), NoMemory> {
+    load_all(flat, tables)?;
+    assert!(rt; tables.count(Kind::Thread) == 1 && tables.count(Kind::Mapping) == 0);
     let thread = Held {
         ident: THREAD_IDENT,
         name: THREAD,
         locked: false,
     };
-    assert_eq!(rt; tables.residents().find(THREAD_IDENT), Some(thread));
+    assert!(rt; tables.residents().find(THREAD_IDENT) == Some(thread));
+    Ok(())
+}
+
+#[test]
+fn what_is_loaded_is_resident(rt: HostRuntime) -> Result<(), Fail> {
+    let mut flat = Flat::new(rt.alloc());
+    let mut tables = Tables::new(rt.alloc());
+    let done = is_loaded(&rt, &mut flat, &mut tables);
+    mem::forget(flat);
+    mem::forget(tables);
+    Ok(done?)
+}
+
+fn load_out_of_order(
+    rt: &impl Abort,
+    flat: &mut Flat,
+    tables: &mut Tables,
+) -> Result<(), NoMemory> {
+    declare_all(flat)?;
+    let higher = Ident {
+        slot: 1,
+        ..KERNEL_IDENT
+    };
+    assert!(rt; !tables.load(flat, 2, THREAD_IDENT, THREAD)?, "an orphan");
+    assert!(rt;
+        !tables.load(flat, 1, KERNEL_IDENT, KERNEL_NAME)?,
+        "too late"
+    );
+    assert!(rt;
+        !tables.load(flat, 0, higher, KERNEL_NAME)?,
+        "a slot is skipped"
+    );
+    assert!(rt;
+        tables.load(flat, 0, KERNEL_IDENT, KERNEL_NAME)?,
+        "the first"
+    );
     Ok(())
 }
 
 #[test]
 fn a_load_needs_its_parent_its_serial_and_its_slot(rt: HostRuntime) -> Result<(), Fail> {
-    let alloc = rt.alloc();
-    let flat = machine(alloc)?;
-    let mut tables = Tables::new(alloc);
-    let orphan = tables.load(&flat, 2, THREAD_IDENT, THREAD)?;
-    assert!(rt; !orphan);
-    let late = tables.load(&flat, 1, KERNEL_IDENT, KERNEL)?;
-    assert!(rt; !late);
-    let slot = 1;
-    let higher = Ident {
-        slot,
-        ..KERNEL_IDENT
-    };
-    let skipping = tables.load(&flat, 0, higher, KERNEL)?;
-    assert!(rt; !skipping);
-    let first = tables.load(&flat, 0, KERNEL_IDENT, KERNEL)?;
-    assert!(rt; first);
+    let mut flat = Flat::new(rt.alloc());
+    let mut tables = Tables::new(rt.alloc());
+    let done = load_out_of_order(&rt, &mut flat, &mut tables);
+    mem::forget(flat);
+    mem::forget(tables);
+    Ok(done?)
+}
+
+fn lock_to_the_limit(
+    rt: &impl Abort,
+    flat: &mut Flat,
+    tables: &mut Tables,
+) -> Result<(), NoMemory> {
+    load_all(flat, tables)?;
+    assert!(rt; !tables.lock(flat, THREAD_IDENT)?, "none may be locked");
+    assert!(rt; tables.lock(flat, SPACE_IDENT)?, "the first");
+    assert!(rt; !tables.lock(flat, SPACE_IDENT)?, "twice");
+    assert!(rt; tables.unlock(flat, SPACE_IDENT));
+    assert!(rt; !tables.unlock(flat, SPACE_IDENT));
+    assert!(rt; tables.lock(flat, SPACE_IDENT)?, "again");
     Ok(())
 }
 
 #[test]
 fn locks_go_to_their_limit(rt: HostRuntime) -> Result<(), Fail> {
-    let alloc = rt.alloc();
-    let flat = machine(alloc)?;
-    let mut tables = loaded(alloc, &flat)?;
-    let none = tables.lock(&flat, THREAD_IDENT)?;
-    assert!(rt; !none);
-    let first = tables.lock(&flat, SPACE_IDENT)?;
-    assert!(rt; first);
-    let twice = tables.lock(&flat, SPACE_IDENT)?;
-    assert!(rt; !twice);
-    assert!(rt; tables.unlock(&flat, SPACE_IDENT));
-    assert!(rt; !tables.unlock(&flat, SPACE_IDENT));
-    let again = tables.lock(&flat, SPACE_IDENT)?;
-    assert!(rt; again);
+    let mut flat = Flat::new(rt.alloc());
+    let mut tables = Tables::new(rt.alloc());
+    let done = lock_to_the_limit(&rt, &mut flat, &mut tables);
+    mem::forget(flat);
+    mem::forget(tables);
+    Ok(done?)
+}
+
+// Takes out what is loaded with an identifier, if it may leave.
+fn leave(flat: &Flat, tables: &mut Tables, ident: Ident) -> Result<bool, NoMemory> {
+    match tables.leaver(ident) {
+        Some(held) => {
+            tables.leave(flat, held)?;
+            Ok(true)
+        }
+        None => Ok(false),
+    }
+}
+
+fn leave_in_order(rt: &impl Abort, flat: &mut Flat, tables: &mut Tables) -> Result<(), NoMemory> {
+    load_all(flat, tables)?;
+    assert!(rt; tables.leaver(SPACE_IDENT).is_none() && tables.leaver(KERNEL_IDENT).is_none());
+    assert!(rt; leave(flat, tables, THREAD_IDENT)?);
+    assert!(rt; tables.count(Kind::Thread) == 0);
+    assert!(rt; leave(flat, tables, SPACE_IDENT)?);
+    assert!(rt; !tables.residents().is_named(SPACE_NAME));
+    assert!(rt; tables.leaver(KERNEL_IDENT).is_none());
     Ok(())
 }
 
 #[test]
 fn a_parent_leaves_behind_what_depends_on_it(rt: HostRuntime) -> Result<(), Fail> {
-    let alloc = rt.alloc();
-    let flat = machine(alloc)?;
-    let mut tables = loaded(alloc, &flat)?;
-    assert_eq!(rt; tables.leaver(SPACE_IDENT), None);
-    assert_eq!(rt; tables.leaver(KERNEL_IDENT), None);
-    let thread = tables.leaver(THREAD_IDENT).ok_or("resident")?;
-    tables.leave(&flat, thread)?;
-    assert_eq!(rt; tables.count(Kind::Thread), 0);
-    let space = tables.leaver(SPACE_IDENT).ok_or("resident")?;
-    tables.leave(&flat, space)?;
-    assert!(rt; !tables.residents().is_named(SPACE));
-    assert_eq!(rt; tables.leaver(KERNEL_IDENT), None);
-    Ok(())
+    let mut flat = Flat::new(rt.alloc());
+    let mut tables = Tables::new(rt.alloc());
+    let done = leave_in_order(&rt, &mut flat, &mut tables);
+    mem::forget(flat);
+    mem::forget(tables);
+    Ok(done?)
 }

@@ -1,7 +1,15 @@
-use cache_ident::{Cause, Ident, KernelNo, Kind, Name, SpaceNo, Vpn};
+//! Texts of journals, read and printed.
+
+use crate::decls::ident;
+use cache_ident::{Cause, Ident, KernelNo, Kind, Name, NoMemory, SpaceNo, Vpn};
 use flat_state::Decl;
-use journal_text::*;
+use journal_text::{
+    JournalFault, entry_at, field, number, print, put_decl, put_field, put_ident, put_number, read,
+};
 use run_journal::{Entry, Journal};
+use std::alloc::Global;
+use std::mem;
+use std::process::Abort;
 use std::test::Fail;
 
 const EVERY_FORM: &[u8] = b"machine 1 8 8 8 8\n\
@@ -28,38 +36,60 @@ back M0.2 dependent cpu 0\n\
 back T0.3 displaced cpu 0\n\
 back S0.1 unloaded cpu 0\n";
 
-#[test]
-fn each_form_is_read_and_printed(rt: HostRuntime) -> Result<(), Fail> {
-    let journal = read(rt.alloc(), EVERY_FORM)?;
-    assert_eq!(rt; journal.len(), 23);
-    let mapping = Ident {
-        kind: Kind::Mapping,
-        slot: 0,
-        serial: 2,
-    };
-    let row = Name::Mapping(SpaceNo(700), Vpn(16));
+fn row_ident() -> Ident {
+    ident(Kind::Mapping, 0, 2)
+}
+
+fn all_are_read(rt: &impl Abort, journal: &Journal) {
+    assert!(rt; journal.len() == 23);
     let loaded = Entry::Loaded {
-        ident: mapping,
-        name: row,
+        ident: row_ident(),
+        name: Name::Mapping(SpaceNo(700), Vpn(16)),
         cpu: 0,
     };
     let back = Entry::WrittenBack {
-        ident: mapping,
+        ident: row_ident(),
         cause: Cause::Dependent,
         cpu: 0,
     };
-    assert_eq!(rt; journal.get(15), Some(loaded));
-    assert_eq!(rt; journal.get(20), Some(back));
-    let text = print(rt.alloc(), &journal)?;
-    assert!(rt; text.as_slice() == EVERY_FORM);
+    assert!(rt; journal.get(15) == Some(loaded));
+    assert!(rt; journal.get(20) == Some(back));
+}
+
+fn is_printed(alloc: Global, journal: &Journal, text: &[u8]) -> Result<bool, NoMemory> {
+    let found = print(alloc, journal)?;
+    Ok(found.as_slice() == text)
+}
+
+#[test]
+fn each_form_is_read_and_printed(rt: HostRuntime) -> Result<(), Fail> {
+    let journal = read(rt.alloc(), EVERY_FORM)?;
+    all_are_read(&rt, &journal);
+    let printed = is_printed(rt.alloc(), &journal, EVERY_FORM);
+    mem::forget(journal);
+    assert!(rt; printed?);
     Ok(())
 }
 
 #[test]
 fn the_empty_journal_has_the_empty_text(rt: HostRuntime) -> Result<(), Fail> {
-    assert!(rt; print(rt.alloc(), &Journal::new(rt.alloc()))?.is_empty());
-    assert!(rt; read(rt.alloc(), b"")?.is_empty());
+    let journal = read(rt.alloc(), b"")?;
+    let empty = journal.is_empty();
+    let printed = is_printed(rt.alloc(), &journal, b"");
+    mem::forget(journal);
+    assert!(rt; empty && printed?);
     Ok(())
+}
+
+// The fault of a text that has one.
+fn fault_of(alloc: Global, text: &[u8]) -> Option<JournalFault> {
+    match read(alloc, text) {
+        Ok(journal) => {
+            mem::forget(journal);
+            None
+        }
+        Err(fault) => Some(fault),
+    }
 }
 
 #[test]
@@ -83,40 +113,43 @@ fn a_line_of_another_form_is_a_fault(rt: HostRuntime) {
         (b"back M0.2 lost cpu 0\n", 1),
     ];
     for (text, line) in cases {
-        match read(rt.alloc(), text) {
-            Ok(_) => panic!(rt; "{text:?} is read"),
-            Err(fault) => assert_eq!(rt; fault, JournalFault::Line(line), "{text:?}"),
-        }
+        assert!(rt;
+            fault_of(rt.alloc(), text) == Some(JournalFault::Line(line)),
+            "{text:?}"
+        );
     }
 }
 
-#[test]
-fn parts_of_a_line(rt: HostRuntime) -> Result<(), Fail> {
-    let row = Ident {
-        kind: Kind::Mapping,
-        slot: 0,
-        serial: 2,
-    };
-    assert!(rt; matches!(number(b"18446744073709551615 7"), Some((u64::MAX, b" 7"))));
-    assert!(rt; matches!(field(b" 7\n"), Some((7, b"\n"))));
-    assert!(rt; field(b"7\n").is_none());
-    match ident(b"M0.2 cpu 0") {
-        Some((read, rest)) => assert!(rt; read == row && rest == b" cpu 0".as_slice()),
+fn row_is_read(rt: &impl Abort) {
+    match journal_text::ident(b"M0.2 cpu 0") {
+        Some((read, rest)) => assert!(rt; read == row_ident() && rest == b" cpu 0".as_slice()),
         None => panic!(rt; "the identifier is not read"),
     }
-    assert_eq!(rt; entry_at(b"sealed\n"), Some(Entry::Sealed));
+}
+
+fn put_parts(text: &mut Vec<u8>) -> Result<(), NoMemory> {
     let space = Decl::Space {
         no: SpaceNo(1),
         kernel: KernelNo(0),
     };
+    put_decl(text, &space)?;
+    put_field(text, 7)?;
+    put_number(text, u64::MAX)?;
+    put_ident(text, row_ident())
+}
+
+#[test]
+fn parts_of_a_line(rt: HostRuntime) -> Result<(), Fail> {
+    assert!(rt; number(b"18446744073709551615 7") == Some((u64::MAX, b" 7".as_slice())));
+    assert!(rt; field(b" 7\n") == Some((7, b"\n".as_slice())));
+    assert!(rt; field(b"7\n").is_none());
+    row_is_read(&rt);
+    assert!(rt; entry_at(b"sealed\n") == Some(Entry::Sealed));
     let mut text = Vec::new(rt.alloc());
-    put_decl(&mut text, &space)?;
-    put_field(&mut text, 7)?;
-    put_number(&mut text, u64::MAX)?;
-    put_ident(&mut text, row)?;
-    assert_eq!(rt;
-        text.as_slice(),
-        b"space 1 0 718446744073709551615M0.2".as_slice()
-    );
+    let put = put_parts(&mut text);
+    let same = text.as_slice() == b"space 1 0 718446744073709551615M0.2".as_slice();
+    mem::forget(text);
+    put?;
+    assert!(rt; same);
     Ok(())
 }

@@ -1,7 +1,9 @@
-//! Tests of journals, of what their rules ask, and of steps ahead of the machine. They stand above the crates that they call,
-//! since a crate with tests in it is proved twice, from nothing both times.
+//! Tests of journals, and of what their rules ask. They stand above the crates that they call, since a crate with tests in it is
+//! proved twice, from nothing both times.
 #![tactic(auto)]
 
+#[cfg(test)]
+mod decls;
 #[cfg(test)]
 mod journal_facts_tests;
 #[cfg(test)]
@@ -13,10 +15,6 @@ mod journal_tables_tests;
 #[cfg(test)]
 mod journal_text_tests;
 pub mod loading;
-#[cfg(test)]
-mod page_views_tests;
-#[cfg(test)]
-mod quantum_tests;
 #[cfg(test)]
 mod resident_pairs_tests;
 #[cfg(test)]

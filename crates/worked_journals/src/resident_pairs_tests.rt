@@ -31,9 +31,9 @@ fn leaves(rt: &impl Abort, all: &mut ResidentPairs, root: Node, nodes: &[Node])
 {
     all.order(root);
     for (place, node) in nodes.iter().enumerate() {
-        assert_eq!(rt; all.at(place), Some(*node));
+        assert!(rt; all.at(place) == Some(*node));
     }
-    assert_eq!(rt; all.at(nodes.len()), None);
+    assert!(rt; all.at(nodes.len()).is_none());
 }
 
 #[test]

@@ -1,46 +1,47 @@
-use cache_ident::{Caps, Cause, Ident, KernelNo, Kind, Name, ThreadNo};
-use flat_state::{Decl, Event};
+//! Entries that are pushed, and the events that are left of them without the caches.
+
+use crate::decls::{ident, kernel};
+use cache_ident::{Caps, Cause, KernelNo, Kind, Name, NoMemory, ThreadNo};
+use flat_state::Event;
 use run_journal::*;
+use std::mem;
+use std::process::Abort;
 use std::test::Fail;
 
-fn kernel_ident(serial: u64) -> Ident {
-    Ident {
-        kind: Kind::Kernel,
-        slot: 0,
-        serial,
-    }
-}
-
-fn kernel() -> Decl {
-    Decl::Kernel {
-        no: KernelNo(0),
-        limits: Caps::default(),
-    }
+fn push_two(rt: &impl Abort, journal: &mut Journal) -> Result<(), NoMemory> {
+    assert!(rt; journal.is_empty());
+    journal.reserve(2)?;
+    assert!(rt; journal.spare() >= 2);
+    let ended = Entry::Ended {
+        thread: ThreadNo(3),
+        cpu: 7,
+    };
+    journal.push(Entry::Sealed)?;
+    journal.push(ended)?;
+    assert!(rt; journal.len() == 2);
+    assert!(rt; journal.get(0) == Some(Entry::Sealed));
+    assert!(rt; journal.get(1) == Some(ended));
+    assert!(rt; journal.get(2).is_none());
+    assert!(rt; journal.as_slice().len() == 2);
+    Ok(())
 }
 
 #[test]
 fn entries_stand_in_order(rt: HostRuntime) -> Result<(), Fail> {
     let mut journal = Journal::new(rt.alloc());
-    assert!(rt; journal.is_empty());
-    journal.reserve(2)?;
-    assert!(rt; journal.spare() >= 2);
-    journal.push(Entry::Sealed)?;
-    let thread = ThreadNo(3);
-    journal.push(Entry::Ended { thread, cpu: 7 })?;
-    assert_eq!(rt; journal.len(), 2);
-    assert_eq!(rt; journal.get(0), Some(Entry::Sealed));
-    assert_eq!(rt; journal.get(1), Some(Entry::Ended { thread, cpu: 7 }));
-    assert_eq!(rt; journal.get(2), None);
-    assert_eq!(rt; journal.as_slice().len(), 2);
-    Ok(())
+    let done = push_two(&rt, &mut journal);
+    mem::forget(journal);
+    Ok(done?)
 }
 
-#[test]
-fn erased_are_the_entries_of_the_caches(rt: HostRuntime) -> Result<(), Fail> {
+// One entry of each kind, with the caches' among them.
+fn push_each(journal: &mut Journal) -> Result<(), NoMemory> {
     let thread = ThreadNo(1);
-    let ident = kernel_ident(0);
-    let entries = [
-        Entry::Declared { decl: kernel() },
+    let ident = ident(Kind::Kernel, 0, 0);
+    for entry in [
+        Entry::Declared {
+            decl: kernel(Caps::default()),
+        },
         Entry::Sealed,
         Entry::Loaded {
             ident,
@@ -61,19 +62,32 @@ fn erased_are_the_entries_of_the_caches(rt: HostRuntime) -> Result<(), Fail> {
             cpu: 0,
         },
         Entry::Ended { thread, cpu: 2 },
-    ];
-    let mut journal = Journal::new(rt.alloc());
-    for entry in entries {
+    ] {
         journal.push(entry)?;
     }
-    let events = journal.erase()?;
+    Ok(())
+}
+
+fn erase(rt: &impl Abort, journal: &mut Journal) -> Result<(), NoMemory> {
+    push_each(journal)?;
+    let thread = ThreadNo(1);
     let due = [
-        Event::Declare(kernel()),
+        Event::Declare(kernel(Caps::default())),
         Event::Step(thread),
         Event::Step(thread),
         Event::Complete(thread),
         Event::Step(thread),
     ];
+    let events = journal.erase()?;
     assert!(rt; events.as_slice() == due.as_slice());
+    mem::forget(events);
     Ok(())
+}
+
+#[test]
+fn erased_are_the_entries_of_the_caches(rt: HostRuntime) -> Result<(), Fail> {
+    let mut journal = Journal::new(rt.alloc());
+    let done = erase(&rt, &mut journal);
+    mem::forget(journal);
+    Ok(done?)
 }

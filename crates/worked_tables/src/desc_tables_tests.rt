@@ -6,7 +6,6 @@ ghost use Rattle.desc_tables.specs.desc_stores.specs.Contents.{item_as};
 ghost use Rattle.desc_tables.specs.Likes.{IsThreadAs};
 
 use crate::tables::*;
-use crate::threads::thread;
 use cache_ident::{Caps, Cause, Frame, Ident, Kind, Name, NoMemory, SpaceNo, ThreadNo, Vpn};
 use desc_tables::{Gone, Item, ItemRef, Tables};
 use phys_groups::Row;
@@ -30,10 +29,10 @@ fn declare_six_spaces(rt: &impl Abort, tables: &mut Tables) -> Result<(), NoMemo
     ensures { tables.new.caps ≡ CAPS }
 {
     for no in 0..6u32 {
-        declare(rt, tables, space(no))?;
+        put(rt, tables, space(no, 0))?;
     }
-    declare(rt, tables, Item::Mapping(row(0, 1, 1, None)))?;
-    declare(rt, tables, Item::Mapping(row(1, 1, 1, None)))
+    put(rt, tables, Item::Mapping(row(0, 1, 1, None)))?;
+    put(rt, tables, Item::Mapping(row(1, 1, 1, None)))
 }
 
 // The first kernel, and the first five spaces.
@@ -41,10 +40,10 @@ fn fill_spaces(rt: &impl Abort, tables: &mut Tables) -> Ident
     requires { tables.old.caps ≡ CAPS }
     ensures { tables.new.caps ≡ CAPS }
 {
-    let first = load(rt, tables, kernel_name(0), &[], 12);
-    lock(rt, tables, first);
+    let first = bring(rt, tables, kernel_name(0), &[], 12);
+    assert!(rt; lock(tables, first));
     for no in 0..5u32 {
-        let _space = load(rt, tables, space_name(no), &[first], 14 + no);
+        let _space = bring(rt, tables, space_name(no), &[first], 14 + no);
         assert!(rt; tables.gone().is_empty());
     }
     first
@@ -69,14 +68,14 @@ fn lock_a_row(rt: &impl Abort, tables: &mut Tables, first: Ident)
     ensures { tables.new.caps ≡ CAPS }
 {
     let second = ident(Kind::Space, 1, 2);
-    let locked = load(rt, tables, row_name(0, 1), &[first, oldest()], 19);
+    let locked = bring(rt, tables, row_name(0, 1), &[first, oldest()], 19);
     assert!(rt; locked == locked_row());
-    lock(rt, tables, locked);
-    assert!(rt; is_locked(rt, tables, locked));
+    assert!(rt; lock(tables, locked));
+    assert!(rt; is_locked(tables, locked) == Some(true));
     assert!(rt; !tables.may_load(row_name(1, 1), &[second]));
-    let other = load(rt, tables, row_name(1, 1), &[first, second], 21);
+    let other = bring(rt, tables, row_name(1, 1), &[first, second], 21);
     assert!(rt; other == other_row());
-    assert!(rt; !may_lock(rt, tables, other));
+    assert!(rt; may_lock(tables, other) == Some(false));
 }
 
 // The locked row leaves with the space that is displaced.
@@ -84,7 +83,7 @@ fn displace_a_space(rt: &impl Abort, tables: &mut Tables, first: Ident)
     requires { tables.old.caps ≡ CAPS }
     ensures { tables.new.caps ≡ CAPS }
 {
-    let last = load(rt, tables, space_name(5), &[first], 22);
+    let last = bring(rt, tables, space_name(5), &[first], 22);
     assert!(rt; last == ident(Kind::Space, 0, 8));
     let in_order = [
         left(locked_row(), Cause::Dependent),
@@ -106,15 +105,15 @@ fn fill_and_displace(rt: &impl Abort, tables: &mut Tables) -> Result<(), NoMemor
     let first = fill_spaces(rt, tables);
     lock_a_row(rt, tables, first);
     displace_a_space(rt, tables, first);
-    lock(rt, tables, other_row());
-    unlock(rt, tables, other_row());
-    assert!(rt; !is_locked(rt, tables, other_row()));
+    assert!(rt; lock(tables, other_row()));
+    assert!(rt; unlock(tables, other_row()));
+    assert!(rt; is_locked(tables, other_row()) == Some(false));
     Ok(())
 }
 
 #[test]
 fn a_full_cache_displaces_with_dependents(rt: HostRuntime) -> Result<(), Fail> {
-    let mut tables = with_first_kernel(&rt, rt.alloc())?;
+    let mut tables = with_first_kernel(rt.alloc())?;
     let done = fill_and_displace(&rt, &mut tables);
     std::mem::forget(tables);
     Ok(done?)
@@ -126,14 +125,14 @@ fn displace_a_kernel(rt: &impl Abort, tables: &mut Tables) -> Result<(), NoMemor
     ensures { tables.new.caps ≡ CAPS }
 {
     for no in 1..7u32 {
-        declare(rt, tables, kernel(no, Caps::default()))?;
+        put(rt, tables, kernel(no, Caps::default()))?;
     }
     for no in 0..6u32 {
-        let _kernel = load(rt, tables, kernel_name(no), &[], 20 + no);
+        let _kernel = bring(rt, tables, kernel_name(no), &[], 20 + no);
     }
-    lock(rt, tables, ident(Kind::Kernel, 0, 0));
+    assert!(rt; lock(tables, ident(Kind::Kernel, 0, 0)));
     let kept = ident(Kind::Kernel, 1, 1);
-    let last = load(rt, tables, kernel_name(6), &[kept], 27);
+    let last = bring(rt, tables, kernel_name(6), &[kept], 27);
     assert!(rt; has_gone(tables, &[left(ident(Kind::Kernel, 2, 2), Cause::Displaced)]));
     assert!(rt; last == ident(Kind::Kernel, 2, 6));
     Ok(())
@@ -141,7 +140,7 @@ fn displace_a_kernel(rt: &impl Abort, tables: &mut Tables) -> Result<(), NoMemor
 
 #[test]
 fn no_locked_and_no_kept_one_is_displaced(rt: HostRuntime) -> Result<(), Fail> {
-    let mut tables = with_first_kernel(&rt, rt.alloc())?;
+    let mut tables = with_first_kernel(rt.alloc())?;
     let done = displace_a_kernel(&rt, &mut tables);
     std::mem::forget(tables);
     Ok(done?)
@@ -155,7 +154,7 @@ fn unload_a_space(rt: &impl Abort, tables: &mut Tables, alloc: Global) -> Result
 {
     declare_signals(rt, tables, alloc)?;
     let loaded = load_signals(rt, tables);
-    unload(rt, tables, loaded.space, 40);
+    assert!(rt; unload(tables, loaded.space, 40));
     let in_order = [
         left(loaded.message, Cause::Dependent),
         left(loaded.signal, Cause::Dependent),
@@ -174,7 +173,7 @@ fn unload_a_space(rt: &impl Abort, tables: &mut Tables, alloc: Global) -> Result
 #[test]
 fn a_space_leaves_behind_its_rows_and_threads(rt: HostRuntime) -> Result<(), Fail> {
     let alloc = rt.alloc();
-    let mut tables = with_first_kernel(&rt, alloc)?;
+    let mut tables = with_first_kernel(alloc)?;
     let done = unload_a_space(&rt, &mut tables, alloc);
     std::mem::forget(tables);
     Ok(done?)
@@ -254,7 +253,7 @@ fn change_a_row(rt: &impl Abort, tables: &mut Tables, loaded: Loaded)
     ensures { tables.new.caps ≡ CAPS }
 {
     mark(rt, tables, loaded.signal, row_name(0, 32));
-    unload(rt, tables, loaded.signal, 30);
+    assert!(rt; unload(tables, loaded.signal, 30));
     let in_order = [
         left(loaded.message, Cause::Dependent),
         left(loaded.signal, Cause::Unloaded),
@@ -270,7 +269,7 @@ fn change_a_thread(rt: &impl Abort, tables: &mut Tables, alloc: Global, receiver
     ensures { tables.new.caps ≡ CAPS }
 {
     go_on(rt, tables, alloc, receiver, 1);
-    unload(rt, tables, receiver, 32);
+    assert!(rt; unload(tables, receiver, 32));
     assert!(rt; has_gone(tables, &[left(receiver, Cause::Unloaded)]));
     assert!(rt; has_gone_on(tables, thread_name(1)));
 }
@@ -293,7 +292,7 @@ fn change_what_leaves(rt: &impl Abort, tables: &mut Tables, alloc: Global) -> Re
 #[test]
 fn what_leaves_takes_its_change_along(rt: HostRuntime) -> Result<(), Fail> {
     let alloc = rt.alloc();
-    let mut tables = with_first_kernel(&rt, alloc)?;
+    let mut tables = with_first_kernel(alloc)?;
     let done = change_what_leaves(&rt, &mut tables, alloc);
     std::mem::forget(tables);
     Ok(done?)

@@ -3,13 +3,11 @@
 #![tactic(auto)]
 
 #[cfg(test)]
-mod desc_parents_tests;
-#[cfg(test)]
 mod desc_tables_tests;
+pub mod pushes;
 #[cfg(test)]
 mod reading_tests;
 #[cfg(test)]
 mod tables;
 #[cfg(test)]
 mod thread_sets_tests;
-pub mod threads;

@@ -19,14 +19,9 @@ fn has_names(tables: &Tables, kind: Kind, all: &[Name]) -> bool {
 }
 
 fn all_is_named(rt: &impl Abort, tables: &Tables) {
-    assert_eq!(rt; tables.caps(), CAPS);
-    assert_eq!(rt;
-        (
-            tables.kernel_count(),
-            tables.space_count(),
-            tables.thread_count()
-        ),
-        (1, 1, 2)
+    assert!(rt; tables.caps() == CAPS);
+    assert!(rt;
+        tables.kernel_count() == 1 && tables.space_count() == 1 && tables.thread_count() == 2
     );
     assert!(rt; has_names(tables, Kind::Kernel, &[kernel_name(0)]));
     assert!(rt; has_names(tables, Kind::Space, &[space_name(0)]));
@@ -71,9 +66,9 @@ fn standings_are_told(rt: &impl Abort, tables: &mut Tables, loaded: Loaded)
     requires { tables.old.caps ≡ CAPS }
     ensures { tables.new.caps ≡ CAPS }
 {
-    unload(rt, tables, loaded.signal, 30);
+    assert!(rt; unload(tables, loaded.signal, 30));
     let parents = [ident(Kind::Kernel, 0, 0), loaded.space, loaded.receiver];
-    let next = load(rt, tables, row_name(0, 32), &parents, 32);
+    let next = bring(rt, tables, row_name(0, 32), &parents, 32);
     assert!(rt; next == ident(Kind::Mapping, loaded.signal.slot, 7));
     let never = ident(Kind::Mapping, next.slot, 8);
     let other_kind = Ident {
@@ -116,7 +111,7 @@ fn read(rt: &impl Abort, tables: &mut Tables, alloc: Global) -> Result<(), NoMem
 #[test]
 fn the_tables_tell_what_they_hold(rt: HostRuntime) -> Result<(), Fail> {
     let alloc = rt.alloc();
-    let mut tables = with_first_kernel(&rt, alloc)?;
+    let mut tables = with_first_kernel(alloc)?;
     let done = read(&rt, &mut tables, alloc);
     mem::forget(tables);
     Ok(done?)
@@ -168,8 +163,8 @@ fn change(rt: &impl Abort, tables: &mut Tables, alloc: Global) -> Result<(), NoM
 {
     declare_signals(rt, tables, alloc)?;
     let loaded = load_signals(rt, tables);
-    unload(rt, tables, loaded.thread, 30);
-    unload(rt, tables, loaded.other, 31);
+    assert!(rt; unload(tables, loaded.thread, 30));
+    assert!(rt; unload(tables, loaded.other, 31));
     raise_twice(rt, tables, 0);
     raise_twice(rt, tables, 1);
     mark_twice(rt, tables, 0);
@@ -185,7 +180,7 @@ fn change(rt: &impl Abort, tables: &mut Tables, alloc: Global) -> Result<(), NoM
 #[test]
 fn contents_change_by_their_names(rt: HostRuntime) -> Result<(), Fail> {
     let alloc = rt.alloc();
-    let mut tables = with_first_kernel(&rt, alloc)?;
+    let mut tables = with_first_kernel(alloc)?;
     let done = change(&rt, &mut tables, alloc);
     mem::forget(tables);
     Ok(done?)

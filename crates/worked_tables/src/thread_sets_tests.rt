@@ -2,10 +2,12 @@
 
 ghost use Rattle.std.specs.Prelude.{◌≡◌, []};
 
+use crate::pushes::{note, push};
 use arrayvec::ArrayVec;
 use cache_ident::{NoMemory, SpaceNo, ThreadNo};
 use rv32_exec::{Context, Output, Reason, Status};
 use std::alloc::Global;
+use std::mem;
 use std::process::Abort;
 use std::test::Fail;
 use thread_cache::ThreadRec;
@@ -30,42 +32,25 @@ fn thread(alloc: Global, no: u32, status: Status) -> ThreadRec
     }
 }
 
-fn push(rt: &impl Abort, sets: &mut ThreadSets, thread: &ThreadRec) {
-    assert!(rt; sets.room() > 0);
-    assert!(rt; sets.len() == thread.no.0 as usize);
-    sets.push(thread);
-}
-
-fn note(rt: &impl Abort, sets: &mut ThreadSets, thread: &ThreadRec) {
-    assert!(rt; sets.len() > thread.no.0 as usize);
-    sets.note(thread);
-}
-
 // Brings a hundred threads that are ready.
 fn push_all(rt: &impl Abort, sets: &mut ThreadSets, alloc: Global) -> Result<(), NoMemory> {
     for no in 0..100 {
         sets.make_room()?;
         let thread = thread(alloc, no, Status::Ready);
-        push(rt, sets, &thread);
-        std::mem::forget(thread);
+        assert!(rt; push(sets, &thread));
+        mem::forget(thread);
     }
     Ok(())
 }
 
 fn end_a_thread(rt: &impl Abort, sets: &mut ThreadSets, alloc: Global) -> Result<(), NoMemory> {
     push_all(rt, sets, alloc)?;
-    assert_eq!(rt; (sets.len(), sets.next_completable(0)), (100, None));
-    assert_eq!(rt;
-        (sets.next_ready(40), sets.next_ready(100)),
-        (Some(40), None)
-    );
+    assert!(rt; sets.len() == 100 && sets.next_completable(0) == None);
+    assert!(rt; sets.next_ready(40) == Some(40) && sets.next_ready(100) == None);
     let ended = thread(alloc, 40, Status::Ended(Reason::Exited { code: 0 }));
-    note(rt, sets, &ended);
-    std::mem::forget(ended);
-    assert_eq!(rt;
-        (sets.next_ready(40), sets.next_completable(0)),
-        (Some(41), None)
-    );
+    assert!(rt; note(sets, &ended));
+    mem::forget(ended);
+    assert!(rt; sets.next_ready(40) == Some(41) && sets.next_completable(0) == None);
     Ok(())
 }
 
@@ -74,7 +59,7 @@ fn a_thread_that_ended_is_ready_no_more(rt: HostRuntime) -> Result<(), Fail> {
     let alloc = rt.alloc();
     let mut sets = ThreadSets::new(alloc);
     let done = end_a_thread(&rt, &mut sets, alloc);
-    std::mem::forget(sets);
+    mem::forget(sets);
     Ok(done?)
 }
 
@@ -82,24 +67,21 @@ fn a_thread_that_ended_is_ready_no_more(rt: HostRuntime) -> Result<(), Fail> {
 fn trap(rt: &impl Abort, sets: &mut ThreadSets, thread: &mut ThreadRec)
     requires { thread.old.queue.items ≡ [] }
 {
-    note(rt, sets, thread);
-    assert_eq!(rt;
-        (sets.next_completable(0), sets.next_ready(40)),
-        (Some(40), Some(41))
-    );
+    assert!(rt; note(sets, thread));
+    assert!(rt; sets.next_completable(0) == Some(40) && sets.next_ready(40) == Some(41));
     thread.context.regs[17] = 3;
-    note(rt, sets, thread);
-    assert_eq!(rt; sets.next_completable(0), None);
+    assert!(rt; note(sets, thread));
+    assert!(rt; sets.next_completable(0) == None);
     thread.queue.push(4_096);
-    note(rt, sets, thread);
-    assert_eq!(rt; sets.next_completable(0), Some(40));
+    assert!(rt; note(sets, thread));
+    assert!(rt; sets.next_completable(0) == Some(40));
 }
 
 fn trap_a_thread(rt: &impl Abort, sets: &mut ThreadSets, alloc: Global) -> Result<(), NoMemory> {
     push_all(rt, sets, alloc)?;
     let mut other = thread(alloc, 40, Status::Trapped);
     trap(rt, sets, &mut other);
-    std::mem::forget(other);
+    mem::forget(other);
     Ok(())
 }
 
@@ -108,6 +90,6 @@ fn a_call_waits_for_a_signal(rt: HostRuntime) -> Result<(), Fail> {
     let alloc = rt.alloc();
     let mut sets = ThreadSets::new(alloc);
     let done = trap_a_thread(&rt, &mut sets, alloc);
-    std::mem::forget(sets);
+    mem::forget(sets);
     Ok(done?)
 }

@@ -1,5 +1,5 @@
 use Rattle.std.proofs.Common.{◌≡◌}
-use Rattle.worked_checks.specs.declared.tables.TheConstants.{CAPS}
+use Rattle.worked_samples.specs.declared.records.TheConstants.{CAPS}
 use Rattle.worked_checks.proofs.refusal_tests.load_all.Given as goal
 
 abbrev pub invariant-loop-name : goal.invariant-loop-name

@@ -1,5 +1,5 @@
 use Rattle.std.proofs.Common.{◌≡◌}
-use Rattle.worked_tables.specs.declared.tables.TheConstants.{CAPS}
+use Rattle.worked_samples.specs.declared.records.TheConstants.{CAPS}
 use Rattle.worked_tables.proofs.desc_tables_tests.declare_six_spaces.Given as goal
 
 abbrev pub invariant-loop-no : goal.invariant-loop-no

@@ -1,2 +1,0 @@
-mod LoadedLemmas
-mod PlainLemmas
