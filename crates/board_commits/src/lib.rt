@@ -1,11 +1,8 @@
 //! Pages of quanta, and their steps, on the board.
 #![tactic(auto)]
 
-pub use board_threads as board_threads;
-pub use board_threads::{
-    Ticket, board_core as board_core, board_ops as board_ops, desc_tables as desc_tables,
-    quantum as quantum,
-};
+pub use board_threads as threads;
+pub use board_threads::{Answer, Core, Names, Op, Quantum, Refused, Ticket};
 
 mod commits;
 mod known;

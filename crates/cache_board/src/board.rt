@@ -38,11 +38,7 @@ ghost use Rattle.board_heal.specs.Healed.{IsHealed};
 ghost use Rattle.board_heal.specs.Refusals.{refusal_of_heal};
 ghost use Rattle.cache_board.specs.Boards.{refusal_of_machine};
 
-use board_commits::board_core::Core;
-use board_commits::board_ops::Refused;
-use board_commits::desc_tables::Names;
-use board_commits::quantum::Quantum;
-use board_commits::{Ticket, board_threads};
+use board_commits::{Core, Names, Quantum, Refused, Ticket, threads};
 use cache_ident::{Ident, KernelNo, Kind, NoMemory, SpaceNo, ThreadNo, Vpn};
 use flat_rules::{Records, rule_of_machine};
 use flat_state::{Decl, Machine, Settled};
@@ -240,7 +236,7 @@ impl Board {
         ensures ticket { IfSome result (IsTicketFor self.old cpu) }
         ensures out { IfSome result (λ ticket. IsCheckedOut ticket.no cpu self.old self.new) }
     {
-        board_threads::checkout(&mut self.core, cpu)
+        threads::checkout(&mut self.core, cpu)
     }
 
     /// Copies the page of a loaded row of the ticket's thread into a quantum that has room for it, whatever the row's flags.
@@ -276,7 +272,7 @@ impl Board {
         ensures back { (whom : ThreadNo) → IsOutWith self.old ticket.now whom → HasComeBack whom self.old self.new }
         ensures stays { ((whom : ThreadNo) → IsOutWith self.old ticket.now whom → ⊥) → self.new ≡ self.old }
     {
-        board_threads::leave(&mut self.core, ticket);
+        threads::leave(&mut self.core, ticket);
     }
 
     /// No thread is on a processor any more.
@@ -284,7 +280,7 @@ impl Board {
         ensures only { OnlyMarks self.old self.new }
         ensures none { (whom : ThreadNo) → mark_of (contents_of self.new) whom ≡ None }
     {
-        board_threads::clear_marks(&mut self.core);
+        threads::clear_marks(&mut self.core);
     }
 
     /// Completes the call that a loaded thread is in (`NotTrapped`, `WaitEmpty`). What is loaded and would then no longer
@@ -308,7 +304,7 @@ impl Board {
         ensures enough { HasSpare self.old 22 → IfErr result (λ why. why ≢ NoMemory) }
         ensures ended { OnOk result (HasEnded thread cpu self.old self.new) }
     {
-        board_threads::confirm_fault(&mut self.core, cpu, caller, thread)
+        threads::confirm_fault(&mut self.core, cpu, caller, thread)
     }
 
     /// Loads all that the next step of a thread needs, and takes it. Refused where there is no such thread (`NotDeclared`), it
@@ -332,14 +328,14 @@ impl Board {
     pub fn want(&self) -> Option<ThreadNo>
         ensures { IsWanted self.now result }
     {
-        board_threads::want(&self.core)
+        threads::want(&self.core)
     }
 
     /// Whether the run is over.
     pub fn settled(&self) -> Settled
         ensures { result ≡ settled_of (state_of self.now.machine) self.now.steps self.now.limit }
     {
-        board_threads::settled(&self.core)
+        threads::settled(&self.core)
     }
 
     /// How many steps the journal has.

@@ -1,7 +1,6 @@
 //! What each processor has on its desk.
 
-use board_commits::Ticket;
-use board_commits::quantum::Quantum;
+use board_commits::{Quantum, Ticket};
 use cache_ident::NoMemory;
 use std::alloc::Global;
 

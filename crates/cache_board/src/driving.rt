@@ -2,7 +2,7 @@
 
 use crate::board::Board;
 use crate::desk::{Desk, PROCESSORS};
-use board_commits::board_ops::{Answer, Op, Refused};
+use board_commits::{Answer, Op, Refused};
 use cache_ident::{Ident, NoMemory, Vpn};
 
 /// Does each operation on the board that the ones before it left, and adds its answer. Room for the answers is made first;

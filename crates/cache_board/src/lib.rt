@@ -11,8 +11,6 @@ mod driving;
 mod histories;
 
 pub use board::Board;
-pub use board_commits::Ticket;
-pub use board_commits::board_ops::{Answer, Op, Refused};
-pub use board_commits::desc_tables::Names;
+pub use board_commits::{Answer, Names, Op, Refused, Ticket};
 pub use desk::Desk;
 pub use driving::drive;

@@ -9,8 +9,7 @@ ghost use Rattle.worked_checks.specs.Formed.{AreFormedRows, IsFirstAlone, IsForm
 
 use crate::tables::*;
 use crate::threads::thread;
-use board_checks::desc_tables::{Item, ItemRef, Tables};
-use board_checks::{Keep, check_load_mapping, keep_of};
+use board_checks::{Item, ItemRef, Keep, Tables, check_load_mapping, keep_of};
 use cache_ident::{Ident, KernelNo, Kind, Name, NoMemory, SpaceNo, ThreadNo, Vpn};
 use phys_groups::Row;
 use std::alloc::Global;

@@ -7,7 +7,7 @@ ghost use Rattle.cache_ident.specs.Rolls.{standing_in};
 ghost use Rattle.board_checks.specs.desc_stores.specs.Contents.{content_of, residents_of};
 ghost use Rattle.board_checks.specs.desc_groups.specs.Moves.{HasPlaces};
 
-use board_checks::desc_tables::{Item, Tables};
+use board_checks::{Item, Tables};
 use cache_ident::{Caps, Frame, Ident, KernelNo, Name, NoMemory, SpaceNo, Standing, ThreadNo, Vpn};
 use kernel_cache::KernelRec;
 use phys_groups::{Flags, Rights, Row};

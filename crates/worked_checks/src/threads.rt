@@ -3,7 +3,7 @@
 ghost use Rattle.board_checks.specs.desc_tables.specs.Likes.{IsThreadOf};
 
 use arrayvec::ArrayVec;
-use board_checks::desc_tables::Item;
+use board_checks::Item;
 use cache_ident::{SpaceNo, ThreadNo};
 use rv32_exec::{Context, Output, Status};
 use std::alloc::Global;

@@ -1,7 +1,7 @@
 //! A space with a sender, a receiver and their rows, of which some leave.
 
 use cache_ident::{Caps, Frame, Ident, KernelNo, Kind, Name, SpaceNo, ThreadNo, Vpn};
-use journal_facts::flat_machine::{Decl, Event, Flat, GREATEST_CAPS, Machine};
+use flat_machine::{Decl, Event, Flat, GREATEST_CAPS, Machine};
 use journal_facts::journal_groups::*;
 use phys_groups::Flags;
 use residents::{Held, Residents};

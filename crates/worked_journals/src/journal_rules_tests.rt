@@ -1,7 +1,7 @@
 //! A sender, which takes its message row or its kernel's rights away by a call, and a receiver, in one space.
 
 use cache_ident::{Caps, Cause, Class, Frame, Ident, KernelNo, Kind, Name, SpaceNo, ThreadNo, Vpn};
-use journal_facts::flat_machine::{Decl, Event, Flat, GREATEST_CAPS, Machine};
+use flat_machine::{Decl, Event, Flat, GREATEST_CAPS, Machine};
 use journal_facts::journal_rules::*;
 use phys_groups::Flags;
 use residents::{FrameRows, Residents};

@@ -1,7 +1,7 @@
 //! A kernel with one space and one thread in it, of each of which it may lock at most one.
 
 use cache_ident::{Caps, Ident, KernelNo, Kind, Name, SpaceNo, ThreadNo};
-use journal_facts::flat_machine::{Decl, Event, Flat, GREATEST_CAPS, Machine};
+use flat_machine::{Decl, Event, Flat, GREATEST_CAPS, Machine};
 use journal_facts::journal_tables::*;
 use residents::Held;
 use std::alloc::Global;

@@ -12,8 +12,7 @@ ghost use Rattle.desc_tables.specs.desc_parents.specs.Seen.{seen, HasPlainRows};
 
 use arrayvec::ArrayVec;
 use cache_ident::{Caps, Frame, Ident, KernelNo, Kind, Name, NoMemory, SpaceNo, ThreadNo, Vpn};
-use desc_tables::desc_parents::{is_fit, kernel_of, parents_of};
-use desc_tables::desc_stores::{Item, ItemRef, Stores};
+use desc_tables::{Item, ItemRef, Stores, is_fit, kernel_of, parents_of};
 use kernel_cache::KernelRec;
 use phys_groups::{Flags, Rights, Row};
 use rv32_exec::{Context, Output, Status};
