@@ -1,5 +1,5 @@
 # shellcheck shell=bash disable=SC2154
-# Read by run, build, .ci/run and tests/run: which programs are proved and built from the sources as they are, and how to
+# Read by run, drive, build, .ci/run and tests/run: which programs are proved and built from the sources as they are, and how to
 # run one. Who reads it has set `top` to the repository's folder, and `script` to its own name.
 #
 # A proved program stands in out/proved/SUM/, where SUM is a sum of all that it was made from: the bytes of the sources,
@@ -7,7 +7,7 @@
 # tenths of a second, so the file out/proved/listing holds the last one that was found, with a line for each source that
 # says when it was last changed; as long as those lines are the same, so is the sum.
 
-programs=(v_run)
+programs=(v_run v_drive)
 about_trying='about 20 seconds'
 about_proving='about 15 minutes on four processors from nothing'
 proved_folder="$top/out/proved"

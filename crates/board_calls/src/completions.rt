@@ -16,8 +16,7 @@ ghost use Rattle.board_calls.specs.Departures.{HasLeftIf, HaveLeft};
 
 use crate::leaving::leaving;
 use board_checks::check_complete;
-use board_core::Core;
-use board_core::board_ops::Refused;
+use board_core::{Core, Refused};
 use cache_ident::{Ident, Standing};
 use flat_rules::Records;
 use std::alloc::Global;

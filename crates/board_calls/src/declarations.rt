@@ -5,8 +5,7 @@ ghost use Rattle.board_core.specs.board_ops.specs.declared.refusals.Refused.TheV
 ghost use Rattle.board_core.specs.Answers.{HasSpare, IsRefused};
 ghost use Rattle.board_calls.specs.Calls.{refusal_of_declare, refusal_of_seal, IsDeclaring, IsSealing};
 
-use board_core::Core;
-use board_core::board_ops::Refused;
+use board_core::{Core, Refused};
 use cache_ident::{Ident, KernelNo, Name};
 use flat_rules::{Records, admit};
 use flat_state::Decl;

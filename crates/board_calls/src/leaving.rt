@@ -20,9 +20,8 @@ ghost use Rattle.board_core.specs.desc_stores.specs.Sound.{IsExactlyOne};
 ghost use Rattle.board_core.specs.cached_machine.specs.Cached.{state_of};
 ghost use Rattle.board_calls.specs.Leaving.{after_grant, goes_so, is_absent as is_absent_def, is_message as is_message_def, lacks_rows as lacks_rows_def, passes, AddsThose, AreBad, GoesFor, GoesForDecl, IsRowAs, IsRowInGroup};
 
-use board_core::cached_machine::CachedMachine;
-use board_core::desc_tables::ItemRef;
-use board_core::flat_events::{Asked, asks};
+use board_core::events::{Asked, asks};
+use board_core::{CachedMachine, ItemRef};
 use cache_ident::{Frame, Ident, KernelNo, Name, NoMemory, SpaceNo, ThreadNo, Vpn};
 use flat_rules::{Records, rights_of};
 use flat_state::Decl;

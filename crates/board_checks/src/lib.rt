@@ -5,9 +5,6 @@
 //! tested elsewhere. No check takes memory, and each takes a time logarithmic in what is there.
 #![tactic(auto)]
 
-pub use board_ops as board_ops;
-pub use desc_tables as desc_tables;
-
 mod completions;
 mod fits;
 mod holds;
@@ -16,7 +13,9 @@ mod keeps;
 mod loads;
 mod owners;
 
+pub use board_ops::Refused;
 pub use completions::{check_complete, check_thread};
+pub use desc_tables::{Item, ItemRef, Tables};
 pub use holds::{check_lock, check_unload, check_unlock};
 pub use idents::{kernel_as, live, receiver_as, space_as, thread_as};
 pub use keeps::{Keep, MOST_KEPT, keep_of};

@@ -13,12 +13,7 @@ ghost use Rattle.board_commits.specs.Tickets.{AreOfTicket};
 
 use crate::known::tables_of;
 use crate::pages::thread_of;
-use board_threads::board_checks::live;
-use board_threads::board_core::Core;
-use board_threads::board_ops::Refused;
-use board_threads::desc_tables::Tables;
-use board_threads::quantum::{PageView, Quantum};
-use board_threads::{Ticket, check_steps};
+use board_threads::{Core, PageView, Quantum, Refused, Tables, Ticket, check_steps, live};
 use cache_ident::ThreadNo;
 use flat_rules::Records;
 use phys_groups::Memory;

@@ -1,6 +1,9 @@
 //! Pages of quanta, and their steps, on the board.
 #![tactic(auto)]
 
+pub use board_threads as threads;
+pub use board_threads::{Answer, Core, Names, Op, Quantum, Refused, Ticket};
+
 mod commits;
 mod known;
 mod laws;

@@ -15,11 +15,7 @@ ghost use Rattle.board_commits.specs.Refusals.{refusal_of_page};
 ghost use Rattle.board_commits.specs.Tickets.{AreOfTicket};
 
 use crate::known::tables_of;
-use board_threads::Ticket;
-use board_threads::board_checks::thread_as;
-use board_threads::board_core::Core;
-use board_threads::board_ops::Refused;
-use board_threads::quantum::Quantum;
+use board_threads::{Core, Quantum, Refused, Ticket, thread_as};
 use cache_ident::{Name, Vpn};
 use flat_rules::Records;
 use thread_cache::ThreadRec;

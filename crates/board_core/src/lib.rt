@@ -2,12 +2,6 @@
 //! operation is made of. Each move writes its entries.
 #![tactic(auto)]
 
-pub use board_ops as board_ops;
-pub use cached_machine as cached_machine;
-pub use cached_machine::{
-    desc_tables as desc_tables, flat_events as flat_events, quantum as quantum,
-};
-
 mod core_record;
 mod opening;
 mod places;
@@ -16,4 +10,8 @@ mod rooms;
 mod running;
 mod taking_over;
 
+pub use board_ops::{Answer, Op, Refused};
+pub use cached_machine::{
+    CachedMachine, ItemRef, Names, PageView, Quantum, Tables, events as events,
+};
 pub use core_record::Core;

@@ -16,7 +16,7 @@ ghost use Rattle.board_core.specs.Growth.{count_loaded, count_unkept, GrowsBy, M
 
 use crate::core_record::{Core, known, next_place, note};
 use cache_ident::{Ident, Name};
-use cached_machine::desc_tables::Gone;
+use cached_machine::Gone;
 use run_journal::{Entry, Journal};
 
 impl Core {

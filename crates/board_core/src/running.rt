@@ -25,8 +25,7 @@ ghost use Rattle.board_core.specs.Stamps.{frame_stored as frame_stored_def};
 use crate::core_record::{Core, known, note, put_stamp};
 use crate::taking_over::take_over;
 use cache_ident::{Frame, Name, NoMemory, ThreadNo};
-use cached_machine::CachedMachine;
-use cached_machine::quantum::Quantum;
+use cached_machine::{CachedMachine, Quantum};
 use flat_rules::{Records, next_step};
 use flat_state::NextStep;
 use run_journal::Entry;
@@ -53,7 +52,7 @@ impl Core {
         ensures steps { self.new.steps ≡ self.old.steps + 1 }
     {
         let stored = frame_stored(&self.machine, next);
-        cached_machine::flat_events::step(&mut self.machine, no);
+        cached_machine::events::step(&mut self.machine, no);
         self.steps += 1;
         note(&mut self.journal, entry_of_step(no, next.faults, cpu));
         put_stamp(&mut self.stamps, stored, self.journal.len());

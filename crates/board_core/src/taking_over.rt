@@ -11,8 +11,7 @@ ghost use Rattle.board_core.specs.Stamps.{AreStamped, HaveStamps};
 
 use crate::core_record::put_stamp;
 use cache_ident::{SpaceNo, ThreadNo};
-use cached_machine::CachedMachine;
-use cached_machine::quantum::{PageView, Paused, Quantum};
+use cached_machine::{CachedMachine, PageView, Paused, Quantum};
 use flat_rules::{Records, Steps, thread_at};
 use rv32_exec::Status;
 

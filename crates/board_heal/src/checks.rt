@@ -11,9 +11,7 @@ ghost use Rattle.board_core.specs.cached_machine.specs.Posts.{mark_of};
 ghost use Rattle.board_core.specs.board_ops.specs.declared.refusals.Refused.TheVariants as why;
 ghost use Rattle.board_heal.specs.Refusals.{none_left, not_ready, not_sealed, refusal_of_heal};
 
-use board_core::Core;
-use board_core::board_ops::Refused;
-use board_core::cached_machine::CachedMachine;
+use board_core::{CachedMachine, Core, Refused};
 use cache_ident::{Name, ThreadNo};
 use flat_rules::{Records, full_receiver, is_ready};
 use thread_cache::ThreadRec;

@@ -11,8 +11,7 @@ ghost use Rattle.board_heal.specs.Refusals.{refusal_of_heal};
 use crate::checks::check_heal;
 use crate::loads::{load_missing, machine_of};
 use board_chains::{MOST_CHAINED, chain_of};
-use board_core::Core;
-use board_core::board_ops::Refused;
+use board_core::{Core, Refused};
 use cache_ident::ThreadNo;
 use flat_state::NextStep;
 

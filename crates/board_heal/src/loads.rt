@@ -8,8 +8,7 @@ ghost use Rattle.board_core.specs.Core.{IsSound};
 ghost use Rattle.board_heal.specs.Loads.{IsThereNow, MayComeNext};
 
 use board_chains::loaded_among;
-use board_core::Core;
-use board_core::cached_machine::CachedMachine;
+use board_core::{CachedMachine, Core};
 use cache_ident::Name;
 
 // Loads a descriptor of a chain, if it isn't loaded, while what is loaded of the chain stays.

@@ -9,8 +9,7 @@ ghost use Rattle.board_loads.specs.Holds.{IsLockedAs, IsUnloadedAs};
 
 use crate::tables::tables_of;
 use board_checks::{check_lock, check_unload, check_unlock};
-use board_core::Core;
-use board_core::board_ops::Refused;
+use board_core::{Core, Refused};
 use cache_ident::Ident;
 
 /// Unloads what is loaded with an identifier for the kernel `caller`, which has to own it, and before it all that depends on it.

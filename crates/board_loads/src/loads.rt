@@ -18,8 +18,7 @@ use crate::tables::tables_of;
 use board_checks::{
     check_load_kernel, check_load_mapping, check_load_space, check_load_thread, keep_of,
 };
-use board_core::Core;
-use board_core::board_ops::Refused;
+use board_core::{Core, Refused};
 use cache_ident::{Ident, KernelNo, Name, SpaceNo, ThreadNo, Vpn};
 
 /// Loads a kernel for the kernel `caller`, which has to be the first one, and answers the new identifier.

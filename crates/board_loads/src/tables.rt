@@ -6,8 +6,7 @@ ghost use Rattle.depend_lists.specs.declared.nodes.Node.{Node};
 ghost use Rattle.board_core.specs.desc_tables.specs.Tables.{AreSound};
 ghost use Rattle.board_core.specs.Core.{IsSound};
 
-use board_core::Core;
-use board_core::desc_tables::Tables;
+use board_core::{Core, Tables};
 
 /// The tables. Whoever asks for them learns what holds of them, and of the whole board.
 pub(crate) fn tables_of(core: &Core) -> &Tables

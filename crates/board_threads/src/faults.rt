@@ -15,9 +15,7 @@ ghost use Rattle.board_threads.specs.Refusals.{not_faulting, not_waiting, refusa
 use crate::known::{is_loaded, known};
 use crate::limits::check_steps;
 use board_checks::check_thread;
-use board_core::Core;
-use board_core::board_ops::Refused;
-use board_core::cached_machine::CachedMachine;
+use board_core::{CachedMachine, Core, Refused};
 use cache_ident::{Ident, Name, SpaceNo, ThreadNo, Vpn};
 use flat_state::NextStep;
 use rv32_exec::Status;

@@ -11,8 +11,7 @@ ghost use Rattle.board_core.specs.cached_machine.specs.Cached.{is_loaded as is_l
 ghost use Rattle.board_core.specs.Core.{contents_of, IsSound};
 ghost use Rattle.board_threads.specs.Tests.{goes_on};
 
-use board_core::Core;
-use board_core::desc_tables::ItemRef;
+use board_core::{Core, ItemRef};
 use cache_ident::{Name, ThreadNo};
 use flat_rules::Records;
 use thread_cache::ThreadRec;

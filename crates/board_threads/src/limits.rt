@@ -4,8 +4,7 @@ ghost use Rattle.std.specs.Prelude.{◌≡◌};
 ghost use Rattle.std.specs.Result.{result_err};
 ghost use Rattle.board_threads.specs.Refusals.{over};
 
-use board_core::Core;
-use board_core::board_ops::Refused;
+use board_core::{Core, Refused};
 
 /// Refuses more steps than are left (`Over`).
 #[tactic(auto, unfolding(crate::specs::Refusals::over))]

@@ -20,7 +20,7 @@ use crate::machine::CachedMachine;
 use crate::reading::known;
 use crate::stepping::note;
 use cache_ident::{Name, NoMemory, SpaceNo, ThreadNo, Vpn};
-use flat_machine::flat_events::{Asked, asks};
+use flat_machine::events::{Asked, asks};
 use flat_rules::Steps;
 use flat_thread::refusal;
 use thread_cache::ThreadRec;

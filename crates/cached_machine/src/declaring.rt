@@ -8,7 +8,7 @@ ghost use Rattle.cached_machine.specs.Moved.{IsMade, MayBeMade, OnlyRoom};
 use crate::machine::CachedMachine;
 use crate::reading::known;
 use arrayvec::ArrayVec;
-use board_laws::desc_tables::Item;
+use board_laws::Item;
 use cache_ident::{Caps, Frame, KernelNo, NoMemory, SpaceNo, ThreadNo, Vpn};
 use flat_machine::new_context;
 use flat_state::Decl;

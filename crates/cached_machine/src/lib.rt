@@ -4,9 +4,6 @@
 //! reads, and every step, is that of the machine with unlimited tables that it shows, and a step moves no descriptor.
 #![tactic(auto)]
 
-pub use board_laws::{desc_tables as desc_tables, quantum as quantum};
-pub use flat_machine::flat_events as flat_events;
-
 mod completing;
 mod declaring;
 mod machine;
@@ -19,4 +16,6 @@ mod rooms;
 mod stepping;
 mod steps;
 
+pub use board_laws::{Gone, ItemRef, Names, PageView, Paused, Quantum, Tables};
+pub use flat_machine::events as events;
 pub use machine::CachedMachine;

@@ -6,7 +6,7 @@ ghost use Rattle.flat_state.specs.Declaration.{rule_of_machine};
 ghost use Rattle.board_laws.specs.desc_stores.specs.Changes.{IsNothing};
 ghost use Rattle.cached_machine.specs.Cached.{state_of};
 
-use board_laws::desc_tables::Tables;
+use board_laws::Tables;
 use cache_ident::{Caps, NoMemory, ThreadNo};
 use flat_state::Machine;
 use phys_groups::Memory;

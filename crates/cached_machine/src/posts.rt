@@ -4,7 +4,7 @@ ghost use Rattle.std.specs.Prelude.{◌≡◌, IsSome};
 ghost use Rattle.board_laws.specs.desc_stores.specs.Contents.{content_of};
 ghost use Rattle.cached_machine.specs.Posts.{posted, IsPosted};
 
-use board_laws::desc_tables::Tables;
+use board_laws::Tables;
 use cache_ident::{Name, ThreadNo};
 use thread_cache::ThreadRec;
 

@@ -11,7 +11,7 @@ ghost use Rattle.cached_machine.specs.Posts.{but_at, last_of, mark_of, IsChecked
 use crate::machine::CachedMachine;
 use crate::posts::{Post, send};
 use crate::reading::known;
-use board_laws::desc_tables::ItemRef;
+use board_laws::ItemRef;
 use cache_ident::{Name, ThreadNo};
 
 impl CachedMachine {

@@ -11,7 +11,7 @@ ghost use Rattle.board_laws.specs.shown_state.specs.Found.{AreFound, AreListed};
 ghost use Rattle.board_laws.specs.shown_state.specs.Shown.{flat_kernel, flat_thread, kernel_of as kernel_in, row_of_item, shown, space_of, thread_of};
 
 use arrayvec::ArrayVec;
-use board_laws::desc_tables::{ItemRef, Tables};
+use board_laws::{ItemRef, Tables};
 use cache_ident::{Frame, KernelNo, Name, SpaceNo, ThreadNo, Vpn};
 use kernel_cache::KernelRec;
 use phys_groups::{Rights, Row};

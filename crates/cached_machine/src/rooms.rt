@@ -14,7 +14,7 @@ ghost use Rattle.cached_machine.specs.Moved.{OnlyRoom};
 ghost use Rattle.thread_sets.specs.SetsOf.{AreSetsOf};
 
 use crate::machine::CachedMachine;
-use board_laws::desc_tables::Tables;
+use board_laws::Tables;
 use cache_ident::{Frame, NoMemory};
 use thread_sets::ThreadSets;
 

@@ -5,7 +5,7 @@ ghost use Rattle.board_laws.specs.desc_stores.specs.Contents.{content_of};
 ghost use Rattle.cached_machine.specs.Stepping.{left_by, IfThread, IsMarked, IsStepped};
 ghost use Rattle.thread_sets.specs.Sets.{noted};
 
-use board_laws::desc_tables::{ItemRef, Tables};
+use board_laws::{ItemRef, Tables};
 use cache_ident::{Name, SpaceNo, ThreadNo, Vpn};
 use phys_groups::Row;
 use rv32_exec::{Context, Status};

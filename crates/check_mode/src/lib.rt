@@ -6,6 +6,7 @@ mod parts;
 mod texts;
 
 pub use answers::{Checked, answer};
+pub use parts::parts;
 
 #[cfg(test)]
 mod tests;

@@ -38,7 +38,7 @@ fn is_end(line: &[u8]) -> bool
 
 /// The text up to the first line whose only field is `end`, with that line, and what stands behind it. Where there is no such line
 /// nothing stands behind. It takes time for the first part.
-pub(crate) fn parts(text: &[u8]) -> (&[u8], &[u8])
+pub fn parts(text: &[u8]) -> (&[u8], &[u8])
     ensures scenario { result.0.now ≡ scenario_part text.now }
     ensures journal { result.1.now ≡ journal_part text.now }
 {

@@ -24,9 +24,7 @@ ghost use Rattle.desc_admits.specs.Admits.{AreFewOf, AreKept, AreLoaded, HasLock
 ghost use Rattle.desc_admits.specs.May.{HasNoMessages, IsNewItem, IsNewKernel, IsNewRow, MayBeDeclared, MayBeLoaded, wanted_of};
 
 use cache_ident::{Caps, Frame, Ident, KernelNo, Kind, Name, ThreadNo};
-use desc_groups::desc_parents::{is_fit, parents_of};
-use desc_groups::desc_stores::{Item, ItemRef, Stores};
-use desc_groups::owner_of;
+use desc_groups::{Item, ItemRef, Stores, is_fit, owner_of, parents_of};
 use kernel_cache::KernelRec;
 use phys_groups::{Flags, Row};
 

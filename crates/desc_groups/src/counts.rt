@@ -12,7 +12,7 @@ ghost use Rattle.desc_parents.specs.desc_stores.specs.Sound.{AreOwned};
 ghost use Rattle.desc_groups.specs.Moves.{counted_down, counted_up, with_amount, IsPutKernel};
 
 use cache_ident::{Caps, KernelNo, Kind, Name};
-use desc_parents::desc_stores::{ItemRef, Stores};
+use desc_parents::{ItemRef, Stores};
 
 /// The record of a kernel, which may lock more of the kind, has one more that is locked.
 pub(crate) fn count_up(stores: &mut Stores, kernel: KernelNo, kind: Kind)

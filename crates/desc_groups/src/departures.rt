@@ -22,8 +22,7 @@ use crate::counts::count_down;
 use crate::owners::{class_of, each_is_one, owner_by};
 use cache_ident::{Cause, Ident};
 use depend_lists::Node;
-use desc_parents::desc_stores::Stores;
-use desc_parents::resident_pairs::ResidentPairs;
+use desc_parents::{ResidentPairs, Stores};
 
 /// A descriptor that left its cache, and why.
 #[derive(Clone, Copy, PartialEq, Eq, Debug)]

@@ -14,8 +14,7 @@ ghost use Rattle.desc_groups.specs.Moves.{MayEnter};
 use crate::owners::{class_of, each_is_one};
 use cache_ident::{Ident, Name};
 use depend_lists::Node;
-use desc_parents::desc_stores::Stores;
-use desc_parents::resident_pairs::ResidentPairs;
+use desc_parents::{ResidentPairs, Stores};
 
 /// Loads a descriptor from the shelf into the lowest free slot of its kind, with an identifier that is issued now. It isn't
 /// locked, and depends on the parents, which are those of all that it depends on.

@@ -3,9 +3,6 @@
 //! The calls are over the contents of all kinds and the pairs of what depends on what, which the tables above keep as one.
 #![tactic(auto)]
 
-pub use desc_parents as desc_parents;
-pub use desc_parents::{desc_stores as desc_stores, resident_pairs as resident_pairs};
-
 mod counts;
 mod departures;
 mod entering;
@@ -14,6 +11,9 @@ mod owners;
 mod places;
 
 pub use departures::{Gone, leave};
+pub use desc_parents::{
+    Item, ItemRef, Parents, ResidentPairs, Stores, is_fit, kernel_of, parents_of,
+};
 pub use entering::enter;
 pub use locks::{lock, unlock};
 pub use owners::{class_of, owner_of};

@@ -11,7 +11,7 @@ ghost use Rattle.desc_groups.specs.Moves.{KeepsButCounts, MayBeLocked};
 use crate::counts::{count_down, count_up};
 use crate::owners::{each_is_one, owner_by};
 use cache_ident::Ident;
-use desc_parents::desc_stores::Stores;
+use desc_parents::Stores;
 
 /// Locks a loaded descriptor, so that it is no victim, and counts it with its owner. Nothing changes where it is locked
 /// already.

@@ -13,8 +13,7 @@ ghost use Rattle.cache_ident.specs.declared.names.Name.{Name};
 ghost use Rattle.desc_parents.specs.Seen.{seen};
 
 use cache_ident::{Class, Ident, KernelNo, Name};
-use desc_parents::desc_stores::{ItemRef, Stores};
-use desc_parents::kernel_of;
+use desc_parents::{ItemRef, Stores, kernel_of};
 use phys_groups::Row;
 
 /// The kernel that owns a descriptor; `None` where there is none of that name. The first kernel owns kernels, a kernel its

@@ -12,7 +12,7 @@ ghost use Rattle.desc_parents.specs.Seen.{seen, HasPlainRows};
 
 use cache_ident::{KernelNo, Name, SpaceNo};
 use phys_groups::{Rights, Row};
-use store_residents::desc_stores::{ItemRef, Stores};
+use store_residents::{ItemRef, Stores};
 
 /// The kernel of a space; `None` where there is no such space. One search.
 pub fn kernel_of(stores: &Stores, space: SpaceNo) -> Option<KernelNo>

@@ -13,7 +13,7 @@ use arrayvec::ArrayVec;
 use cache_ident::{Frame, Ident, Name};
 use depend_lists::MOST_PARENTS;
 use phys_groups::Row;
-use store_residents::desc_stores::{ItemRef, Stores};
+use store_residents::{ItemRef, Stores};
 
 /// The identifiers of what a descriptor depends on: a message row depends on its space and at most four signal rows, any
 /// other row on its space and its receiver.

@@ -3,8 +3,6 @@
 //! `flat_events` over its tables.
 #![tactic(auto)]
 
-pub use flat_events as flat_events;
-
 mod apply;
 mod changes;
 mod flat;
@@ -14,6 +12,7 @@ pub use apply::new_context;
 pub use cache_ident::NoMemory;
 pub use changes::{answer_to, carry_out_of, give_to, store_in};
 pub use flat::Flat;
+pub use flat_events as events;
 pub use flat_state::{
     DataAccess, Decl, Event, FlatKernel, FlatThread, GREATEST_CAPS, MOST_DECLARED, Machine,
     NextStep, Settled, Signal,

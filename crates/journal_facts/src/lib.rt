@@ -2,11 +2,6 @@
 //! what is known behind it.
 #![tactic(auto)]
 
-pub use journal_groups as journal_groups;
-pub use journal_groups::{
-    flat_machine as flat_machine, journal_rules as journal_rules, journal_tables as journal_tables,
-};
-
 mod facts;
 mod order;
 mod rules;

@@ -13,8 +13,8 @@ ghost use Rattle.journal_tables.specs.Whole.{AreApart};
 
 use crate::gone::Gone;
 use cache_ident::{Kind, NoMemory};
-use journal_tables::flat_machine::Flat;
-use journal_tables::journal_rules::{class, has_parents};
+use journal_tables::Flat;
+use journal_tables::rules::{class, has_parents};
 use residents::{Held, Residents};
 use std::alloc::Global;
 

@@ -2,14 +2,13 @@
 //! thread may take its steps, and whether its call may be completed.
 #![tactic(auto)]
 
-pub use flat_machine as flat_machine;
-
 mod calls;
 mod follow;
 mod names;
 mod steps;
 
 pub use calls::complete;
+pub use flat_machine::Flat;
 pub use follow::is_followed;
 pub use names::{cap, class, frame, has_parents, limit, owner, stands, stays_good};
 pub use steps::{may_step, run};

@@ -2,13 +2,12 @@
 //! each kind, what depends on what, the rows of each frame, and how many are locked.
 #![tactic(auto)]
 
-pub use journal_rules as journal_rules;
-pub use journal_rules::flat_machine as flat_machine;
-
 mod kind_slots;
 mod laws;
 mod locks;
 mod tables;
 
+pub use journal_rules as rules;
+pub use journal_rules::Flat;
 pub use laws::what_is_resident_stays_through_events;
 pub use tables::Tables;

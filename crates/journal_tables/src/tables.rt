@@ -21,8 +21,7 @@ ghost use Rattle.journal_tables.specs.Locks.{RecountsIf};
 use crate::kind_slots::KindSlots;
 use crate::locks::Locks;
 use cache_ident::{Ident, Kind, Name, NoMemory};
-use journal_rules::flat_machine::Flat;
-use journal_rules::{cap, frame, limit, owner, stays_good};
+use journal_rules::{Flat, cap, frame, limit, owner, stays_good};
 use residents::{Dependents, FrameRows, Held, Residents};
 use std::alloc::Global;
 

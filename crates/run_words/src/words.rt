@@ -43,7 +43,7 @@ impl Words {
         Ok(())
     }
 
-    pub(crate) fn as_slice(&self) -> &[String]
+    pub fn as_slice(&self) -> &[String]
         ensures { map string_bytes result.now ≡ self.now }
     {
         self.words.as_slice()

@@ -3,12 +3,14 @@
 
 mod blocks;
 mod fault;
+mod opening;
 mod places;
 mod reader;
 mod scenario;
 mod standing;
 
 pub use fault::ScenarioFault;
+pub use opening::read_opening;
 pub use scenario::{Scenario, read};
 
 #[cfg(test)]

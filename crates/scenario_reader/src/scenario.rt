@@ -44,7 +44,12 @@ impl Scenario {
 impl Reader {
     // What a line makes of the reading, by the place at which it stands.
     #[tactic(auto, unfolding(crate::specs::Scenarios::step))]
-    fn step(&mut self, alloc: Global, number: u64, line: &[u8]) -> Result<(), ScenarioFault>
+    pub(crate) fn step(
+        &mut self,
+        alloc: Global,
+        number: u64,
+        line: &[u8],
+    ) -> Result<(), ScenarioFault>
         ensures { Takes reader_view result self.new (step number (reader_view self.old) line.now) }
     {
         self.number = number;
@@ -72,7 +77,7 @@ impl Reader {
 
     // Behind the last line.
     #[tactic(auto, unfolding(crate::specs::Scenarios::finish))]
-    fn finish(self, alloc: Global) -> Result<Scenario, ScenarioFault>
+    pub(crate) fn finish(self, alloc: Global) -> Result<Scenario, ScenarioFault>
         ensures { Answers (λ s. s) result (finish (reader_view self)) }
     {
         match self.place {

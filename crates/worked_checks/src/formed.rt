@@ -7,7 +7,7 @@ ghost use Rattle.board_checks.specs.desc_parents.specs.Seen.{seen};
 ghost use Rattle.board_checks.specs.Facts.{IsFormed};
 ghost use Rattle.worked_checks.specs.Formed.{AreFormedRows, IsFirstAlone, IsFormedName, IsFormedRow, IsFormedThread, IsThreadAlone};
 
-use board_checks::desc_tables::{ItemRef, Tables};
+use board_checks::{ItemRef, Tables};
 use cache_ident::{KernelNo, Name, SpaceNo, ThreadNo};
 use phys_groups::Row;
 use thread_cache::ThreadRec;

@@ -3,12 +3,16 @@
 ghost use Rattle.std.specs.Prelude.{◌≡◌};
 
 use crate::tables::*;
+<<<<<<< HEAD
 use board_checks::board_ops::Refused;
 use board_checks::desc_tables::{Item, Tables};
+=======
+use crate::threads::thread;
+>>>>>>> origin/work
 use board_checks::{
-    check_complete, check_load_kernel, check_load_mapping, check_load_space, check_load_thread,
-    check_lock, check_thread, check_unload, check_unlock, kernel_as, live, owner_of, receiver_as,
-    space_as, thread_as,
+    Item, Refused, Tables, check_complete, check_load_kernel, check_load_mapping, check_load_space,
+    check_load_thread, check_lock, check_thread, check_unload, check_unlock, kernel_as, live,
+    owner_of, receiver_as, space_as, thread_as,
 };
 use cache_ident::{Caps, Frame, Ident, KernelNo, Kind, Name, NoMemory, SpaceNo, ThreadNo, Vpn};
 use rv32_exec::Status;

@@ -2,8 +2,17 @@
 
 ghost use Rattle.std.specs.Prelude.{◌≡◌};
 
-use board_checks::desc_tables::{Item, Tables};
+<<<<<<< HEAD
+use board_checks::{Item, Tables};
 use cache_ident::{Ident, Name, NoMemory};
+=======
+use board_checks::{Item, Tables};
+use cache_ident::{Caps, Frame, Ident, KernelNo, Name, NoMemory, SpaceNo, Standing, ThreadNo, Vpn};
+use kernel_cache::KernelRec;
+use phys_groups::{Flags, Rights, Row};
+use space_cache::SpaceRec;
+use std::alloc::Global;
+>>>>>>> origin/work
 use std::process::Abort;
 pub(crate) use worked_samples::*;
 

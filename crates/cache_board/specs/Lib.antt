@@ -1,0 +1,3 @@
+pub use Rattle.board_commits.specs.board_ops
+pub use Rattle.board_commits.specs.board_core
+pub mod Boards
