@@ -4,15 +4,8 @@ ghost use Rattle.std.specs.Prelude.{◌≡◌};
 
 use crate::formed::is_formed;
 use crate::tables::*;
-<<<<<<< HEAD
 use board_checks::{Item, Keep, Tables, check_load_mapping, keep_of};
 use cache_ident::{Ident, Kind, NoMemory, Vpn};
-=======
-use crate::threads::thread;
-use board_checks::{Item, ItemRef, Keep, Tables, check_load_mapping, keep_of};
-use cache_ident::{Ident, KernelNo, Kind, Name, NoMemory, SpaceNo, ThreadNo, Vpn};
-use phys_groups::Row;
->>>>>>> origin/work
 use std::alloc::Global;
 use std::mem;
 use std::process::Abort;

@@ -3,12 +3,6 @@
 ghost use Rattle.std.specs.Prelude.{◌≡◌};
 
 use crate::tables::*;
-<<<<<<< HEAD
-use board_checks::board_ops::Refused;
-use board_checks::desc_tables::{Item, Tables};
-=======
-use crate::threads::thread;
->>>>>>> origin/work
 use board_checks::{
     Item, Refused, Tables, check_complete, check_load_kernel, check_load_mapping, check_load_space,
     check_load_thread, check_lock, check_thread, check_unload, check_unlock, kernel_as, live,

@@ -2,17 +2,8 @@
 
 ghost use Rattle.std.specs.Prelude.{◌≡◌};
 
-<<<<<<< HEAD
 use board_checks::{Item, Tables};
 use cache_ident::{Ident, Name, NoMemory};
-=======
-use board_checks::{Item, Tables};
-use cache_ident::{Caps, Frame, Ident, KernelNo, Name, NoMemory, SpaceNo, Standing, ThreadNo, Vpn};
-use kernel_cache::KernelRec;
-use phys_groups::{Flags, Rights, Row};
-use space_cache::SpaceRec;
-use std::alloc::Global;
->>>>>>> origin/work
 use std::process::Abort;
 pub(crate) use worked_samples::*;
 

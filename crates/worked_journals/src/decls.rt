@@ -1,7 +1,7 @@
 //! Declarations of a kernel, of its space, and of what is in it.
 
 use cache_ident::{Caps, Frame, Ident, KernelNo, Kind, NoMemory, SpaceNo, ThreadNo, Vpn};
-use journal_facts::flat_machine::{Decl, Event, Flat, Machine};
+use flat_machine::{Decl, Event, Flat, Machine};
 use phys_groups::Flags;
 
 pub(crate) const KERNEL: KernelNo = KernelNo(0);

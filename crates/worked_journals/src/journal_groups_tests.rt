@@ -1,14 +1,9 @@
 //! A space with a sender, a receiver and their rows, of which some leave.
 
-<<<<<<< HEAD
 use crate::decls::*;
 use cache_ident::{Ident, Kind, Name, NoMemory, ThreadNo, Vpn};
-use journal_facts::flat_machine::{Flat, GREATEST_CAPS};
-=======
-use cache_ident::{Caps, Frame, Ident, KernelNo, Kind, Name, SpaceNo, ThreadNo, Vpn};
-use flat_machine::{Decl, Event, Flat, GREATEST_CAPS, Machine};
->>>>>>> origin/work
-use journal_facts::journal_groups::*;
+use flat_machine::{Flat, GREATEST_CAPS};
+use journal_groups::*;
 use residents::{Held, Residents};
 use std::alloc::Global;
 use std::mem;

@@ -1,14 +1,9 @@
 //! A sender, which takes its message row or its kernel's rights away by a call, and a receiver, in one space.
 
-<<<<<<< HEAD
 use crate::decls::*;
 use cache_ident::{Cause, Class, Frame, Ident, Kind, Name, NoMemory, ThreadNo, Vpn};
-use journal_facts::flat_machine::{Flat, GREATEST_CAPS};
-=======
-use cache_ident::{Caps, Cause, Class, Frame, Ident, KernelNo, Kind, Name, SpaceNo, ThreadNo, Vpn};
-use flat_machine::{Decl, Event, Flat, GREATEST_CAPS, Machine};
->>>>>>> origin/work
-use journal_facts::journal_rules::*;
+use flat_machine::{Flat, GREATEST_CAPS};
+use journal_groups::rules::*;
 use residents::{FrameRows, Residents};
 use run_journal::Entry;
 use std::alloc::Global;

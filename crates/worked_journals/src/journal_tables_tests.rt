@@ -1,14 +1,9 @@
 //! A kernel with one space and one thread in it, of each of which it may lock at most one.
 
-<<<<<<< HEAD
 use crate::decls::*;
 use cache_ident::{Ident, Kind, Name, NoMemory, ThreadNo};
-use journal_facts::flat_machine::{Flat, GREATEST_CAPS};
-=======
-use cache_ident::{Caps, Ident, KernelNo, Kind, Name, SpaceNo, ThreadNo};
-use flat_machine::{Decl, Event, Flat, GREATEST_CAPS, Machine};
->>>>>>> origin/work
-use journal_facts::journal_tables::*;
+use flat_machine::{Flat, GREATEST_CAPS};
+use journal_groups::Tables;
 use residents::Held;
 use std::mem;
 use std::process::Abort;

@@ -7,7 +7,7 @@ ghost use Rattle.desc_parents.specs.desc_stores.specs.Contents.{content_of, IsFu
 ghost use Rattle.desc_parents.specs.desc_stores.specs.Changes.{IsNext};
 
 use cache_ident::{Ident, Kind, Name, Standing};
-use desc_parents::desc_stores::{Item, Stores};
+use desc_parents::{Item, Stores};
 
 pub fn is_absent(stores: &Stores, name: Name) -> bool
     ensures { IsTrue result → content_of stores.now name ≡ None }

@@ -9,8 +9,7 @@ ghost use Rattle.desc_parents.specs.Seen.{seen, HasPlainRows};
 
 use crate::records::{declare, kernel, load, row, space, thread};
 use cache_ident::{Caps, Ident, KernelNo, Name, NoMemory, SpaceNo, ThreadNo, Vpn};
-use desc_parents::desc_stores::{Item, ItemRef, Stores};
-use desc_parents::{is_fit, kernel_of, parents_of};
+use desc_parents::{Item, ItemRef, Stores, is_fit, kernel_of, parents_of};
 use phys_groups::Row;
 use std::alloc::Global;
 use std::process::Abort;

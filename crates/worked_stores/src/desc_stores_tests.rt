@@ -10,7 +10,7 @@ use crate::records::{declare, kernel, load, row, space, thread};
 use cache_ident::{
     Caps, Frame, Ident, KernelNo, Kind, Name, NoMemory, SpaceNo, Standing, ThreadNo, Vpn,
 };
-use desc_parents::desc_stores::{Item, ItemRef, Stores};
+use desc_parents::{Item, ItemRef, Stores};
 use kernel_cache::KernelRec;
 use phys_groups::Row;
 use slot_cache::Descriptor;

@@ -5,7 +5,7 @@ ghost use Rattle.std.specs.Prelude.{◌<◌};
 use crate::asked::{has_place, is_absent, is_next, is_shelved};
 use arrayvec::ArrayVec;
 use cache_ident::{Caps, Frame, Ident, KernelNo, Name, NoMemory, SpaceNo, ThreadNo, Vpn};
-use desc_parents::desc_stores::{Item, Stores};
+use desc_parents::{Item, Stores};
 use kernel_cache::KernelRec;
 use phys_groups::{Flags, Rights, Row};
 use rv32_exec::{Context, Output, Status};
