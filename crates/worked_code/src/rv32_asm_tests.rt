@@ -147,7 +147,7 @@ jal x0, 4097\n\
 ";
 
 #[test]
-fn bad_lines(rt: HostRuntime) {
+fn lines_that_are_none(rt: HostRuntime) {
     let mut count = 0u32;
     for line in BAD_LINES.lines() {
         assert!(rt;

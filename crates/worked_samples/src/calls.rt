@@ -1,6 +1,6 @@
 //! Tables with a first kernel, and the calls that change them: each is made where it may be, and says whether it was.
 
-ghost use Rattle.std.specs.Prelude.{◌≡◌, ◌↔◌, ◌<◌, [], false, true, length, IfOk, IfSome, IsSome, IsTrue};
+ghost use Rattle.std.specs.Prelude.{◌≡◌, ◌↔◌, ◌<◌, [], IfOk, IfSome, IsSome, IsTrue};
 ghost use Rattle.cache_ident.specs.declared.idents.Ident.{Ident};
 ghost use Rattle.cache_ident.specs.declared.idents.Standing.TheVariants.{Live};
 ghost use Rattle.cache_ident.specs.Rolls.{standing_in};
@@ -82,7 +82,7 @@ fn place(tables: &Tables, at: u32) -> u64
 pub fn load(tables: &mut Tables, name: Name, keep: &[Ident], at: u32) -> Option<Ident>
     requires { tables.old.caps ≡ CAPS }
     ensures caps { tables.new.caps ≡ CAPS }
-    ensures may { IsSome result ↔ MayBeLoaded tables.old.contents name keep.now × (0 < tables.old.contents.spare) }
+    ensures may { IsSome result ↔ (MayBeLoaded tables.old.contents name keep.now × (0 < tables.old.contents.spare)) }
 {
     if tables.may_load(name, keep) && tables.spare() > 0 {
         let at = place(tables, at);
@@ -122,15 +122,16 @@ pub fn may_lock(tables: &Tables, ident: Ident) -> Option<bool>
 pub fn lock(tables: &mut Tables, ident: Ident) -> bool
     requires { tables.old.caps ≡ CAPS }
     ensures caps { tables.new.caps ≡ CAPS }
-    ensures may { IsTrue result ↔ (standing_in tables.old.contents.issued ident ≡ Live) × MayBeLocked tables.old.contents ident }
+    ensures may { IsTrue result ↔ ((standing_in tables.old.contents.issued ident ≡ Live) × MayBeLocked tables.old.contents ident) }
 {
-    match may_lock(tables, ident) {
-        Some(true) => {
-            tables.lock(ident);
-            true
-        }
-        _ => false,
+    if !is_live(tables, ident) {
+        return false;
     }
+    let may = tables.may_lock(ident);
+    if may {
+        tables.lock(ident);
+    }
+    may
 }
 
 /// Whether what is loaded with an identifier is locked; `None` where nothing is loaded with it.

@@ -18,7 +18,7 @@ pub fn is_live(tables: &Tables, ident: Ident) -> bool
 
 /// Whether an identifier left at that place of the journal.
 pub fn has_left(tables: &Tables, ident: Ident, at: u64) -> bool
-    ensures { IsTrue result ↔ (standing_in tables.now.contents.issued ident ≡ Left at) }
+    ensures { IsTrue result → standing_in tables.now.contents.issued ident ≡ Left at }
 {
     match tables.standing(ident) {
         Standing::Left(place) => place == at,

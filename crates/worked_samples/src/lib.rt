@@ -1,6 +1,8 @@
 //! What the tests of the tables share: records that can be declared, and the calls on tables, each made where it may be made.
 #![tactic(auto)]
 
+pub use desc_tables::{Gone, Item, ItemRef, Tables};
+
 mod calls;
 mod finds;
 mod records;

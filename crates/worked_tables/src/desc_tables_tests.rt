@@ -1,17 +1,17 @@
 //! The tables by calls: what displaces what, in which order dependents leave, and what stands on the shelves afterwards.
 
 ghost use Rattle.std.specs.Prelude.{◌≡◌, Some, IfSome, IsTrue};
-ghost use Rattle.desc_tables.specs.desc_stores.specs.declared.items.Item.TheVariants as Item;
-ghost use Rattle.desc_tables.specs.desc_stores.specs.Contents.{item_as};
-ghost use Rattle.desc_tables.specs.Likes.{IsThreadAs};
+ghost use Rattle.worked_samples.specs.desc_tables.specs.desc_stores.specs.declared.items.Item.TheVariants as Item;
+ghost use Rattle.worked_samples.specs.desc_tables.specs.desc_stores.specs.Contents.{item_as};
+ghost use Rattle.worked_samples.specs.desc_tables.specs.Likes.{IsThreadAs};
 
 use crate::tables::*;
 use cache_ident::{Caps, Cause, Frame, Ident, Kind, Name, NoMemory, SpaceNo, ThreadNo, Vpn};
-use desc_tables::{Gone, Item, ItemRef, Tables};
 use phys_groups::Row;
 use std::alloc::Global;
 use std::process::Abort;
 use std::test::Fail;
+use worked_samples::{Gone, Item, ItemRef, Tables};
 
 fn left(ident: Ident, cause: Cause) -> Gone {
     Gone { ident, cause }

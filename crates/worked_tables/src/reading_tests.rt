@@ -4,12 +4,12 @@ ghost use Rattle.std.specs.Prelude.{◌≡◌};
 
 use crate::tables::*;
 use cache_ident::{Frame, Ident, Kind, Name, NoMemory, SpaceNo, Standing, ThreadNo, Vpn};
-use desc_tables::{Item, ItemRef, Tables};
 use phys_groups::Row;
 use std::alloc::Global;
 use std::mem;
 use std::process::Abort;
 use std::test::Fail;
+use worked_samples::{Item, ItemRef, Tables};
 
 // ---- what is declared
 

@@ -3,10 +3,10 @@
 ghost use Rattle.std.specs.Prelude.{◌≡◌};
 
 use cache_ident::{Ident, Kind, Name, NoMemory};
-use desc_tables::{Item, Tables};
 use std::alloc::Global;
 use std::process::Abort;
 pub(crate) use worked_samples::*;
+use worked_samples::{Item, Tables};
 
 pub(crate) fn ident(kind: Kind, slot: u32, serial: u64) -> Ident {
     Ident { kind, slot, serial }
