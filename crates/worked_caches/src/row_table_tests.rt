@@ -52,10 +52,8 @@ fn come_and_go(rt: &impl Abort, table: &mut RowTable) -> Result<(), NoMemory> {
 // Whether the rows have these spaces and marks, in this order.
 fn are_marked(table: &RowTable, marks: &[(u32, bool, bool)]) -> bool {
     table.len() == marks.len()
-        && table
-            .iter()
-            .zip(marks)
-            .all(|(row, mark)| (row.space.0, row.referenced, row.modified) == *mark)
+        && table.iter().zip(marks).all(|(row, mark)| (row.space.0, row.referenced, row.modified)
+            == *mark)
 }
 
 fn mark(rt: &impl Abort, table: &mut RowTable) {

@@ -1,6 +1,6 @@
 //! A kernel leaves with rows of all classes, a thread and a space.
 
-ghost use Rattle.std.specs.Prelude.{◌≡◌, []};
+ghost use Rattle.std.specs.Prelude.{◌≡◌};
 
 use crate::dependents::depend;
 use cache_ident::{Caps, Ident, Kind, NoMemory};
@@ -94,34 +94,21 @@ fn all_but_the_message_leave(rt: &impl Abort, depends: &Depends, scratch: &mut S
     assert!(rt; leave(depends, scratch, all.kernel, &rest));
 }
 
-// Puts in what depends on what: at most 18 pairs.
-fn depend_all(rt: &impl Abort, depends: &mut Depends)
-    requires caps { depends.old.caps ≡ CAPS }
-    requires none { depends.old.pairs ≡ [] }
-    ensures { depends.new.caps ≡ CAPS }
-{
-    let all = all_loaded();
-    let [a, b, c, d] = all.signals;
-    let (space, thread) = (all.space.ident, all.thread.ident);
-    depend(
-        rt,
-        depends,
-        all.message,
-        &[a.ident, space, b.ident, c.ident, d.ident],
-    );
-    depend(rt, depends, all.space, &[all.kernel.ident]);
-    depend(rt, depends, a, &[space, thread]);
-    depend(rt, depends, all.other, &[space]);
-    depend(rt, depends, b, &[thread, space]);
-    depend(rt, depends, c, &[space, thread]);
-    depend(rt, depends, all.thread, &[space]);
-    depend(rt, depends, d, &[space]);
-}
-
 #[test]
 fn a_kernel_leaves_with_all(rt: HostRuntime) -> Result<(), Fail> {
     let mut depends = Depends::new(rt.alloc(), CAPS)?;
-    depend_all(&rt, &mut depends);
+    let all = all_loaded();
+    let [a, b, c, d] = all.signals;
+    let (space, thread) = (all.space.ident, all.thread.ident);
+    let of_message = [a.ident, space, b.ident, c.ident, d.ident];
+    depend(&rt, &mut depends, all.message, &of_message);
+    depend(&rt, &mut depends, all.space, &[all.kernel.ident]);
+    depend(&rt, &mut depends, a, &[space, thread]);
+    depend(&rt, &mut depends, all.other, &[space]);
+    depend(&rt, &mut depends, b, &[thread, space]);
+    depend(&rt, &mut depends, c, &[space, thread]);
+    depend(&rt, &mut depends, all.thread, &[space]);
+    depend(&rt, &mut depends, d, &[space]);
     let done = leave_all(&rt, rt.alloc(), &mut depends);
     mem::forget(depends);
     Ok(done?)
