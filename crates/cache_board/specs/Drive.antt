@@ -19,7 +19,7 @@ use Rattle.board_commits.specs.board_ops.specs.declared.refusals.Refused.TheVari
 use Rattle.board_commits.specs.board_checks.specs.Identifiers.{space_as}
 use Rattle.board_commits.specs.board_checks.specs.Refusals.{refusal_of_complete, refusal_of_load_kernel, refusal_of_load_mapping, refusal_of_load_space, refusal_of_load_thread, refusal_of_lock, refusal_of_unload, refusal_of_unlock}
 use Rattle.board_commits.specs.board_core.specs.Answers.{HasSpare, IsRefused}
-use Rattle.board_commits.specs.board_core.specs.Core.{contents_of, Recorded}
+use Rattle.board_commits.specs.board_core.specs.Core.{contents_of, IsSound, Recorded}
 use Rattle.board_commits.specs.board_core.specs.Growth.{OnlyMakesRoom}
 use Rattle.board_commits.specs.board_threads.specs.declared.tickets.Ticket.{Ticket}
 use Rattle.board_commits.specs.board_threads.specs.Faults.{HasEnded}
@@ -193,10 +193,11 @@ IsDone (ops.ConfirmFault cpu caller thread) b d answer b′ d′ = (d′ ≡ d) 
 IsDone (ops.HealStep cpu thread) b d answer b′ d′ = (d′ ≡ d) × DoesOr (refusal_of_heal b thread) (IsHealed cpu thread b b′) b b′ answer × Spares b answer
 IsDone (ops.Reserve n) b d answer b′ d′ = (d′ ≡ d) × MakesRoom n b answer b′
 
--- Where it names a processor that there isn't, it answers so and changes nothing; else it is done.
+-- Where it names a processor that there isn't, it answers so and changes nothing; else it is done. It leaves a sound board.
 pub record IsAnswered (op : Op) (b : Recorded) (d : Desktop) (answer : Answer) (b′ : Recorded) (d′ : Desktop) : Type 0 where
   pub beyond : is_beyond (processor_of op) ≡ true → (answer ≡ answers.NoCpu) × (b′ ≡ b) × (d′ ≡ d)
   pub within : is_beyond (processor_of op) ≡ false → IsDone op b d answer b′ d′
+  pub sound : IsSound b′
 
 -- one answer an operation, each on the board and the desk that those before it left
 abbrev pub AreAnswered : List Op → Recorded → Desktop → List Answer → Recorded → Desktop → Type 0

@@ -1,11 +1,13 @@
 //! The board and its calls.
 
-ghost use Rattle.std.specs.Prelude.{◌≡◌, ◌≢◌, ℕ, ◌+◌, ◌<◌, ◌≤◌, ◌∷◌, ◌⊎◌, [], false, true, min, None, Some, IfErr, IfNone, IfOk, IfSome, IsOk, IsTrue, OnErr, OnOk, option_copied, slice_get};
+ghost use Rattle.std.specs.Prelude.{◌≡◌, ◌≢◌, ℕ, List, ◌+◌, ◌<◌, ◌≤◌, ◌∷◌, ◌⊎◌, [], false, true, min, None, Some, IfErr, IfNone, IfOk, IfSome, IsOk, IsTrue, OnErr, OnOk, option_copied, slice_get};
 ghost use Rattle.std.specs.Option.{option_map};
 ghost use Rattle.std.specs.Result.{result_err};
+ghost use Rattle.cache_ident.specs.declared.idents.Ident.{Ident};
 ghost use Rattle.cache_ident.specs.declared.names.Name.{Name};
 ghost use Rattle.cache_ident.specs.declared.names.SpaceNo.{SpaceNo};
 ghost use Rattle.cache_ident.specs.declared.names.ThreadNo.{ThreadNo};
+ghost use Rattle.depend_lists.specs.declared.nodes.Node.{Node};
 ghost use Rattle.phys_groups.specs.Translation.{row_of};
 ghost use Rattle.flat_state.specs.declared.events.Decl.TheVariants as decls;
 ghost use Rattle.flat_state.specs.Declaration.{rule_of_machine};
@@ -15,6 +17,7 @@ ghost use Rattle.page_views.specs.Views.{can_fill};
 ghost use Rattle.ready_queue.specs.declared.Candidate.{Candidate};
 ghost use Rattle.board_commits.specs.board_ops.specs.declared.refusals.Refused.TheVariants.{NoMemory};
 ghost use Rattle.board_commits.specs.board_core.specs.desc_stores.specs.Contents.{names_of};
+ghost use Rattle.board_commits.specs.desc_tables.specs.Tables.{AreSound};
 ghost use Rattle.board_commits.specs.shown_state.specs.Shown.{flat_thread};
 ghost use Rattle.board_commits.specs.cached_machine.specs.Cached.{state_of};
 ghost use Rattle.board_commits.specs.cached_machine.specs.Posts.{mark_of};
@@ -97,9 +100,10 @@ impl Board {
     /// Does nothing. A proof has from it what holds of every board: its journal is legal, and tells what the machine shows and
     /// what is loaded; so each descriptor is in its cache or with its owner, never in both.
     pub fn holds(&self)
-        ensures { IsSound self.now }
+        ensures sound { IsSound self.now }
+        ensures tables { (pairs : List (Ident × Node)) × AreSound self.now.machine.held pairs }
     {
-        self.core.holds();
+        let _ = self.core.tables();
     }
 
     /// Makes a declaration, before the seal (`Sealed`), with the first rule that it breaks as its refusal (`BadDecl`).

@@ -43,9 +43,12 @@ fn answer_to(board: &mut Board, desk: &mut Desk, op: &Op) -> Answer
     ensures views { AreOfTickets board.new.journal.entries desk.new }
 {
     if is_beyond(op) {
+        board.holds();
         return Answer::NoCpu;
     }
-    perform(board, desk, op)
+    let answer = perform(board, desk, op);
+    board.holds();
+    answer
 }
 
 // Whether an operation names a processor that there isn't.

@@ -5,4 +5,4 @@ use Rattle.cache_board.proofs.board.Board.confirm_fault.Goals as goal
 pub returns-clause-event : goal.returns-clause-event
 returns-clause-event c =
     let same = c.deref_mut.ensures.value ∙ c.self.view_is in
-    fault_event c.args.cpu c.args.self.now c.deref_mut.result.now c.confirm_fault-confirmed.new.core same c.holds.ensures c.holds-2.ensures c.confirm_fault-confirmed.result _ c.args.thread c.confirm_fault-confirmed.ensures.refused c.confirm_fault-confirmed.ensures.ended
+    fault_event c.args.cpu c.args.self.now c.deref_mut.result.now c.confirm_fault-confirmed.new.core same c.holds.ensures.sound c.holds-2.ensures.sound c.confirm_fault-confirmed.result _ c.args.thread c.confirm_fault-confirmed.ensures.refused c.confirm_fault-confirmed.ensures.ended

@@ -5,4 +5,4 @@ use Rattle.cache_board.proofs.board.Board.heal_step.Goals as goal
 pub returns-clause-event : goal.returns-clause-event
 returns-clause-event c =
     let same = c.deref_mut.ensures.value ∙ c.self.view_is in
-    heal_event c.args.cpu c.args.self.now c.deref_mut.result.now c.heal_step-healed.new.core same c.holds.ensures c.holds-2.ensures c.heal_step-healed.result _ c.args.thread c.heal_step-healed.ensures.refused c.heal_step-healed.ensures.healed
+    heal_event c.args.cpu c.args.self.now c.deref_mut.result.now c.heal_step-healed.new.core same c.holds.ensures.sound c.holds-2.ensures.sound c.heal_step-healed.result _ c.args.thread c.heal_step-healed.ensures.refused c.heal_step-healed.ensures.healed

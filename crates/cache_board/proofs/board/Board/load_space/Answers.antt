@@ -6,4 +6,4 @@ use Rattle.cache_board.proofs.board.Board.load_space.Goals as goal
 pub returns-clause-event : goal.returns-clause-event
 returns-clause-event c =
     let same = c.deref_mut.ensures.value ∙ c.self.view_is in
-    load_event c.args.cpu c.args.self.now c.deref_mut.result.now c.load_space-loaded.new.core same c.holds.ensures c.holds-2.ensures c.load_space-loaded.result _ (name.Space c.args.space) c.load_space-loaded.ensures.refused c.load_space-loaded.ensures.loaded
+    load_event c.args.cpu c.args.self.now c.deref_mut.result.now c.load_space-loaded.new.core same c.holds.ensures.sound c.holds-2.ensures.sound c.load_space-loaded.result _ (name.Space c.args.space) c.load_space-loaded.ensures.refused c.load_space-loaded.ensures.loaded

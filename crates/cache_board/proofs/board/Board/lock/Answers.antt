@@ -5,4 +5,4 @@ use Rattle.cache_board.proofs.board.Board.lock.Goals as goal
 pub returns-clause-event : goal.returns-clause-event
 returns-clause-event c =
     let same = c.deref_mut.ensures.value ∙ c.self.view_is in
-    lock_event c.args.cpu c.args.self.now c.deref_mut.result.now c.lock-locked.new.core same c.holds.ensures c.holds-2.ensures c.lock-locked.result _ c.args.ident true c.lock-locked.ensures.refused c.lock-locked.ensures.locked
+    lock_event c.args.cpu c.args.self.now c.deref_mut.result.now c.lock-locked.new.core same c.holds.ensures.sound c.holds-2.ensures.sound c.lock-locked.result _ c.args.ident true c.lock-locked.ensures.refused c.lock-locked.ensures.locked

@@ -5,4 +5,4 @@ use Rattle.cache_board.proofs.board.Board.reserve.Goals as goal
 pub returns-clause-event : goal.returns-clause-event
 returns-clause-event c =
     let same = c.deref_mut.ensures.value ∙ c.self.view_is in
-    λ cpu. room_event cpu c.args.self.now c.deref_mut.result.now c.reserve-reserved.new.self same c.holds.ensures c.holds-2.ensures c.reserve-reserved.ensures.only
+    λ cpu. room_event cpu c.args.self.now c.deref_mut.result.now c.reserve-reserved.new.self same c.holds.ensures.sound c.holds-2.ensures.sound c.reserve-reserved.ensures.only

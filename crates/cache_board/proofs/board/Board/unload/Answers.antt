@@ -5,4 +5,4 @@ use Rattle.cache_board.proofs.board.Board.unload.Goals as goal
 pub returns-clause-event : goal.returns-clause-event
 returns-clause-event c =
     let same = c.deref_mut.ensures.value ∙ c.self.view_is in
-    unload_event c.args.cpu c.args.self.now c.deref_mut.result.now c.unload-unloaded.new.core same c.holds.ensures c.holds-2.ensures c.unload-unloaded.result _ c.args.ident c.unload-unloaded.ensures.refused c.unload-unloaded.ensures.unloaded
+    unload_event c.args.cpu c.args.self.now c.deref_mut.result.now c.unload-unloaded.new.core same c.holds.ensures.sound c.holds-2.ensures.sound c.unload-unloaded.result _ c.args.ident c.unload-unloaded.ensures.refused c.unload-unloaded.ensures.unloaded

@@ -5,4 +5,4 @@ use Rattle.cache_board.proofs.board.Board.unlock.Goals as goal
 pub returns-clause-event : goal.returns-clause-event
 returns-clause-event c =
     let same = c.deref_mut.ensures.value ∙ c.self.view_is in
-    lock_event c.args.cpu c.args.self.now c.deref_mut.result.now c.unlock-unlocked.new.core same c.holds.ensures c.holds-2.ensures c.unlock-unlocked.result _ c.args.ident false c.unlock-unlocked.ensures.refused c.unlock-unlocked.ensures.unlocked
+    lock_event c.args.cpu c.args.self.now c.deref_mut.result.now c.unlock-unlocked.new.core same c.holds.ensures.sound c.holds-2.ensures.sound c.unlock-unlocked.result _ c.args.ident false c.unlock-unlocked.ensures.refused c.unlock-unlocked.ensures.unlocked
