@@ -5,4 +5,4 @@ pub answered-requires : goal.answered-requires
 answered-requires c = machine_only_memory c.new-made.result c.args.machine c.requires c.new-made.ensures.refused
 
 pub returns : goal.returns
-returns c = new_so c.new-made.result c.in_ok-board.board c.args.machine c.args.steps c.in_ok-board.ensures c.new-made.ensures.entries c.new-made.ensures.begins c.holds.ensures
+returns c = new_so c.new-made.result c.in_ok-board.board c.args.machine c.args.steps c.in_ok-board.ensures c.new-made.ensures.entries c.new-made.ensures.begins c.holds.ensures.sound
