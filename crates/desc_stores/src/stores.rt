@@ -14,6 +14,7 @@ ghost use Rattle.cache_ident.specs.Rolls.{departed, just_issued, standing_in};
 ghost use Rattle.mapping_cache.specs.Frames.{IsRowOf};
 ghost use Rattle.phys_groups.specs.declared.rows.Row.{Row};
 ghost use Rattle.thread_cache.specs.declared.ThreadRec.{ThreadRec};
+ghost use Rattle.slot_cache.specs.Cells.{loaded_in, HasExactlyLoaded, IsInOrderOfSlot};
 ghost use Rattle.slot_cache.specs.Rows.{row_name};
 ghost use Rattle.owner_shelf.specs.Rows.{content_under};
 ghost use Rattle.kind_store.specs.Changes.{is_name};
@@ -31,7 +32,7 @@ use kernel_cache::KernelRec;
 use kind_store::KindStore;
 use phys_groups::Row;
 use row_store::{RowStore, SignalRows};
-use slot_cache::Descriptor;
+use slot_cache::{Descriptor, Iter};
 use sorted_list::Run;
 use space_cache::SpaceRec;
 use std::alloc::Global;
@@ -269,6 +270,16 @@ impl Stores {
             Kind::Thread => self.threads.victim(keep),
             Kind::Mapping => self.rows.victim(keep),
         }
+    }
+
+    /// The threads that are loaded, in order of slot. Going over them takes as many steps as the highest slot that a thread
+    /// ever had.
+    pub fn loaded_threads(&self) -> Iter<'_, ThreadRec>
+        ensures loaded { result ≡ loaded_in self.now.threads.cells }
+        ensures exact { HasExactlyLoaded self.now.threads.cells result }
+        ensures order { IsInOrderOfSlot result }
+    {
+        self.threads.loaded()
     }
 
     /// The names of all rows, loaded or not, in declared order.

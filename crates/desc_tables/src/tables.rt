@@ -20,6 +20,7 @@ ghost use Rattle.flat_state.specs.declared.events.Machine.{Machine};
 ghost use Rattle.run_journal.specs.Groups.{IsGroup};
 ghost use Rattle.run_journal.specs.Legal.{AreGood, IsTaken};
 ghost use Rattle.phys_groups.specs.declared.rows.Row.{Row};
+ghost use Rattle.slot_cache.specs.Cells.{loaded_in, HasExactlyLoaded, IsInOrderOfSlot};
 ghost use Rattle.thread_cache.specs.declared.ThreadRec.{ThreadRec};
 ghost use Rattle.kernel_cache.specs.declared.KernelRec.{KernelRec};
 ghost use Rattle.desc_admits.specs.desc_stores.specs.Items as items;
@@ -49,6 +50,7 @@ use growing_list::Values;
 use kernel_cache::KernelRec;
 use phys_groups::Row;
 use row_store::SignalRows;
+use slot_cache::Iter;
 use sorted_list::Run;
 use std::alloc::Global;
 use std::marker::Model;
@@ -489,6 +491,16 @@ impl Tables {
             Kind::Thread => Names::of_threads(self.stores.thread_count()),
             Kind::Mapping => Names::of_rows(self.stores.row_names()),
         }
+    }
+
+    /// The threads that are loaded, each with its identifier, in order of slot. Going over them takes as many steps as the
+    /// highest slot that a thread ever had.
+    pub fn loaded_threads(&self) -> Iter<'_, ThreadRec>
+        ensures loaded { result ≡ loaded_in self.now.contents.threads.cells }
+        ensures exact { HasExactlyLoaded self.now.contents.threads.cells result }
+        ensures order { IsInOrderOfSlot result }
+    {
+        self.stores.loaded_threads()
     }
 
     /// The names of all rows, loaded or not, in declared order.
