@@ -47,146 +47,7 @@ use Rattle.board_core.proofs.CheckLaws.{ready_is}
 use Rattle.board_threads.proofs.FaultLemmas.{waiting_passes, waits_free, waits_ready}
 use Rattle.board_threads.proofs.IdentLemmas.{named_so, thread_kind}
 
--- ---- one slot
-
--- someone is loaded in the slot
-abbrev pub IsIn : Recorded → ℕ → ThreadNo → Type 0
-IsIn b slot whom = (ident : Ident) × IsResident (residents_of (contents_of b)) ident (name.Thread whom) × (ident.slot ≡ slot)
-
--- nobody free is
-abbrev pub HasNone : Recorded → ℕ → Type 0
-HasNone b slot = (c : Candidate) → IsFreeIn slot b c → ⊥
-
-module _ (b : Recorded) (slot : ℕ) (m : Cached) (machine : m ≡ b.machine) where
-  pub nobody_in : ((ident : Ident) (whom : ThreadNo) → IsResident (residents_of m.held.contents) ident (name.Thread whom) → ident.slot ≢ slot) → HasNone b slot
-  nobody_in none c is = subst (λ (x : Cached). (ident : Ident) (whom : ThreadNo) → IsResident (residents_of x.held.contents) ident (name.Thread whom) → ident.slot ≢ slot) machine none is.ident c.no is.named is.at
-
-  pub somebody_in : (whom : ThreadNo) → (ident : Ident) × IsResident (residents_of m.held.contents) ident (name.Thread whom) × (ident.slot ≡ slot) → IsIn b slot whom
-  somebody_in whom there = subst (λ (x : Cached). (ident : Ident) × IsResident (residents_of x.held.contents) ident (name.Thread whom) × (ident.slot ≡ slot)) machine there
-
-module _ (b : Recorded) (one : IsExactlyOne (contents_of b)) (slot : ℕ) where
-  module _ (whom : ThreadNo) (is_in : IsIn b slot whom) where
-    same_thread : (c : Candidate) → IsFreeIn slot b c → c.no ≡ whom
-    same_thread c is =
-        let r = is.named in
-        let q = is_in.1 in
-        alone_in_slot (contents_of b) one c.no r.0 q.0 whom r.1 q.1 r.3 q.3 (ap (λ (i : Ident). i.slot) r.2 ∙ is.at ∙ sym is_in.2 ∙ ap (λ (i : Ident). i.slot) (sym q.2))
-
-    module _ (found : AreFound (state_of b.machine) (contents_of b)) where
-      shown_by : (c : Candidate) (is : IsFreeIn slot b c) → thread_of (content_of (contents_of b) (name.Thread whom)) ≡ Some is.free.thread
-      shown_by c is = sym (found.threads whom.0) ∙ subst (λ (n : ThreadNo). slice_get (state_of b.machine).threads n.0 ≡ Some is.free.thread) (same_thread c is) is.free.there
-
-      -- the thread isn't there
-      pub no_record : content_of (contents_of b) (name.Thread whom) ≡ None → HasNone b slot
-      no_record none c is = absurd (let both : None ≡ Some is.free.thread = ap thread_of (sym none) ∙ shown_by c is in cc)
-
-      module _ (thread : ThreadRec) (there : content_of (contents_of b) (name.Thread whom) ≡ Some (item.Thread thread)) where
-        its_number : thread.no ≡ whom
-        its_number = let names : name.Thread thread.no ≡ name.Thread whom = item_has_name (contents_of b) (name.Thread whom) (item.Thread thread) there in cc
-
-        -- it isn't ready, or on a processor
-        pub not_free : (e : Refused) → Some e ≡ not_waiting (contents_of b) (flat_thread thread) → HasNone b slot
-        not_free e refused c is =
-            let shows : Some (flat_thread thread) ≡ Some is.free.thread = ap thread_of (sym there) ∙ shown_by c is in
-            let same : flat_thread thread ≡ is.free.thread = cc in
-            let ready = ap (λ (t : FlatThread). is_ready t.status) same ∙ is.free.passes in
-            let free = ap (mark_of (contents_of b)) (its_number ∙ sym (same_thread c is)) ∙ is.free.free in
-            absurd (let both : Some e ≡ None = refused ∙ waiting_passes (contents_of b) (flat_thread thread) ready free in cc)
-
-        pub free_in : None ≡ not_waiting (contents_of b) (flat_thread thread) → IsFreeIn slot b (record { no = whom; priority = thread.priority; last = thread.last })
-        free_in passes = record {
-          ident = is_in.0;
-          named = is_in.1;
-          at = is_in.2;
-          free = record {
-            thread = flat_thread thread;
-            there = found.threads whom.0 ∙ ap thread_of there;
-            passes = waits_ready (contents_of b) (flat_thread thread) passes;
-            loaded = named_so (contents_of b) is_in.0 (name.Thread whom) is_in.1;
-            free = ap (mark_of (contents_of b)) (sym its_number) ∙ waits_free (contents_of b) (flat_thread thread) passes;
-            priority = refl;
-            last = sym (ap last_in there);
-          };
-        }
-
--- ---- slot by slot
-
--- loaded in one of the first slots
-abbrev pub IsFreeBelow : ℕ → Recorded → Candidate → Type 0
-IsFreeBelow slots b c = (slot : ℕ) × (slot < slots) × IsFreeIn slot b c
-
--- these are those
-abbrev pub AreThose : ℕ → Recorded → List Candidate → Type 0
-AreThose slots b waiting = (c : Candidate) → Contains waiting c ↔ IsFreeBelow slots b c
-
-module _ (b : Recorded) (slots : ℕ) (waiting : List Candidate) (those : AreThose slots b waiting) where
-  pub none_more : HasNone b slots → AreThose (slots + 1) b waiting
-  none_more none c = (
-    λ there. let is = (those c).0 there in (is.0, omega (arith, is.1), is.2),
-    λ is. elim (cases_lt is.0 slots) [
-      | inl low ↦ (those c).1 (is.0, low, is.2)
-      | inr high ↦
-          let at : is.0 ≡ slots = omega (arith, is.1) in
-          absurd (none c (subst (λ (s : ℕ). IsFreeIn s b c) at is.2))
-    ],
-  )
-
-  pub one_more : (one : IsExactlyOne (contents_of b)) (next : Candidate) → IsFreeIn slots b next → AreThose (slots + 1) b (waiting ++ next ∷ [])
-  one_more one next free c = (
-    λ there. elim (Contains-push_cases waiting next c there) [
-      | inl before ↦ let is = (those c).0 before in (is.0, omega (arith, is.1), is.2)
-      | inr same ↦ (slots, omega arith, subst (λ (x : Candidate). IsFreeIn slots b x) same free)
-    ],
-    λ is. elim (cases_lt is.0 slots) [
-      | inl low ↦ Contains-append_left waiting (next ∷ []) c ((those c).1 (is.0, low, is.2))
-      | inr high ↦
-          let at : is.0 ≡ slots = omega (arith, is.1) in
-          let here = subst (λ (s : ℕ). IsFreeIn s b c) at is.2 in
-          let whom = alone_in_slot (contents_of b) one c.no here.named.0 free.named.0 next.no here.named.1 free.named.1 here.named.3 free.named.3 (ap (λ (i : Ident). i.slot) here.named.2 ∙ here.at ∙ sym free.at ∙ ap (λ (i : Ident). i.slot) (sym free.named.2)) in
-          let shows : Some here.free.thread ≡ Some free.free.thread = sym here.free.there ∙ ap (λ (n : ThreadNo). slice_get (state_of b.machine).threads n.0) whom ∙ free.free.there in
-          let thread : here.free.thread ≡ free.free.thread = cc in
-          let priority = here.free.priority ∙ ap (λ (t : FlatThread). t.priority) thread ∙ sym free.free.priority in
-          let last = here.free.last ∙ ap (last_of (contents_of b)) whom ∙ sym free.free.last in
-          let same : next ≡ c = same_candidate next c (sym whom) (sym priority) (sym last) in
-          subst (Contains (waiting ++ next ∷ [])) same (Contains-push waiting next)
-    ],
-  )
-    where
-      same_candidate : (x y : Candidate) → x.no ≡ y.no → x.priority ≡ y.priority → x.last ≡ y.last → x ≡ y
-      same_candidate x y number priority last =
-          ap (λ (n : ThreadNo). let c : Candidate = record { no = n; priority = x.priority; last = x.last } in c) number
-          ∙ ap₂ (λ (p l : ℕ). let c : Candidate = record { no = y.no; priority = p; last = l } in c) priority last
-
--- the slot of a loaded thread is one of the cache of threads
-pub slot_within : (b : Recorded) → IsExactlyOne (contents_of b) → (caps : Caps) → HasSlots caps (contents_of b) → (ident : Ident) (whom : ThreadNo) → IsResident (residents_of (contents_of b)) ident (name.Thread whom) → ident.slot < caps.threads
-slot_within b one caps slots ident whom r =
-    let seat = resident_seat (contents_of b) r.0 r.1 in
-    let of_kind = ap (λ (i : Ident). i.kind) r.2 ∙ thread_kind (contents_of b) one ident whom r in
-    let there = subst (λ (k : Kind). resident_at (contents_of b) k r.0.ident.slot ≡ Some r.0) of_kind seat in
-    let low = in_cells (contents_of b).threads.cells r.0.ident.slot r.0 there in
-    let size = slots kind.Thread in
-    subst (λ (i : Ident). i.slot < caps.threads) r.2 (omega (arith, low, size))
-  where
-    in_cells : (cells : List (Option (Loaded ThreadRec))) (slot : ℕ) (r : Resident) → option_map (resident_of thread_rec.name_of) (cell_at cells slot) ≡ Some r → slot < length cells
-    in_cells [] slot r there = absurd (cc)
-    in_cells (x ∷ cells) zero r there = omega arith
-    in_cells (x ∷ cells) (suc slot) r there = let low = in_cells cells slot r there in omega arith
-
--- of which there are 256 at most
-pub few_slots : (m : Cached) → IsWellFormed (state_of m) → m.machine.caps.threads ≤ 256
-unfolding shown
-few_slots m formed = formed.memory.caps.threads
-
--- once all slots are seen, these are all
-pub all_those : (b : Recorded) → IsExactlyOne (contents_of b) → (caps : Caps) → HasSlots caps (contents_of b) → (waiting : List Candidate) → AreThose caps.threads b waiting → (c : Candidate) → Contains waiting c ↔ IsFree takes_steps b c
-all_those b one caps slots waiting those c = (
-  λ there. ((those c).0 there).2.free,
-  λ free.
-      let r = free.loaded in
-      (those c).1 (r.0.ident.slot, slot_within b one caps slots r.0.ident c.no (r.0, r.1, refl, r.2), record { ident = r.0.ident; named = (r.0, r.1, refl, r.2); at = refl; free = free }),
-)
-
--- ---- who is chosen
+-- ---- the order of choice
 
 pub choice_ranks : IsStrictWeakOrder is_before
 choice_ranks = record {
@@ -199,6 +60,187 @@ choice_ranks = record {
 
     chain : (a b c : Candidate) → is_before a b ≡ false → is_before b c ≡ false → is_before a c ≡ false
     chain a b c first second = grind (arith, nat_tests)
+
+pub not_before_itself : (c : Candidate) → is_before c c ≡ false
+not_before_itself c = grind (arith, nat_tests)
+
+-- ---- one loaded thread
+
+module _ (b : Recorded) (one : IsExactlyOne (contents_of b)) (found : AreFound (state_of b.machine) (contents_of b)) where
+  module _ (l : Loaded ThreadRec) (there : cell_at (contents_of b).threads.cells l.ident.slot ≡ Some l) where
+    its : Resident
+    its = resident_of thread_rec.name_of l
+
+    is_resident : Contains (residents_of (contents_of b)) its
+    is_resident = seat_resident (contents_of b) one.sound kind.Thread l.ident.slot its (ap (option_map (resident_of thread_rec.name_of)) there)
+
+    its_content : content_of (contents_of b) (name.Thread l.value.no) ≡ Some (item.Thread l.value)
+    its_content = ap (option_map item.Thread) (loaded_content thread_rec.name_of kind.Thread (contents_of b).threads one.threads l.ident.slot l there (name.Thread l.value.no) refl)
+
+    -- if it is free, it is so on the board
+    pub free_there : is_free l.value ≡ true → IsFree takes_steps b (candidate_of l.value)
+    free_there free = record {
+      thread = flat_thread l.value;
+      there = found.threads l.value.no.0 ∙ ap thread_of its_content;
+      passes = both_left (is_ready l.value.status) (not (is_some l.value.on_cpu)) free;
+      loaded = (its, is_resident, refl);
+      free = ap mark_in its_content ∙ is_none_if l.value.on_cpu (both_right (is_ready l.value.status) (not (is_some l.value.on_cpu)) free);
+      priority = refl;
+      last = sym (ap last_in its_content);
+    }
+      where
+        both_left : (x y : Bool) → (x && y) ≡ true → x ≡ true
+        both_left true y is = refl
+        both_left false y is = is
+
+        both_right : (x y : Bool) → (x && y) ≡ true → y ≡ true
+        both_right true y is = is
+        both_right false y is = absurd (cc)
+
+        is_none_if : (o : Option ℕ) → not (is_some o) ≡ true → o ≡ None
+        is_none_if None is = refl
+        is_none_if (Some cpu) is = absurd (cc)
+
+  -- a free one on the board is one of the loaded threads
+  pub free_here : (c : Candidate) → IsFree takes_steps b c → (l : Loaded ThreadRec) × (cell_at (contents_of b).threads.cells l.ident.slot ≡ Some l) × (is_free l.value ≡ true) × (candidate_of l.value ≡ c)
+  free_here c free =
+      let r = free.loaded.0 in
+      let of_thread : r.ident.kind ≡ kind.Thread = resident_kind (contents_of b) one.sound r free.loaded.1 ∙ ap kind_of free.loaded.2 in
+      let seat = subst (λ (k : Kind). resident_at (contents_of b) k r.ident.slot ≡ Some r) of_thread (resident_seat (contents_of b) r free.loaded.1) in
+      let cell = mapped_back (cell_at (contents_of b).threads.cells r.ident.slot) r seat in
+      let l = cell.0 in
+      let there : cell_at (contents_of b).threads.cells l.ident.slot ≡ Some l = ap (λ (i : Ident). cell_at (contents_of b).threads.cells i.slot) (ap (λ (x : Resident). x.ident) cell.2) ∙ cell.1 in
+      let named : name.Thread l.value.no ≡ name.Thread c.no = ap (λ (x : Resident). x.name) cell.2 ∙ free.loaded.2 in
+      let number : l.value.no ≡ c.no = cc in
+      let content : content_of (contents_of b) (name.Thread c.no) ≡ Some (item.Thread l.value) = ap (λ (n : ThreadNo). content_of (contents_of b) (name.Thread n)) (sym number) ∙ its_content l there in
+      let shows : Some (flat_thread l.value) ≡ Some free.thread = sym (ap thread_of content) ∙ sym (found.threads c.no.0) ∙ free.there in
+      let thread : flat_thread l.value ≡ free.thread = cc in
+      let ready : is_ready l.value.status ≡ true = ap (λ (t : FlatThread). is_ready t.status) thread ∙ free.passes in
+      let away : l.value.on_cpu ≡ None = sym (ap mark_in content) ∙ free.free in
+      let priority : l.value.priority ≡ c.priority = ap (λ (t : FlatThread). t.priority) thread ∙ sym free.priority in
+      let last : l.value.last ≡ c.last = sym (ap last_in content) ∙ sym free.last in
+      (l, there, ap₂ (λ (x : Bool) (o : Option ℕ). x && not (is_some o)) ready away, same_candidate (candidate_of l.value) c number priority last)
+    where
+      mapped_back : (o : Option (Loaded ThreadRec)) (r : Resident) → option_map (resident_of thread_rec.name_of) o ≡ Some r → (l : Loaded ThreadRec) × (o ≡ Some l) × (resident_of thread_rec.name_of l ≡ r)
+      mapped_back None r is = absurd (cc)
+      mapped_back (Some l) r is = (l, refl, (cc))
+
+      same_candidate : (x y : Candidate) → x.no ≡ y.no → x.priority ≡ y.priority → x.last ≡ y.last → x ≡ y
+      same_candidate x y number priority last =
+          ap (λ (n : ThreadNo). let c : Candidate = record { no = n; priority = x.priority; last = x.last } in c) number
+          ∙ ap₂ (λ (p l : ℕ). let c : Candidate = record { no = y.no; priority = p; last = l } in c) priority last
+
+  -- those among all that is loaded are those on the board
+  pub free_iff : (list : List (Loaded ThreadRec)) → HasExactlyLoaded (contents_of b).threads.cells list → (c : Candidate) → IsFreeAmong list c ↔ IsFree takes_steps b c
+  free_iff list exact c = (
+    λ among. subst (IsFree takes_steps b) among.its (free_there among.loaded ((exact among.loaded).0 among.there) among.free),
+    λ free. let here = free_here c free in record { loaded = here.0; there = (exact here.0).1 here.1; free = here.2; its = here.3 },
+  )
+
+  pub first_of_all : (list : List (Loaded ThreadRec)) → HasExactlyLoaded (contents_of b).threads.cells list → (first : Option Candidate) → IsFirstAmong list first → IsFirstFree b first
+  first_of_all list exact None none = λ c free. none c ((free_iff list exact c).1 free)
+  first_of_all list exact (Some first) is = ((free_iff list exact first).0 is.0, λ c free. is.1 c ((free_iff list exact c).1 free))
+
+-- ---- one after another
+
+-- these are the free ones among those
+abbrev pub AreThose : List (Loaded ThreadRec) → List Candidate → Type 0
+AreThose list waiting = (c : Candidate) → Contains waiting c ↔ IsFreeAmong list c
+
+module _ (list : List (Loaded ThreadRec)) (l : Loaded ThreadRec) where
+  longer : (c : Candidate) → IsFreeAmong list c → IsFreeAmong (list ++ l ∷ []) c
+  longer c is = record { loaded = is.loaded; there = Contains-append_left list (l ∷ []) is.loaded is.there; free = is.free; its = is.its }
+
+  here : is_free l.value ≡ true → IsFreeAmong (list ++ l ∷ []) (candidate_of l.value)
+  here free = record { loaded = l; there = Contains-push list l; free = free; its = refl }
+
+  -- the last one isn't free, or it is that candidate, or the candidate is among those before
+  was : (c : Candidate) → IsFreeAmong (list ++ l ∷ []) c → IsFreeAmong list c ⊎ ((is_free l.value ≡ true) × (candidate_of l.value ≡ c))
+  was c is = elim (Contains-push_cases list l is.loaded is.there) [
+    | inl before ↦ inl (record { loaded = is.loaded; there = before; free = is.free; its = is.its })
+    | inr same ↦ inr (ap (λ (x : Loaded ThreadRec). is_free x.value) same ∙ is.free, ap (λ (x : Loaded ThreadRec). candidate_of x.value) same ∙ is.its)
+  ]
+
+  pub none_more : (waiting : List Candidate) → AreThose list waiting → is_free l.value ≡ false → AreThose (list ++ l ∷ []) waiting
+  none_more waiting those busy c = (
+    λ there. longer c ((those c).0 there),
+    λ is. elim (was c is) [
+      | inl before ↦ (those c).1 before
+      | inr last ↦ absurd (let never : false ≡ true = sym busy ∙ last.0 in cc)
+    ],
+  )
+
+  pub one_more : (waiting : List Candidate) → AreThose list waiting → is_free l.value ≡ true → AreThose (list ++ l ∷ []) (waiting ++ candidate_of l.value ∷ [])
+  one_more waiting those free c = (
+    λ there. elim (Contains-push_cases waiting (candidate_of l.value) c there) [
+      | inl before ↦ longer c ((those c).0 before)
+      | inr same ↦ subst (IsFreeAmong (list ++ l ∷ [])) same (here free)
+    ],
+    λ is. elim (was c is) [
+      | inl before ↦ Contains-append_left waiting (candidate_of l.value ∷ []) c ((those c).1 before)
+      | inr last ↦ subst (Contains (waiting ++ candidate_of l.value ∷ [])) last.1 (Contains-push waiting (candidate_of l.value))
+    ],
+  )
+
+  pub first_stays : (first : Option Candidate) → IsFirstAmong list first → is_free l.value ≡ false → IsFirstAmong (list ++ l ∷ []) first
+  first_stays None none busy = λ c is. elim (was c is) [
+    | inl before ↦ none c before
+    | inr last ↦ absurd (let never : false ≡ true = sym busy ∙ last.0 in cc)
+  ]
+  first_stays (Some first) is busy = (
+    longer first is.0,
+    λ c among. elim (was c among) [
+      | inl before ↦ is.1 c before
+      | inr last ↦ absurd (let never : false ≡ true = sym busy ∙ last.0 in cc)
+    ],
+  )
+
+  pub first_or_this : (first : Option Candidate) (now : Candidate) → IsFirstAmong list first → is_free l.value ≡ true → IsEarlier first (candidate_of l.value) now → IsFirstAmong (list ++ l ∷ []) (Some now)
+  first_or_this None now none free only = subst (λ (c : Candidate). IsFirstAmong (list ++ l ∷ []) (Some c)) (sym only) (
+    here free,
+    λ c among. elim (was c among) [
+      | inl before ↦ absurd (none c before)
+      | inr last ↦ subst (λ (x : Candidate). is_before x (candidate_of l.value) ≡ false) last.1 (not_before_itself (candidate_of l.value))
+    ],
+  )
+  first_or_this (Some first) now is free (inl stays) = subst (λ (c : Candidate). IsFirstAmong (list ++ l ∷ []) (Some c)) (sym stays.0) (
+    longer first is.0,
+    λ c among. elim (was c among) [
+      | inl before ↦ is.1 c before
+      | inr last ↦ subst (λ (x : Candidate). is_before x first ≡ false) last.1 stays.1
+    ],
+  )
+  first_or_this (Some first) now is free (inr comes) = subst (λ (c : Candidate). IsFirstAmong (list ++ l ∷ []) (Some c)) (sym comes.0) (
+    here free,
+    λ c among. elim (was c among) [
+      | inl before ↦ choice_ranks.chain c first (candidate_of l.value) (is.1 c before) comes.1
+      | inr last ↦ subst (λ (x : Candidate). is_before x (candidate_of l.value) ≡ false) last.1 (not_before_itself (candidate_of l.value))
+    ],
+  )
+
+-- ---- the loaded threads, one after another
+
+module _ (all start : List (Loaded ThreadRec)) (are : start ≡ all) (gone : List (Bor (Loaded ThreadRec))) (left : List (Loaded ThreadRec)) (yielded : Yields (YieldsFirstRef (λ (left : List (Loaded ThreadRec)). left)) start gone left) (item : Option (Bor (Loaded ThreadRec))) (rest : List (Loaded ThreadRec)) (next : YieldsFirstRef (λ (left : List (Loaded ThreadRec)). left) left item rest) where
+  -- as long as one comes not all are gone
+  pub fewer_gone : (l : Bor (Loaded ThreadRec)) → item ≡ Some l → length gone < length all
+  fewer_gone l is = (YieldsList-turn (YieldsList-from_first (λ (x : Bor (Loaded ThreadRec)). x.now) (λ left. left) all are) gone left yielded item rest l is next).0
+
+  -- and in the end all are
+  pub all_gone : item ≡ None → map (λ (x : Bor (Loaded ThreadRec)). x.now) gone ≡ all
+  all_gone none = (YieldsList-end (YieldsList-from_first (λ (x : Bor (Loaded ThreadRec)). x.now) (λ left. left) all are) gone left yielded item rest none next).0
+
+-- no more are loaded than there are slots
+pub few_loaded : (cells : List (Option (Loaded ThreadRec))) → length (loaded_in cells) ≤ length cells
+few_loaded [] = omega arith
+few_loaded (None ∷ cells) = let few = few_loaded cells in omega arith
+few_loaded (Some l ∷ cells) = let few = few_loaded cells in omega arith
+
+-- of which there are 256 at most
+pub few_slots : (m : Cached) → IsWellFormed (state_of m) → m.machine.caps.threads ≤ 256
+unfolding shown
+few_slots m formed = formed.memory.caps.threads
+
+-- ---- who is chosen
 
 -- of a sorted list, the first that passes is the first in order that does
 pub first_of_sorted : (test : Candidate → Bool) (waiting : List Candidate) → IsSortedBy is_before waiting → (i : ℕ) (e : Candidate) → i < length waiting → ((k : ℕ) (d : Candidate) → k < i → test (get_or waiting k d) ≡ false) → test (get_or waiting i e) ≡ true → IsFirstThat test waiting (get_or waiting i e)

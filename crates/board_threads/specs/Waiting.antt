@@ -1,11 +1,13 @@
 -- Which threads wait for a processor, and which of them is chosen.
-use Rattle.std.specs.Prelude.{◌≡◌, ℕ, List, Contains, Bool, true, false, None, Some, slice_get}
+use Rattle.std.specs.Prelude.{◌≡◌, ◌&&◌, ◌⊎◌, List, Contains, Bool, true, false, not, is_some, Option, None, Some, slice_get}
 use Rattle.cache_ident.specs.declared.names.Name.TheVariants as name
 use Rattle.cache_ident.specs.declared.names.ThreadNo.{ThreadNo}
-use Rattle.cache_ident.specs.declared.idents.Ident.{Ident}
-use Rattle.cache_ident.specs.Residents.{IsNameResident, IsResident}
+use Rattle.cache_ident.specs.Residents.{IsNameResident}
 use Rattle.flat_state.specs.declared.records.FlatThread.{FlatThread}
 use Rattle.flat_state.specs.Signals.{is_runnable}
+use Rattle.flat_state.specs.State.{is_ready}
+use Rattle.slot_cache.specs.declared.loaded.Loaded.{Loaded}
+use Rattle.thread_cache.specs.declared.ThreadRec.{ThreadRec}
 use Rattle.board_core.specs.thread_sets.specs.SetsOf.{takes_steps}
 use Rattle.ready_queue.specs.declared.Candidate.{Candidate}
 use Rattle.ready_queue.specs.Choice.{is_before}
@@ -38,12 +40,35 @@ pub record IsChosenOf (b : Recorded) (whom : ThreadNo) : Type 0 where
 
 -- ---- on the way there
 
--- it is loaded in that slot, and ready
-pub record IsFreeIn (slot : ℕ) (b : Recorded) (c : Candidate) : Type 0 where
-  pub ident : Ident
-  pub named : IsResident (residents_of (contents_of b)) ident (name.Thread c.no)
-  pub at : ident.slot ≡ slot
-  pub free : IsFree takes_steps b c
+-- a thread takes steps, and no processor has it
+abbrev pub is_free : ThreadRec → Bool
+is_free thread = is_ready thread.status && not (is_some thread.on_cpu)
+
+-- the thread as a candidate
+abbrev pub candidate_of : ThreadRec → Candidate
+candidate_of thread = record { no = thread.no; priority = thread.priority; last = thread.last }
+
+-- the candidate is a free one of these threads
+pub record IsFreeAmong (list : List (Loaded ThreadRec)) (c : Candidate) : Type 0 where
+  pub loaded : Loaded ThreadRec
+  pub there : Contains list loaded
+  pub free : is_free loaded.value ≡ true
+  pub its : candidate_of loaded.value ≡ c
+
+-- of the free ones among these threads none goes before this one, if there is one
+abbrev pub IsFirstAmong : List (Loaded ThreadRec) → Option Candidate → Type 0
+IsFirstAmong list None = (c : Candidate) → IsFreeAmong list c → ⊥
+IsFirstAmong list (Some first) = IsFreeAmong list first × ((c : Candidate) → IsFreeAmong list c → is_before c first ≡ false)
+
+-- the first of all free ones, if there is one
+abbrev pub IsFirstFree : Recorded → Option Candidate → Type 0
+IsFirstFree b None = (c : Candidate) → IsFree takes_steps b c → ⊥
+IsFirstFree b (Some first) = IsFree takes_steps b first × ((c : Candidate) → IsFree takes_steps b c → is_before c first ≡ false)
+
+-- of two the one that goes before, and the only one there is
+abbrev pub IsEarlier : Option Candidate → Candidate → Candidate → Type 0
+IsEarlier None other first = first ≡ other
+IsEarlier (Some c) other first = ((first ≡ c) × (is_before other c ≡ false)) ⊎ ((first ≡ other) × (is_before c other ≡ false))
 
 -- of those in a list that pass, none goes before it
 pub record IsFirstThat (test : Candidate → Bool) (waiting : List Candidate) (c : Candidate) : Type 0 where

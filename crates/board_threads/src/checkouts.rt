@@ -13,17 +13,18 @@ ghost use Rattle.board_core.specs.cached_machine.specs.Posts.{mark_of};
 ghost use Rattle.board_core.specs.Core.{contents_of};
 ghost use Rattle.board_threads.specs.Posts.{HasComeBack, IsCheckedOut, IsOutWith, IsTicketFor, OnlyMarks};
 ghost use Rattle.board_threads.specs.Tests.{goes_on};
-ghost use Rattle.board_threads.specs.Waiting.{IsChosenOf, IsFirstThat, IsFree, IsFreeIn, IsWaiting};
+ghost use Rattle.board_threads.specs.Waiting.{candidate_of as candidate_of_def, is_free as is_free_def, IsChosenOf, IsEarlier, IsFirstFree, IsFirstThat, IsFree, IsWaiting};
 
-use crate::known::{is_runnable, known, record_of};
+use crate::known::{is_runnable, known};
 use crate::tickets::Ticket;
 use arrayvec::ArrayVec;
 use board_checks::thread_as;
-use board_core::{Core, check_waiting};
+use board_core::{CachedMachine, Core};
 use cache_ident::{Name, ThreadNo};
-use flat_rules::Records;
+use flat_rules::{Records, is_ready};
 use ready_queue::Candidate;
 use std::cmp::Ordering;
+use thread_cache::ThreadRec;
 
 // As many threads as can be loaded.
 const MOST_LOADED: usize = 256;
@@ -31,8 +32,8 @@ const MOST_LOADED: usize = 256;
 /// Takes the next thread to a processor: of the loaded runnable ones that are on none, the one of the highest priority; among
 /// those the one that was checked out the longest ago; among those the one with the lowest number. None where there is none.
 ///
-/// It goes over the slots of threads, sorts the threads that are ready, and looks at the next step of one after another, in order
-/// of choice, until one is runnable. It takes no memory.
+/// It goes over the loaded threads, and looks at the next step of the first that is ready. Only where that isn't runnable, it
+/// sorts all that are ready, and looks at one after another until one is. It takes no memory.
 pub fn checkout(core: &mut Core, cpu: u32) -> Option<Ticket>
     requires processor { cpu < 8 }
     ensures nobody { IfNone result ((candidate : Candidate) → IsWaiting core.old candidate → ⊥) }
@@ -52,9 +53,36 @@ fn next_waiting(core: &Core) -> Option<ThreadNo>
     ensures chosen { IfSome result (IsChosenOf core.now) }
     ensures nobody { IfNone result ((candidate : Candidate) → IsWaiting core.now candidate → ⊥) }
 {
+    let first = first_free(core)?;
+    if is_runnable(core, first.no) {
+        return Some(first.no);
+    }
+    // Its step would signal a thread without room.
+    next_in_order(core)
+}
+
+// The same, whatever the first is.
+fn next_in_order(core: &Core) -> Option<ThreadNo>
+    ensures chosen { IfSome result (IsChosenOf core.now) }
+    ensures nobody { IfNone result ((candidate : Candidate) → IsWaiting core.now candidate → ⊥) }
+{
     let mut waiting = candidates(core);
     waiting.sort_unstable_by(|a, b| in_order(a, b));
     first_runnable(core, &waiting)
+}
+
+// Of the loaded threads that are ready and on no processor, the first in the order of choice.
+fn first_free(core: &Core) -> Option<Candidate>
+    ensures { IsFirstFree core.now result }
+{
+    known(core);
+    let mut first = None;
+    for loaded in core.machine().tables().loaded_threads() {
+        if is_free(&loaded.value) {
+            first = Some(earlier(first, candidate_of(&loaded.value)));
+        }
+    }
+    first
 }
 
 // The loaded threads that are ready and on no processor.
@@ -63,30 +91,38 @@ fn candidates(core: &Core) -> ArrayVec<Candidate, MOST_LOADED>
 {
     known(core);
     let mut waiting = ArrayVec::new();
-    for slot in 0..core.machine().tables().caps().threads {
-        if let Some(candidate) = candidate_at(core, slot) {
-            waiting.push(candidate);
+    for loaded in core.machine().tables().loaded_threads() {
+        if is_free(&loaded.value) {
+            waiting.push(candidate_of(&loaded.value));
         }
     }
     waiting
 }
 
-// The thread that is loaded in a slot, where it is ready and on no processor.
-fn candidate_at(core: &Core, slot: u32) -> Option<Candidate>
-    requires { slot < core.now.machine.machine.caps.threads }
-    ensures found { IfSome result (IsFreeIn slot core.now) }
-    ensures absent { IfNone result ((candidate : Candidate) → IsFreeIn slot core.now candidate → ⊥) }
+// Whether a loaded thread is ready and on no processor.
+fn is_free(thread: &ThreadRec) -> bool
+    ensures { result ≡ is_free_def thread.now }
 {
-    known(core);
-    let no = core.machine().thread_at(slot)?;
-    let thread = record_of(core, no)?;
-    match check_waiting(core.machine(), thread) {
-        Ok(()) => Some(Candidate {
-            no,
-            priority: thread.priority,
-            last: thread.last,
-        }),
-        Err(_) => None,
+    is_ready::<CachedMachine>(thread) && thread.on_cpu.is_none()
+}
+
+fn candidate_of(thread: &ThreadRec) -> Candidate
+    ensures { result ≡ candidate_of_def thread.now }
+{
+    Candidate {
+        no: thread.no,
+        priority: thread.priority,
+        last: thread.last,
+    }
+}
+
+// The one of two that goes before.
+fn earlier(first: Option<Candidate>, other: Candidate) -> Candidate
+    ensures { IsEarlier first other result }
+{
+    match first {
+        Some(first) if !in_order(&other, &first).is_lt() => first,
+        _ => other,
     }
 }
 

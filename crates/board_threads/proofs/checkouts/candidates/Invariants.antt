@@ -1,10 +1,12 @@
-use Rattle.std.proofs.Common.{◌≤◌, length}
+use Rattle.std.proofs.Common.{◌≤◌, length, map}
+use Rattle.slot_cache.specs.declared.loaded.Loaded.{Loaded}
+use Rattle.thread_cache.specs.declared.ThreadRec.{ThreadRec}
 use Rattle.board_threads.proofs.CandidateLemmas.{AreThose}
 use Rattle.board_threads.proofs.checkouts.candidates.Given as goal
 
--- as far as the slots before go
-abbrev pub invariant-loop-slot : goal.invariant-loop-slot
-invariant-loop-slot l = record {
-  few : length l.waiting.items ≤ l.slot;
-  those : AreThose l.slot l.core l.waiting.items;
+-- as far as it went over them
+abbrev pub invariant-loop-loaded : goal.invariant-loop-loaded
+invariant-loop-loaded l = record {
+  few : length l.waiting.items ≤ length l.yielded;
+  those : AreThose (map (λ x. x.now) l.yielded) l.waiting.items;
 }

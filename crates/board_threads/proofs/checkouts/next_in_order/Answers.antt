@@ -4,7 +4,7 @@ use Rattle.std.proofs.lemmas.List.Sorted.{answers_always}
 use Rattle.arrayvec.proofs.ArrayVecLemmas.{items-with_items}
 use Rattle.ready_queue.specs.Choice.{is_before}
 use Rattle.board_threads.proofs.CandidateLemmas.{choice_ranks, chosen_among, nobody_waits}
-use Rattle.board_threads.proofs.checkouts.next_waiting.Goals as goal
+use Rattle.board_threads.proofs.checkouts.next_in_order.Goals as goal
 
 pub first_runnable-requires : goal.first_runnable-requires
 first_runnable-requires c =
