@@ -74,7 +74,7 @@ module _ (m : Machine) (memory : List ℕ) (caps : Caps) (old new : Contents) (p
       grown_told m memory memory old new true true j as_told (written_back cpu gone) legal
       (ap (told_from (tells m memory old true)) entries
       ∙ told_unloaded cpu group.order.dependents root.ident (tells m memory old true)
-      ∙ same_told (shown (Some m) memory old) (shown (Some m) memory new) true true (length old.issued) (length new.issued) (without root.ident (without_all (map ident_of group.order.dependents) (residents_of old))) (residents_of new) (sym (is.contents.shows (Some m) memory)) refl loads residents)
+      ∙ same_told (shown (Some m) memory old) (shown (Some m) memory new) true true (length old.issued) (length new.issued) (without root.ident (without_all (map ident_of group.order.dependents) (residents_of old))) (residents_of new) (sym (is.shows (Some m) memory)) refl loads residents)
       (λ x. all_stand gone cpu old.issued (length j) x (group_issued m memory caps old pairs whole root there (idents_of gone) group) ∙ ap (λ (issued : List Issued). standing_in issued x) (sym is.issued))
 
   pub unloaded_told : standing_in old.issued ident ≡ Live → ident ≢ first_ident → IsUnload old new ident (length j) gone → AreAsTold m memory new true (j ++ written_back cpu gone)

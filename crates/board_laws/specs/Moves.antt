@@ -66,7 +66,7 @@ pub record IsUnload (old new : Contents) (ident : Ident) (at : ℕ) (gone : List
   pub causes : gone ≡ gone_as Unloaded (idents_of gone)
   pub residents : residents_of new ≡ without_all (idents_of gone) (residents_of old)
   pub issued : new.issued ≡ departed_all old.issued (idents_of gone) at
-  pub contents : KeepsButCounts old new
+  pub shows : ShowsTheSame old new
 
 -- what is loaded with the identifier was locked, or unlocked
 pub record IsLock (old new : Contents) (ident : Ident) (on : Bool) : Type 0 where

@@ -1,5 +1,5 @@
 -- What holds still where the same machine is shown, and each thread has the same content.
-use Rattle.std.proofs.Common.{◌≡◌, ℕ, ◌<◌, Bool, true, false, List, Option, Some, None, length, slice_get, refl, sym, ◌∙◌, ap, ap₂, subst, inl, inr, arith}
+use Rattle.std.proofs.Common.{◌≡◌, ℕ, ◌<◌, Bool, List, Option, Some, None, length, slice_get, refl, sym, ◌∙◌, ap, subst, inl, inr, arith}
 use Rattle.std.specs.List.{list_any}
 use Rattle.std.specs.Option.{option_map}
 use Rattle.std.specs.Prelude.{if◌then◌else◌}
@@ -16,7 +16,6 @@ use Rattle.flat_state.specs.State.{FlatState}
 use Rattle.flat_state.specs.WellFormed.{IsWellFormed}
 use Rattle.kind_store.specs.Changes.{is_name}
 use Rattle.thread_cache.specs.declared.ThreadRec.{ThreadRec}
-use Rattle.board_laws.specs.desc_stores.specs.declared.items.Item.{Item}
 use Rattle.board_laws.specs.desc_stores.specs.declared.items.Item.TheVariants as item
 use Rattle.board_laws.specs.desc_stores.specs.Contents.{content_of, residents_of, Contents}
 use Rattle.board_laws.specs.desc_groups.specs.Moves.{but_for_counts}
@@ -25,7 +24,7 @@ use Rattle.board_laws.specs.shown_state.specs.Shown.{shown}
 use Rattle.thread_sets.specs.Sets.{SameButRoom, Sets}
 use Rattle.thread_sets.specs.SetsOf.{AreSetsOf}
 use Rattle.cached_machine.specs.Cached.{is_loaded, Cached, IsSound}
-use Rattle.cached_machine.specs.Posts.{last_in, last_of, mark_in, mark_of, HasLoadedMarks, HasSameMarks, HasSeats}
+use Rattle.cached_machine.specs.Posts.{last_in, mark_in, mark_of, HasLoadedMarks, HasPosts, HasSameMarks, OnlyLoadedAreOut}
 use Rattle.cached_machine.proofs.LoadedLaws.{ComesFrom}
 
 pub itself_but_room : (sets : Sets) → SameButRoom sets sets
@@ -51,12 +50,13 @@ module _ (machine : Machine) (memory : List ℕ) (h h' : Held) (sets sets' : Set
   }
 
 -- the slots are known still where nothing was loaded
-pub seats_stay : (h h' : Held) (seats : List ThreadNo) → h'.caps ≡ h.caps → ComesFrom (residents_of h.contents) (residents_of h'.contents) → HasSeats h seats → HasSeats h' seats
-seats_stay h h' seats caps from has = record {
+pub posts_stay : (h h' : Held) (seats : List ThreadNo) → h'.caps ≡ h.caps → ComesFrom (residents_of h.contents) (residents_of h'.contents) → OnlyLoadedAreOut h'.contents → HasPosts h seats → HasPosts h' seats
+posts_stay h h' seats caps from out has = record {
   slots = has.slots ∙ ap (λ (c : Caps). c.threads) (sym caps);
   seated = λ r whom there named.
       let was = from.each r there in
       ap (λ (i : Ident). slice_get seats i.slot) (sym was.3) ∙ has.seated was.0 whom was.1 (was.2 ∙ named);
+  out = out;
 }
 
 -- ---- marks and last checkouts
@@ -71,27 +71,19 @@ same_thread (Some x) (Some y) e = let same : x ≡ y = cc in ap (λ (t : ThreadR
 pub threads_kept : (old new : Contents) → ((n : Name) → option_map but_for_counts (content_of new n) ≡ option_map but_for_counts (content_of old n)) → (whom : ThreadNo) → content_of new (name.Thread whom) ≡ content_of old (name.Thread whom)
 threads_kept old new kept whom = same_thread _ _ (kept (name.Thread whom))
 
--- a thread that is loaded is still marked as it was
-pub marks_by : (old new : Contents) → ((whom : ThreadNo) → last_of new whom ≡ last_of old whom) → ((whom : ThreadNo) → is_loaded new (name.Thread whom) ≡ true → mark_in (content_of new (name.Thread whom)) ≡ mark_of old whom) → HasLoadedMarks old new
-marks_by old new lasts marks = record { marks = λ whom. by whom (is_loaded new (name.Thread whom)) refl; lasts = lasts }
-  where
-    by : (whom : ThreadNo) (b : Bool) → is_loaded new (name.Thread whom) ≡ b → (if b then mark_in (content_of new (name.Thread whom)) else None) ≡ (if b then mark_of old whom else None)
-    by whom false absent = refl
-    by whom true there = marks whom there
+-- each thread has the same content
+pub same_marks : (old new : Contents) → ((whom : ThreadNo) → content_of new (name.Thread whom) ≡ content_of old (name.Thread whom)) → HasSameMarks old new
+same_marks old new threads = record { marks = λ whom. ap mark_in (threads whom); lasts = λ whom. ap last_in (threads whom) }
 
-module _ (old new : Contents) (threads : (whom : ThreadNo) → content_of new (name.Thread whom) ≡ content_of old (name.Thread whom)) where
-  -- the same are loaded
-  pub same_marks : ((n : Name) → is_loaded new n ≡ is_loaded old n) → HasSameMarks old new
-  same_marks loaded = record {
-    marks = λ whom. ap₂ (λ (b : Bool) (o : Option Item). if b then mark_in o else None) (loaded (name.Thread whom)) (threads whom);
-    lasts = λ whom. ap last_in (threads whom);
-  }
+-- ---- who is on a processor
 
-  -- no more are loaded
-  pub loaded_marks : ((n : Name) → is_loaded new n ≡ true → is_loaded old n ≡ true) → HasLoadedMarks old new
-  loaded_marks loaded = marks_by old new (λ whom. ap last_in (threads whom)) (λ whom there.
-      ap mark_in (threads whom)
-      ∙ sym (ap (λ (b : Bool). if b then mark_in (content_of old (name.Thread whom)) else None) (loaded (name.Thread whom) there)))
+-- marks are the same, and the same are loaded
+pub same_out : (old new : Contents) → HasSameMarks old new → ((n : Name) → is_loaded new n ≡ is_loaded old n) → OnlyLoadedAreOut old → OnlyLoadedAreOut new
+same_out old new same loaded out whom absent = same.marks whom ∙ out whom (sym (loaded (name.Thread whom)) ∙ absent)
+
+-- only the marks of what is loaded are left
+pub loaded_out : (old new : Contents) → HasLoadedMarks old new → OnlyLoadedAreOut new
+loaded_out old new has whom absent = has.marks whom ∙ ap (λ (b : Bool). if b then mark_of old whom else None) absent
 
 pub same_loaded : (old new : Contents) → residents_of new ≡ residents_of old → (n : Name) → is_loaded new n ≡ is_loaded old n
 same_loaded old new residents n = ap (λ (rs : List Resident). list_any (λ (r : Resident). is_name n r.name) rs) residents

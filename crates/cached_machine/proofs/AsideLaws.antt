@@ -1,5 +1,5 @@
 -- What stays where nothing changed but memory and what steps change of contents.
-use Rattle.std.proofs.Common.{◌≡◌, ℕ, Bool, if◌then◌else◌, List, Option, Some, None, refl, sym, ◌∙◌, ap, ap₂, subst}
+use Rattle.std.proofs.Common.{◌≡◌, List, Option, Some, None, refl, sym, ◌∙◌, ap, subst}
 use Rattle.std.specs.List.{list_any}
 use Rattle.std.specs.Option.{option_map}
 use Rattle.cache_ident.specs.declared.names.Caps.{Caps}
@@ -14,11 +14,11 @@ use Rattle.board_laws.specs.desc_stores.specs.Changes.{room_of}
 use Rattle.board_laws.specs.desc_stores.specs.Contents.{content_of, residents_of, Contents}
 use Rattle.board_laws.specs.shown_state.specs.Shown.{HasSameNames}
 use Rattle.board_laws.specs.Moves.{KeepsLoaded}
-use Rattle.board_laws.specs.desc_tables.specs.Tables.{Held}
 use Rattle.cached_machine.specs.Cached.{is_loaded, Cached}
 use Rattle.cached_machine.specs.Aside.{aside_of, but_for_steps, Aside}
-use Rattle.cached_machine.specs.Posts.{last_in, mark_in, AreSeated, HasSameMarks, HasSeats}
+use Rattle.cached_machine.specs.Posts.{last_in, mark_in, AreSeated, HasPosts, HasSameMarks}
 use Rattle.cached_machine.specs.Moved.{KeepsBeside}
+use Rattle.cached_machine.proofs.AlikeLaws.{same_out}
 
 -- what a step leaves of a content has its processor and its last checkout
 marked_alike : (o : Option Item) → mark_in (option_map but_for_steps o) ≡ mark_in o
@@ -39,19 +39,9 @@ checked_alike (Some (item.Mapping row)) = refl
 pub loaded_alike : (old new : Contents) → residents_of new ≡ residents_of old → (n : Name) → is_loaded new n ≡ is_loaded old n
 loaded_alike old new same n = ap (λ (rs : List Resident). list_any (λ (r : Resident). is_name n r.name) rs) same
 
--- where the same is loaded, and the processor and the last checkout in each content stay, those of each thread do
-pub marks_by_contents : (old new : Contents) → residents_of new ≡ residents_of old → ((n : Name) → mark_in (content_of new n) ≡ mark_in (content_of old n)) → ((n : Name) → last_in (content_of new n) ≡ last_in (content_of old n)) → HasSameMarks old new
-marks_by_contents old new same marks lasts = record {
-  marks = λ whom. ap₂ (λ (loaded : Bool) (mark : Option ℕ). if loaded then mark else None) (loaded_alike old new same (name.Thread whom)) (marks (name.Thread whom));
-  lasts = λ whom. lasts (name.Thread whom);
-}
-
--- where the same is loaded, with the same capacities, the slots have the threads that they had
-pub seats_by_residents : (old new : Held) (seats : List ThreadNo) → new.caps ≡ old.caps → residents_of new.contents ≡ residents_of old.contents → HasSeats old seats → HasSeats new seats
-seats_by_residents old new seats caps same has = record {
-  slots = has.slots ∙ sym (ap (λ (c : Caps). c.threads) caps);
-  seated = subst (λ (rs : List Resident). AreSeated rs seats) (sym same) has.seated;
-}
+-- where the processor and the last checkout in each content stay, those of each thread do
+pub marks_by_contents : (old new : Contents) → ((n : Name) → mark_in (content_of new n) ≡ mark_in (content_of old n)) → ((n : Name) → last_in (content_of new n) ≡ last_in (content_of old n)) → HasSameMarks old new
+marks_by_contents old new marks lasts = record { marks = λ whom. marks (name.Thread whom); lasts = λ whom. lasts (name.Thread whom) }
 
 module _ (old new : Cached) (same : aside_of new ≡ aside_of old) where
   pub machine_stays : new.machine ≡ old.machine
@@ -98,13 +88,17 @@ module _ (old new : Cached) (same : aside_of new ≡ aside_of old) where
 
   -- each thread has its processor and its last checkout
   pub marks_stay : HasSameMarks old.held.contents new.held.contents
-  marks_stay = marks_by_contents old.held.contents new.held.contents residents_stay
+  marks_stay = marks_by_contents old.held.contents new.held.contents
       (λ n. sym (marked_alike (content_of new.held.contents n)) ∙ ap mark_in (contents_stay n) ∙ marked_alike (content_of old.held.contents n))
       (λ n. sym (checked_alike (content_of new.held.contents n)) ∙ ap last_in (contents_stay n) ∙ checked_alike (content_of old.held.contents n))
 
   -- and its slot
-  pub seats_stay : (seats : List ThreadNo) → HasSeats old.held seats → HasSeats new.held seats
-  seats_stay seats has = seats_by_residents old.held new.held seats caps_stay residents_stay has
+  pub posts_stay : (seats : List ThreadNo) → HasPosts old.held seats → HasPosts new.held seats
+  posts_stay seats has = record {
+    slots = has.slots ∙ sym (ap (λ (c : Caps). c.threads) caps_stay);
+    seated = subst (λ (rs : List Resident). AreSeated rs seats) (sym residents_stay) has.seated;
+    out = same_out old.held.contents new.held.contents marks_stay (loaded_alike old.held.contents new.held.contents residents_stay) has.out;
+  }
 
   pub beside_stays : KeepsBeside old new
   beside_stays = record { machine = machine_stays; caps = caps_stay; gone = gone_stays; spare = spare_stays; loaded = loaded_stays; marks = marks_stay }

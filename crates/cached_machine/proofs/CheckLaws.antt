@@ -6,11 +6,12 @@ use Rattle.std.proofs.lemmas.Option.{slice_get_within}
 use Rattle.cache_ident.specs.declared.names.Name.TheVariants as name
 use Rattle.cache_ident.specs.declared.names.ThreadNo.{ThreadNo}
 use Rattle.cache_ident.specs.Residents.{Resident}
-use Rattle.board_laws.specs.desc_stores.specs.Contents.{content_of, residents_of}
+use Rattle.board_laws.specs.desc_stores.specs.Contents.{residents_of}
 use Rattle.board_laws.specs.desc_stores.specs.Sound.{IsExactlyOne}
 use Rattle.board_laws.specs.desc_tables.specs.Tables.{Held}
 use Rattle.cached_machine.specs.Cached.{is_loaded}
-use Rattle.cached_machine.specs.Posts.{but_at, last_of, mark_in, mark_of, HasSeats, IsCheckedInAt, OnlyPosts}
+use Rattle.cached_machine.specs.Posts.{but_at, last_of, mark_of, HasPosts, IsCheckedInAt, OnlyPosts}
+use Rattle.cached_machine.proofs.AlikeLaws.{same_loaded}
 use Rattle.cached_machine.proofs.LoadedLaws.{alone_in_slot, loaded_by}
 
 pub only_itself : (h : Held) → OnlyPosts h h
@@ -22,7 +23,7 @@ only_itself h = record {
   room = refl;
 }
 
-only_onward : (a b c : Held) → OnlyPosts a b → OnlyPosts b c → OnlyPosts a c
+pub only_onward : (a b c : Held) → OnlyPosts a b → OnlyPosts b c → OnlyPosts a c
 only_onward a b c first second = record {
   rest = second.rest ∙ ap (λ (h : Held). let x : Held = record h { contents = c.contents } in x) first.rest;
   shows = λ machine memory. second.shows machine memory ∙ first.shows machine memory;
@@ -61,18 +62,26 @@ nobody_there h slot none = record {
 
 -- ---- slot by slot
 
--- no thread that is loaded in one of the first slots is on a processor
+-- no thread that is loaded in one of the first slots is on a processor; each other one is on the one that it was on, or on none
 pub record AreCheckedIn (slots : ℕ) (old new : Held) : Type 0 where
   pub only : OnlyPosts old new
+  pub others : (no : ThreadNo) → (mark_of new.contents no ≡ mark_of old.contents no) ⊎ (mark_of new.contents no ≡ None)
   pub marks : (r : Resident) (no : ThreadNo) → Contains (residents_of new.contents) r → r.name ≡ name.Thread no → r.ident.slot < slots → mark_of new.contents no ≡ None
   pub lasts : (no : ThreadNo) → last_of new.contents no ≡ last_of old.contents no
 
 pub none_checked : (h : Held) → AreCheckedIn 0 h h
-none_checked h = record { only = only_itself h; marks = λ r whom there named low. absurd (omega arith); lasts = λ whom. refl }
+none_checked h = record { only = only_itself h; others = λ whom. inl refl; marks = λ r whom there named low. absurd (omega arith); lasts = λ whom. refl }
 
 pub one_more_checked : (slots : ℕ) (first h h' : Held) → AreCheckedIn slots first h → IsCheckedInAt slots h h' → AreCheckedIn (slots + 1) first h'
 one_more_checked slots first h h' before now = record {
   only = only_onward first h h' before.only now.only;
+  others = λ whom. elim (now.others whom) [
+    | inl same ↦ elim (before.others whom) [
+      | inl was ↦ inl (same ∙ was)
+      | inr none ↦ inr (same ∙ none)
+    ]
+    | inr none ↦ inr none
+  ];
   marks = λ r whom there named low. elim (cases_eq r.ident.slot slots) [
     | inl at ↦ now.there r whom there named at
     | inr other ↦ elim (now.others whom) [
@@ -84,11 +93,14 @@ one_more_checked slots first h h' before now = record {
 }
 
 -- once all slots are seen, nobody is on a processor
-pub all_checked : (slots : ℕ) (first h : Held) (seats : List ThreadNo) → HasSeats first seats → first.caps.threads ≤ slots → AreCheckedIn slots first h → (whom : ThreadNo) → mark_of h.contents whom ≡ None
+pub all_checked : (slots : ℕ) (first h : Held) (seats : List ThreadNo) → HasPosts first seats → first.caps.threads ≤ slots → AreCheckedIn slots first h → (whom : ThreadNo) → mark_of h.contents whom ≡ None
 all_checked slots first h seats has all checked whom = by (is_loaded h.contents (name.Thread whom)) refl
   where
     by : (b : Bool) → is_loaded h.contents (name.Thread whom) ≡ b → mark_of h.contents whom ≡ None
-    by false absent = ap (λ (b : Bool). if b then mark_in (content_of h.contents (name.Thread whom)) else None) absent
+    by false absent = elim (checked.others whom) [
+      | inl same ↦ same ∙ has.out whom (sym (same_loaded first.contents h.contents checked.only.loaded.residents (name.Thread whom)) ∙ absent)
+      | inr none ↦ none
+    ]
     by true there =
         let r = loaded_by (residents_of h.contents) (name.Thread whom) there in
         let was = subst (λ (rs : List Resident). Contains rs r.0) checked.only.loaded.residents r.1 in

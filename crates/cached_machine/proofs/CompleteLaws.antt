@@ -45,9 +45,9 @@ use Rattle.board_laws.specs.desc_tables.specs.Tables.{Held}
 use Rattle.cached_machine.specs.Aside.{aside_of, but_for_steps, Aside}
 use Rattle.cached_machine.specs.Cached.{state_of, Cached, IsSound}
 use Rattle.cached_machine.specs.Moved.{KeepsBeside, KeepsPost, OnlyRoom}
-use Rattle.cached_machine.specs.Posts.{last_in, mark_in, HasSeats}
+use Rattle.cached_machine.specs.Posts.{last_in, mark_in, HasPosts}
 use Rattle.cached_machine.specs.Stepping.{IfThread}
-use Rattle.cached_machine.proofs.MadeLaws.{beside_held, held_with, held_without, marks_kept, room_held, seats_kept, sound_as, KeepsHeld}
+use Rattle.cached_machine.proofs.MadeLaws.{beside_held, held_with, held_without, posts_kept, room_held, sound_as, KeepsHeld}
 
 -- ---- beside the state
 
@@ -76,9 +76,10 @@ beside_aside m m' same =
       gone = ap (λ (a : Aside). a.gone) same;
       spare = ap (λ (a : Aside). a.spare) same;
       loaded = record { residents = residents; issued = ap (λ (a : Aside). a.issued) same };
-      marks = marks_kept m.held.contents m'.held.contents residents
-          (λ whom. sym (marks_aside (content_of m'.held.contents (name.Thread whom))) ∙ ap mark_in (content (name.Thread whom)) ∙ marks_aside (content_of m.held.contents (name.Thread whom)))
-          (λ whom. sym (lasts_aside (content_of m'.held.contents (name.Thread whom))) ∙ ap last_in (content (name.Thread whom)) ∙ lasts_aside (content_of m.held.contents (name.Thread whom)));
+      marks = record {
+        marks = λ whom. sym (marks_aside (content_of m'.held.contents (name.Thread whom))) ∙ ap mark_in (content (name.Thread whom)) ∙ marks_aside (content_of m.held.contents (name.Thread whom));
+        lasts = λ whom. sym (lasts_aside (content_of m'.held.contents (name.Thread whom))) ∙ ap last_in (content (name.Thread whom)) ∙ lasts_aside (content_of m.held.contents (name.Thread whom));
+      };
     }
 
 -- ---- declarations
@@ -126,12 +127,12 @@ module _ (machine : Machine) (memory : List ℕ) (h h' : Held) (sets : Sets) (sp
   pub row_went : state_of without_it ≡ record (state_of with_it) { rows = without space vpn.0 (state_of with_it).rows }
   row_went = retraction_shown (Some machine) memory h.contents h'.contents space vpn gone
 
-  pub row_went_sound : (granted : Caps) (seats : List ThreadNo) → residents_of h'.contents ≡ residents_of h.contents → IsSound with_it granted × HasSeats h seats → IsSound without_it granted × HasSeats h' seats
+  pub row_went_sound : (granted : Caps) (seats : List ThreadNo) → residents_of h'.contents ≡ residents_of h.contents → IsSound with_it granted × HasPosts h seats → IsSound without_it granted × HasPosts h' seats
   row_went_sound granted seats residents sound =
       let s = state_of with_it in
       let kept = held_without h h' rest residents (ap (λ (c : Contents). c.issued) gone.only) space vpn gone.contents in
       let fits = without_sound s granted (record { formed = sound.0.formed; sums = sound.0.sums }) space vpn.0 in
-      (sound_as with_it without_it granted granted refl (ap (λ (x : Held). x.caps) rest) sound.0 (record s { rows = without space vpn.0 s.rows }) row_went fits sound.0.sets, seats_kept h h' seats kept sound.1)
+      (sound_as with_it without_it granted granted refl (ap (λ (x : Held). x.caps) rest) sound.0 (record s { rows = without space vpn.0 s.rows }) row_went fits sound.0.sets, posts_kept h h' seats kept sound.1)
 
 -- ---- a thread's own part
 
@@ -201,10 +202,10 @@ module _ (machine : Machine) (memory : List ℕ) (h h' : Held) (sets sets' : Set
     carried_beside = beside_held before after refl held spare
 
     module _ {T E : Type 0} (r : Result T E) (ok : OnOk r (flat_thread left ≡ own_part (flat_thread was))) (err : OnErr r (left ≡ was)) where
-      pub carried_sound : (granted : Caps) (seats : List ThreadNo) → IsSound before granted × HasSeats h seats → IsSound after granted × HasSeats h' seats
+      pub carried_sound : (granted : Caps) (seats : List ThreadNo) → IsSound before granted × HasPosts h seats → IsSound after granted × HasPosts h' seats
       carried_sound granted seats sound =
           let fits = own_fits (state_of before) granted (record { formed = sound.0.formed; sums = sound.0.sums }) no.0 (flat_thread was) (flat_thread left) stood r ok (on_err_weaker r (ap flat_thread) err) in
-          (sound_left shows granted (ap (λ (x : Held). x.caps) rest) sets_are fits sound.0, seats_kept h h' seats held sound.1)
+          (sound_left shows granted (ap (λ (x : Held). x.caps) rest) sets_are fits sound.0, posts_kept h h' seats held sound.1)
 
       pub carried_ok : OnOk r (OfThread (state_of before) no.0 (λ t. state_of after ≡ with_thread (state_of before) no.0 (own_part t)))
       carried_ok = on_ok_weaker r (λ done t here. now_stands shows ∙ ap (λ (u : FlatThread). with_thread (state_of before) no.0 u) (done ∙ ap own_part (same_Some (flat_thread was) t (sym stood ∙ here)))) ok

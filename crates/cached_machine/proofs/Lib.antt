@@ -2,6 +2,7 @@ pub mod LoadedLaws
 pub mod AlikeLaws
 pub mod PostLaws
 pub mod CheckLaws
+pub mod BackLaws
 pub mod MoveLaws
 pub mod RoomLaws
 pub mod AsideLaws

@@ -1,5 +1,5 @@
 -- What stays beside the state as a content comes, changes or goes, and what holds of the machine then.
-use Rattle.std.proofs.Common.{◌≡◌, ◌≢◌, ℕ, ◌+◌, ◌*◌, ◌≤◌, IsSome, Bool, List, Option, Some, None, refl, sym, ◌∙◌, ap, ap₂, subst, inl, inr, arith}
+use Rattle.std.proofs.Common.{◌≡◌, ◌≢◌, ℕ, ◌+◌, ◌*◌, ◌≤◌, IsSome, Bool, List, Option, Some, None, refl, sym, ◌∙◌, ap, subst, inl, inr, arith}
 use Rattle.std.specs.List.{list_any}
 use Rattle.std.specs.Option.{option_map}
 use Rattle.std.specs.Prelude.{if◌then◌else◌, Result, Ok, Err, OnErr}
@@ -49,8 +49,9 @@ use Rattle.board_laws.specs.desc_tables.specs.Tables.{Held}
 use Rattle.board_laws.specs.Moves.{Declares, KeepsLoaded}
 use Rattle.cached_machine.specs.Cached.{is_loaded, state_of, Cached, IsSound}
 use Rattle.cached_machine.specs.Moved.{IsMade, KeepsBeside, OnlyRoom}
-use Rattle.cached_machine.specs.Posts.{last_in, last_of, mark_in, AreSeated, HasSameMarks, HasSeats}
+use Rattle.cached_machine.specs.Posts.{last_in, last_of, mark_in, AreSeated, HasPosts, HasSameMarks}
 use Rattle.cached_machine.proofs.AdmitLaws.{new_declared}
+use Rattle.cached_machine.proofs.AlikeLaws.{same_out}
 
 -- ---- beside the state
 
@@ -64,16 +65,14 @@ pub record KeepsHeld (h h' : Held) : Type 0 where
 loaded_same : (old new : Contents) → residents_of new ≡ residents_of old → (n : Name) → is_loaded new n ≡ is_loaded old n
 loaded_same old new same n = ap (λ (rs : List Resident). list_any (λ (r : Resident). is_name n r.name) rs) same
 
-pub marks_kept : (old new : Contents) → residents_of new ≡ residents_of old → ((whom : ThreadNo) → mark_in (content_of new (name.Thread whom)) ≡ mark_in (content_of old (name.Thread whom))) → ((whom : ThreadNo) → last_of new whom ≡ last_of old whom) → HasSameMarks old new
-marks_kept old new residents on_cpu last = record {
-  marks = λ whom. ap₂ (λ (b : Bool) (o : Option ℕ). if b then o else None) (loaded_same old new residents (name.Thread whom)) (on_cpu whom);
-  lasts = last;
-}
+pub marks_kept : (h h' : Held) → KeepsHeld h h' → HasSameMarks h.contents h'.contents
+marks_kept h h' kept = record { marks = kept.on_cpu; lasts = kept.last }
 
-pub seats_kept : (h h' : Held) (seats : List ThreadNo) → KeepsHeld h h' → HasSeats h seats → HasSeats h' seats
-seats_kept h h' seats kept has = record {
+pub posts_kept : (h h' : Held) (seats : List ThreadNo) → KeepsHeld h h' → HasPosts h seats → HasPosts h' seats
+posts_kept h h' seats kept has = record {
   slots = has.slots ∙ ap (λ (x : Held). x.caps.threads) (sym kept.rest);
   seated = subst (λ (rs : List Resident). AreSeated rs seats) (sym kept.loaded.residents) has.seated;
+  out = same_out h.contents h'.contents (marks_kept h h' kept) (loaded_same h.contents h'.contents kept.loaded.residents) has.out;
 }
 
 pub beside_held : (m m' : Cached) → m'.machine ≡ m.machine → KeepsHeld m.held m'.held → m'.held.contents.spare ≡ m.held.contents.spare → KeepsBeside m m'
@@ -83,7 +82,7 @@ beside_held m m' machine kept spare = record {
   gone = ap (λ (x : Held). x.gone) kept.rest;
   spare = spare;
   loaded = kept.loaded;
-  marks = marks_kept m.held.contents m'.held.contents kept.loaded.residents kept.on_cpu kept.last;
+  marks = marks_kept m.held m'.held kept;
 }
 
 pub beside_onward : (a b c : Cached) → KeepsBeside a b → KeepsBeside b c → KeepsBeside a c
@@ -104,7 +103,7 @@ room_held m m' machine memory kept state room sets_room spare = record {
   gone = ap (λ (x : Held). x.gone) kept.rest;
   state = state;
   loaded = kept.loaded;
-  marks = marks_kept m.held.contents m'.held.contents kept.loaded.residents kept.on_cpu kept.last;
+  marks = marks_kept m.held m'.held kept;
   room = room;
   sets_room = sets_room;
   spare = omega (arith, spare);
@@ -272,10 +271,10 @@ module _ (machine : Machine) (memory : List ℕ) (h h' : Held) (sets sets' : Set
     pub room_state : state_of after ≡ state_of before
     room_state = shown_by_room h.contents h'.contents more (Some machine) memory
 
-    pub room_sound : (granted : Caps) (seats : List ThreadNo) → SameButRoom sets sets' → IsSound before granted × HasSeats h seats → IsSound after granted × HasSeats h' seats
+    pub room_sound : (granted : Caps) (seats : List ThreadNo) → SameButRoom sets sets' → IsSound before granted × HasPosts h seats → IsSound after granted × HasPosts h' seats
     room_sound granted seats same sound = (
       sound_by_room before after granted refl same_caps room_state same sound.0,
-      seats_kept h h' seats (held_by_room h h' rest more) sound.1,
+      posts_kept h h' seats (held_by_room h h' rest more) sound.1,
     )
 
     pub room_only : sets.room ≤ sets'.room → OnlyRoom before after
@@ -289,8 +288,8 @@ module _ (machine : Machine) (memory : List ℕ) (h h' : Held) (sets sets' : Set
     put_held : KeepsHeld h h'
     put_held = held_new h h' rest residents issued it has absent mark last
 
-    pub put_seats : (seats : List ThreadNo) → HasSeats h seats → HasSeats h' seats
-    put_seats seats was = seats_kept h h' seats put_held was
+    pub put_posts : (seats : List ThreadNo) → HasPosts h seats → HasPosts h' seats
+    put_posts seats was = posts_kept h h' seats put_held was
 
     pub put_made : h'.contents.spare ≡ h.contents.spare → state_of after ≡ declared (state_of before) d → IsMade d before after
     put_made spare state = record { state = state; beside = beside_held before after refl put_held spare }

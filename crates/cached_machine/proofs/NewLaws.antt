@@ -1,7 +1,9 @@
 -- What holds of a machine that is declared, and in which nothing stands.
-use Rattle.std.proofs.Common.{◌≡◌, ℕ, ◌*◌, ◌≤◌, List, [], length, replicate, Some, None, refl, sym, ◌∙◌, ap, subst}
+use Rattle.std.proofs.Common.{◌≡◌, ℕ, ◌*◌, ◌≤◌, List, [], length, replicate, Option, Some, None, IsSome, refl, sym, ◌∙◌, ap, subst, arith}
+use Rattle.std.specs.Option.{option_map}
 use Rattle.std.specs.Prelude.{filter_map}
 use Rattle.cache_ident.specs.declared.names.Caps.{Caps}
+use Rattle.cache_ident.specs.declared.names.Name.TheVariants as name
 use Rattle.cache_ident.specs.declared.names.ThreadNo.{ThreadNo}
 use Rattle.cache_ident.specs.declared.rolls.Issued.{Issued}
 use Rattle.cache_ident.specs.Residents.{Resident}
@@ -14,14 +16,19 @@ use Rattle.flat_state.specs.WellFormed.{IsWellFormed}
 use Rattle.flat_state.proofs.FormedParts.{nothing_formed}
 use Rattle.flat_machine.proofs.DeclareSound.{machine_rules, machine_sound}
 use Rattle.flat_laws.proofs.Members.{contains_nothing}
+use Rattle.kind_store.specs.Kept as stored
+use Rattle.thread_cache.specs.declared.ThreadRec.{ThreadRec}
+use Rattle.thread_cache.specs.Threads as thread_rec
+use Rattle.board_laws.specs.desc_stores.specs.declared.items.Item.TheVariants as item
 use Rattle.board_laws.specs.desc_stores.specs.Changes.{IsNothing}
 use Rattle.board_laws.specs.desc_stores.specs.Contents.{residents_of, resident_as, Contents}
+use Rattle.board_laws.specs.desc_stores.proofs.RoomLemmas.{sound-nothing}
 use Rattle.board_laws.specs.shown_state.proofs.DeclareLemmas.{nothing_shown}
 use Rattle.thread_sets.specs.Sets.{Sets}
 use Rattle.thread_sets.specs.SetsOf.{AreSetsOf}
 use Rattle.board_laws.specs.desc_tables.specs.Tables.{Held}
 use Rattle.cached_machine.specs.Cached.{state_of, Cached, IsSound}
-use Rattle.cached_machine.specs.Posts.{AreSeated, HasSeats}
+use Rattle.cached_machine.specs.Posts.{mark_in, AreSeated, HasPosts}
 
 -- a declared machine, before all else
 abbrev pub only_machine : Machine → FlatState
@@ -44,6 +51,11 @@ none_resident : (c : Contents) → c.issued ≡ [] → residents_of c ≡ []
 unfolding residents_of
 none_resident c none = ap (λ (issued : List Issued). filter_map (λ (entry : Issued). resident_as c entry.ident) issued) none
 
+-- what doesn't stand is on no processor
+unmarked : (o : Option ThreadRec) → (IsSome o → ⊥) → mark_in (option_map item.Thread o) ≡ None
+unmarked None never = refl
+unmarked (Some thread) never = absurd (never refl)
+
 module _ (machine : Machine) (memory : List ℕ) (held : Held) (sets : Sets) (zeros : memory ≡ replicate (524288 * machine.groups) 0) (nothing : IsNothing machine.caps held.contents) where
   abbrev made : Cached
   made = record { machine = machine; memory = memory; held = held; sets = sets }
@@ -61,8 +73,13 @@ module _ (machine : Machine) (memory : List ℕ) (held : Held) (sets : Sets) (ze
     sums = none ∙ ap (λ (s : FlatState). locks_granted s.kernels) (sym shows_nothing);
   }
 
-  pub new_seats : (seats : List ThreadNo) → held.caps ≡ machine.caps → length seats ≡ machine.caps.threads → HasSeats held seats
-  new_seats seats caps long = record {
+  pub new_posts : (seats : List ThreadNo) → held.caps ≡ machine.caps → length seats ≡ machine.caps.threads → HasPosts held seats
+  new_posts seats caps long = record {
     slots = long ∙ sym (ap (λ (c : Caps). c.threads) caps);
     seated = subst (λ (rs : List Resident). AreSeated rs seats) (sym (none_resident held.contents nothing.issued)) (λ r no there named. absurd (contains_nothing r there));
+    out = λ no absent. unmarked (stored.content_of thread_rec.name_of held.contents.threads (name.Thread no)) (λ some.
+        let number = (sound-nothing machine.caps held.contents nothing).thread_names.only (name.Thread no) some in
+        let below = number.1 in
+        let none = nothing.thread_count in
+        omega arith);
   }

@@ -1,6 +1,6 @@
 -- What is left of a machine with caches where a thread goes to a processor or comes away from it.
-use Rattle.std.proofs.Common.{◌≡◌, ◌≢◌, ℕ, Bool, true, false, cond, List, Option, Some, None, refl, sym, ◌∙◌, ap, subst, inl, inr}
-use Rattle.std.specs.Prelude.{◌==◌, if◌then◌else◌}
+use Rattle.std.proofs.Common.{◌≡◌, ◌≢◌, ℕ, Bool, true, false, cond, List, Option, Some, None, IsSome, refl, sym, ◌∙◌, ap, subst, inl, inr}
+use Rattle.std.specs.Prelude.{◌==◌, is_some}
 use Rattle.std.proofs.lemmas.Bool.{eq-eqb, eqb-true}
 use Rattle.cache_ident.specs.declared.names.Caps.{Caps}
 use Rattle.cache_ident.specs.declared.names.Name.{Name}
@@ -26,8 +26,8 @@ use Rattle.board_laws.specs.Moves.{ShowsTheSame}
 use Rattle.cached_machine.specs.declared.posts.Post.{Post}
 use Rattle.cached_machine.specs.declared.posts.Post.TheVariants.{Out, In}
 use Rattle.cached_machine.specs.Cached.{is_loaded, IsSound}
-use Rattle.cached_machine.specs.Posts.{but_at, last_in, last_of, mark_in, mark_of, posted, HasSeats, IsPosted}
-use Rattle.cached_machine.proofs.AlikeLaws.{alike_sound, itself_but_room, same_loaded, seats_stay}
+use Rattle.cached_machine.specs.Posts.{but_at, last_in, last_of, mark_in, mark_of, posted, HasPosts, IsPosted, OnlyLoadedAreOut}
+use Rattle.cached_machine.proofs.AlikeLaws.{alike_sound, itself_but_room, posts_stay, same_loaded}
 use Rattle.cached_machine.proofs.LoadedLaws.{comes_from_itself, ComesFrom}
 
 -- what a move leaves of the thread
@@ -91,21 +91,15 @@ module _ (post : Post) (h h' : Held) (whom : ThreadNo) (is : IsPosted post h h' 
   loaded_after = same_loaded old new is.only.loaded.residents
 
   -- what is read of the thread, and of the others as before
-  at : {T : Type 0} (read : Bool → Option Item → T) (said : T) → read (is_loaded old (name.Thread whom)) (Some (item.Thread left)) ≡ said → (other : ThreadNo)
-      → read (is_loaded new (name.Thread other)) (content_of new (name.Thread other)) ≡ but_at whom said (λ (n : ThreadNo). read (is_loaded old (name.Thread n)) (content_of old (name.Thread n))) other
+  at : {T : Type 0} (read : Option Item → T) (said : T) → read (Some (item.Thread left)) ≡ said → (other : ThreadNo) → read (content_of new (name.Thread other)) ≡ but_at whom said (λ (n : ThreadNo). read (content_of old (name.Thread n))) other
   at {T} read said reads other = by (other.0 == whom.0) refl
     where
-      now : (n : ThreadNo) → read (is_loaded new (name.Thread n)) (content_of new (name.Thread n)) ≡ read (is_loaded old (name.Thread n)) (content_of new (name.Thread n))
-      now n = ap (λ (b : Bool). read b (content_of new (name.Thread n))) (loaded_after (name.Thread n))
-
       same_no : other.0 ≡ whom.0 → other ≡ whom
       same_no e = ap (λ (k : ℕ). let n : ThreadNo = record { 0 = k } in n) e
 
-      by : (b : Bool) → (other.0 == whom.0) ≡ b → read (is_loaded new (name.Thread other)) (content_of new (name.Thread other)) ≡ cond b said (read (is_loaded old (name.Thread other)) (content_of old (name.Thread other)))
-      by true test =
-          subst (λ (n : ThreadNo). read (is_loaded new (name.Thread n)) (content_of new (name.Thread n)) ≡ said) (sym (same_no (eqb-true other.0 whom.0 test)))
-          (now whom ∙ ap (read (is_loaded old (name.Thread whom))) here_after ∙ reads)
-      by false test = now other ∙ ap (read (is_loaded old (name.Thread other))) (others_after (name.Thread other) (λ e. differs e))
+      by : (b : Bool) → (other.0 == whom.0) ≡ b → read (content_of new (name.Thread other)) ≡ cond b said (read (content_of old (name.Thread other)))
+      by true test = subst (λ (n : ThreadNo). read (content_of new (name.Thread n)) ≡ said) (sym (same_no (eqb-true other.0 whom.0 test))) (ap read here_after ∙ reads)
+      by false test = ap read (others_after (name.Thread other) (λ e. differs e))
         where
           differs : name.Thread whom ≡ name.Thread other → ⊥
           differs e =
@@ -113,32 +107,58 @@ module _ (post : Post) (h h' : Held) (whom : ThreadNo) (is : IsPosted post h h' 
               let yes : (other.0 == whom.0) ≡ true = eq-eqb other.0 whom.0 same in
               cc
 
+  -- who stood stands
+  pub stand_after : (other : ThreadNo) → IsSome (content_of old (name.Thread other)) → IsSome (content_of new (name.Thread other))
+  stand_after other stood = elim (cases_name (name.Thread whom) (name.Thread other)) [
+    | inl same ↦ subst (λ (m : Name). IsSome (content_of new m)) same (ap is_some here_after)
+    | inr apart ↦ ap is_some (others_after (name.Thread other) apart) ∙ stood
+  ]
+
   module _ (machine : Machine) (memory : List ℕ) (sets : Sets) where
     pub post_sound : (granted : Caps) → IsSound (record { machine = machine; memory = memory; held = h; sets = sets }) granted → IsSound (record { machine = machine; memory = memory; held = h'; sets = sets }) granted
     post_sound = alike_sound machine memory h h' sets sets (is.only.shows (Some machine) memory) (ap (λ (x : Held). x.caps) is.only.rest) (itself_but_room sets)
 
-  pub post_seats : (seats : List ThreadNo) → HasSeats h seats → HasSeats h' seats
-  post_seats seats = seats_stay h h' seats (ap (λ (x : Held). x.caps) is.only.rest) (subst (ComesFrom (residents_of old)) (sym is.only.loaded.residents) (comes_from_itself (residents_of old)))
+  pub post_posts : (seats : List ThreadNo) → OnlyLoadedAreOut new → HasPosts h seats → HasPosts h' seats
+  post_posts seats = posts_stay h h' seats (ap (λ (x : Held). x.caps) is.only.rest) (subst (ComesFrom (residents_of old)) (sym is.only.loaded.residents) (comes_from_itself (residents_of old)))
 
-abbrev mark_if : Bool → Option Item → Option ℕ
-mark_if loaded content = if loaded then mark_in content else None
-
-pub out_marks : (cpu number : ℕ) (h h' : Held) (whom : ThreadNo) → is_loaded h.contents (name.Thread whom) ≡ true → IsPosted (Out cpu number) h h' whom → (other : ThreadNo) → mark_of h'.contents other ≡ but_at whom (Some cpu) (mark_of h.contents) other
-out_marks cpu number h h' whom loaded is = at (Out cpu number) h h' whom is mark_if (Some cpu) (ap (λ (b : Bool). mark_if b (Some (item.Thread (posted (Out cpu number) is.value)))) loaded)
+pub out_marks : (cpu number : ℕ) (h h' : Held) (whom : ThreadNo) → IsPosted (Out cpu number) h h' whom → (other : ThreadNo) → mark_of h'.contents other ≡ but_at whom (Some cpu) (mark_of h.contents) other
+out_marks cpu number h h' whom is = at (Out cpu number) h h' whom is mark_in (Some cpu) refl
 
 pub out_lasts : (cpu number : ℕ) (h h' : Held) (whom : ThreadNo) → IsPosted (Out cpu number) h h' whom → (other : ThreadNo) → last_of h'.contents other ≡ but_at whom number (last_of h.contents) other
-out_lasts cpu number h h' whom is = at (Out cpu number) h h' whom is (λ (b : Bool). last_in) number refl
-
-no_mark : (b : Bool) → mark_if b None ≡ None
-no_mark true = refl
-no_mark false = refl
+out_lasts cpu number h h' whom is = at (Out cpu number) h h' whom is last_in number refl
 
 pub in_marks : (h h' : Held) (whom : ThreadNo) → IsPosted In h h' whom → (other : ThreadNo) → mark_of h'.contents other ≡ but_at whom None (mark_of h.contents) other
-in_marks h h' whom is = at In h h' whom is mark_if None (no_mark (is_loaded h.contents (name.Thread whom)))
+in_marks h h' whom is = at In h h' whom is mark_in None refl
 
 -- who comes away keeps its last checkout
 pub in_lasts : (h h' : Held) (whom : ThreadNo) → IsPosted In h h' whom → (other : ThreadNo) → last_of h'.contents other ≡ last_of h.contents other
 in_lasts h h' whom is other = elim (cases_name (name.Thread whom) (name.Thread other)) [
   | inl same ↦ subst (λ (m : Name). last_in (content_of h'.contents m) ≡ last_in (content_of h.contents m)) same (ap last_in (here_after In h h' whom is) ∙ sym (ap last_in is.there))
   | inr apart ↦ ap last_in (others_after In h h' whom is (name.Thread other) apart)
+]
+
+-- ---- only who is loaded is on a processor
+
+pub loaded_if_out : (c : Contents) (whom : ThreadNo) → OnlyLoadedAreOut c → IsSome (mark_of c whom) → is_loaded c (name.Thread whom) ≡ true
+loaded_if_out c whom out some = by (is_loaded c (name.Thread whom)) refl
+  where
+    by : (b : Bool) → is_loaded c (name.Thread whom) ≡ b → b ≡ true
+    by true there = refl
+    by false absent = absurd (let none : is_some (mark_of c whom) ≡ false = ap is_some (out whom absent) in cc)
+
+-- a loaded thread went to one
+pub still_out : (cpu number : ℕ) (h h' : Held) (whom : ThreadNo) → is_loaded h.contents (name.Thread whom) ≡ true → IsPosted (Out cpu number) h h' whom → OnlyLoadedAreOut h.contents → OnlyLoadedAreOut h'.contents
+still_out cpu number h h' whom loaded is out other absent = elim (cases_name (name.Thread whom) (name.Thread other)) [
+  | inl same ↦ absurd (let there : is_loaded h.contents (name.Thread other) ≡ true = ap (is_loaded h.contents) (sym same) ∙ loaded in let was = was_absent in cc)
+  | inr apart ↦ ap mark_in (others_after (Out cpu number) h h' whom is (name.Thread other) apart) ∙ out other was_absent
+]
+  where
+    was_absent : is_loaded h.contents (name.Thread other) ≡ false
+    was_absent = sym (loaded_after (Out cpu number) h h' whom is (name.Thread other)) ∙ absent
+
+-- one came away
+pub fewer_out : (h h' : Held) (whom : ThreadNo) → IsPosted In h h' whom → OnlyLoadedAreOut h.contents → OnlyLoadedAreOut h'.contents
+fewer_out h h' whom is out other absent = elim (cases_name (name.Thread whom) (name.Thread other)) [
+  | inl same ↦ subst (λ (m : Name). mark_in (content_of h'.contents m) ≡ None) same (ap mark_in (here_after In h h' whom is))
+  | inr apart ↦ ap mark_in (others_after In h h' whom is (name.Thread other) apart) ∙ out other (sym (loaded_after In h h' whom is (name.Thread other)) ∙ absent)
 ]

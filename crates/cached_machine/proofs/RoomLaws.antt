@@ -30,8 +30,8 @@ use Rattle.thread_sets.specs.Sets.{SameButRoom, Sets}
 use Rattle.thread_sets.specs.SetsOf.{AreSetsOf}
 use Rattle.cached_machine.specs.Cached.{Cached, IsSound}
 use Rattle.cached_machine.specs.Moved.{OnlyRoom}
-use Rattle.cached_machine.specs.Posts.{HasSeats}
-use Rattle.cached_machine.proofs.AlikeLaws.{alike_sound, same_loaded, same_marks, seats_stay}
+use Rattle.cached_machine.specs.Posts.{HasPosts}
+use Rattle.cached_machine.proofs.AlikeLaws.{alike_sound, posts_stay, same_loaded, same_marks, same_out}
 use Rattle.cached_machine.proofs.LoadedLaws.{comes_from_itself, ComesFrom}
 
 -- ---- what only makes room
@@ -121,8 +121,10 @@ module _ (machine : Machine) (memory : List ℕ) (h h' : Held) (sets sets' : Set
   pub room_sound : (granted : Caps) → IsSound before granted → IsSound after granted
   room_sound = alike_sound machine memory h h' sets sets' (differs.shows (Some machine) memory) same_caps same
 
-  pub room_seats : (seats : List ThreadNo) → HasSeats h seats → HasSeats h' seats
-  room_seats seats = seats_stay h h' seats same_caps (subst (ComesFrom (residents_of h.contents)) (sym differs.residents) (comes_from_itself (residents_of h.contents)))
+  pub room_posts : (seats : List ThreadNo) → HasPosts h seats → HasPosts h' seats
+  room_posts seats has =
+      posts_stay h h' seats same_caps (subst (ComesFrom (residents_of h.contents)) (sym differs.residents) (comes_from_itself (residents_of h.contents)))
+      (same_out h.contents h'.contents (same_marks h.contents h'.contents differs.threads) (same_loaded h.contents h'.contents differs.residents) has.out) has
 
   pub only_room : sets.room ≤ sets'.room → OnlyRoom before after
   only_room kept = record {
@@ -132,7 +134,7 @@ module _ (machine : Machine) (memory : List ℕ) (h h' : Held) (sets sets' : Set
     gone = ap (λ (x : Held). x.gone) rest;
     state = differs.shows (Some machine) memory;
     loaded = record { residents = differs.residents; issued = differs.issued };
-    marks = same_marks h.contents h'.contents differs.threads (same_loaded h.contents h'.contents differs.residents);
+    marks = same_marks h.contents h'.contents differs.threads;
     room = differs.room;
     sets_room = kept;
     spare = differs.spare;

@@ -1,5 +1,8 @@
 -- Which processor has a thread, when it was checked out last, and which thread is in which slot.
-use Rattle.std.specs.Prelude.{◌≡◌, ℕ, ◌==◌, if◌then◌else◌, List, length, Contains, Option, Some, None, slice_get, ◌⊎◌}
+use Rattle.std.specs.Prelude.{◌≡◌, ℕ, ◌==◌, if◌then◌else◌, false, List, length, Contains, Option, Some, None, IsSome, slice_get, slice_set, ◌⊎◌}
+use Rattle.cache_ident.specs.declared.idents.Ident.{Ident}
+use Rattle.cache_ident.specs.declared.idents.Kind.TheVariants as kind
+use Rattle.cache_ident.specs.declared.names.Name.{Name}
 use Rattle.cache_ident.specs.declared.names.Name.TheVariants as name
 use Rattle.cache_ident.specs.declared.names.ThreadNo.{ThreadNo}
 use Rattle.cache_ident.specs.Residents.{Resident}
@@ -8,6 +11,7 @@ use Rattle.board_laws.specs.desc_stores.specs.declared.items.Item.{Item}
 use Rattle.board_laws.specs.desc_stores.specs.declared.items.Item.TheVariants as item
 use Rattle.board_laws.specs.desc_stores.specs.Changes.{room_of, HasContent}
 use Rattle.board_laws.specs.desc_stores.specs.Contents.{content_of, residents_of, Contents}
+use Rattle.board_laws.specs.desc_groups.specs.declared.departures.Gone.{Gone}
 use Rattle.board_laws.specs.desc_tables.specs.Tables.{Held}
 use Rattle.board_laws.specs.Moves.{KeepsLoaded, ShowsTheSame}
 use Rattle.cached_machine.specs.declared.posts.Post.{Post}
@@ -25,13 +29,17 @@ abbrev pub last_in : Option Item → ℕ
 last_in (Some (item.Thread thread)) = thread.last
 last_in _ = 0
 
--- the processor that has a thread: only a loaded one is on any
+-- the processor that has a thread
 abbrev pub mark_of : Contents → ThreadNo → Option ℕ
-mark_of c whom = if is_loaded c (name.Thread whom) then mark_in (content_of c (name.Thread whom)) else None
+mark_of c whom = mark_in (content_of c (name.Thread whom))
 
 -- the number of its last checkout, loaded or not
 abbrev pub last_of : Contents → ThreadNo → ℕ
 last_of c whom = last_in (content_of c (name.Thread whom))
+
+-- a thread that isn't loaded is on no processor
+abbrev pub OnlyLoadedAreOut : Contents → Type 0
+OnlyLoadedAreOut c = (no : ThreadNo) → is_loaded c (name.Thread no) ≡ false → mark_of c no ≡ None
 
 -- what is said of each thread, with something else said of one
 abbrev pub but_at : {T : Type 0} → ThreadNo → T → (ThreadNo → T) → ThreadNo → T
@@ -80,7 +88,32 @@ pub record HasSameMarks (old new : Contents) : Type 0 where
 abbrev pub AreSeated : List Resident → List ThreadNo → Type 0
 AreSeated rs seats = (r : Resident) (no : ThreadNo) → Contains rs r → r.name ≡ name.Thread no → slice_get seats r.ident.slot ≡ Some no
 
--- and there is a place for each slot
-pub record HasSeats (held : Held) (seats : List ThreadNo) : Type 0 where
+-- there is a place for each slot, with the thread that is loaded there, and only loaded threads are on processors
+pub record HasPosts (held : Held) (seats : List ThreadNo) : Type 0 where
   pub slots : length seats ≡ held.caps.threads
   pub seated : AreSeated (residents_of held.contents) seats
+  pub out : OnlyLoadedAreOut held.contents
+
+-- the slots, once the name was loaded with the identifier
+abbrev pub seats_with : Name → Ident → List ThreadNo → List ThreadNo
+seats_with (name.Thread number) ident seats = slice_set seats ident.slot number
+seats_with _ ident seats = seats
+
+-- ---- threads that left
+
+-- what has the identifier is a thread, the one that is noted at its slot
+pub record IsSeated (seats : List ThreadNo) (ident : Ident) (no : ThreadNo) : Type 0 where
+  pub thread : ident.kind ≡ kind.Thread
+  pub seat : slice_get seats ident.slot ≡ Some no
+
+-- if it is a thread, one is noted at its slot, and stands
+abbrev pub StandsAtSeat : Contents → List ThreadNo → Ident → Type 0
+StandsAtSeat c seats ident = ident.kind ≡ kind.Thread → (no : ThreadNo) × IsSeated seats ident no × IsSome (content_of c (name.Thread no))
+
+-- Each thread that left with one of these is on no processor, and each other one is on the one that it was on. Who stood stands.
+pub record AreBackFrom (seats : List ThreadNo) (gone : List Gone) (old new : Held) : Type 0 where
+  pub only : OnlyPosts old new
+  pub back : (g : Gone) (no : ThreadNo) → Contains gone g → IsSeated seats g.ident no → mark_of new.contents no ≡ None
+  pub others : (no : ThreadNo) → (mark_of new.contents no ≡ mark_of old.contents no) ⊎ ((g : Gone) × Contains gone g × IsSeated seats g.ident no × (mark_of new.contents no ≡ None))
+  pub lasts : (no : ThreadNo) → last_of new.contents no ≡ last_of old.contents no
+  pub stand : (no : ThreadNo) → IsSome (content_of old.contents (name.Thread no)) → IsSome (content_of new.contents (name.Thread no))

@@ -16,8 +16,8 @@ use thread_sets::ThreadSets;
 
 /// A machine with its memory, its descriptors in caches or with their owners, and the sets of threads that can go on.
 ///
-/// A contract sees these four. The machine with unlimited tables that they show (`state_of`) is well-formed, and the sets
-/// are those of its threads.
+/// A contract sees these four. The machine with unlimited tables that they show (`state_of`) is well-formed, the sets are those
+/// of its threads, and only a loaded thread is on a processor.
 #[derive(Drop)]
 pub struct CachedMachine {
     pub(crate) alloc: Global,
@@ -33,13 +33,13 @@ pub struct CachedMachine {
 
 impl Model for CachedMachine {
     ghost use Rattle.cached_machine.specs.Cached.{Cached, IsSound};
-    ghost use Rattle.cached_machine.specs.Posts.{HasSeats};
+    ghost use Rattle.cached_machine.specs.Posts.{HasPosts};
 
     ghost Value = { Cached };
 
     ghost view = { λ m. record { machine = m.machine; memory = m.memory; held = m.tables; sets = m.sets } };
 
-    ghost invariant = { λ m. IsSound (record { machine = m.machine; memory = m.memory; held = m.tables; sets = m.sets }) m.granted × HasSeats m.tables m.seats.items };
+    ghost invariant = { λ m. IsSound (record { machine = m.machine; memory = m.memory; held = m.tables; sets = m.sets }) m.granted × HasPosts m.tables m.seats.items };
 }
 
 impl CachedMachine {

@@ -12,13 +12,13 @@ ghost use Rattle.cached_machine.specs.Cached.{state_of};
 ghost use Rattle.cached_machine.specs.Posts.{HasLoadedMarks, HasSameMarks};
 
 use crate::machine::CachedMachine;
-use crate::posts::{Post, send};
+use crate::posts::{note_seat, take_back};
 use crate::reading::known;
 use cache_ident::{Ident, Name};
 
 impl CachedMachine {
     /// Loads a descriptor from the shelf, as `Tables::load` does. What left for it is in `tables().gone()`. A thread that
-    /// left is on no processor, nor is one that came.
+    /// left is on no processor, and one that came is on none, as on the shelf. It takes a search more for each thread that left.
     pub fn load(&mut self, name: Name, keep: &[Ident], at: u64) -> Ident
         requires may { MayBeLoaded self.old.held.contents name keep.now }
         requires places { HasPlacesFor self.old.held.contents name keep.now at }
@@ -32,16 +32,13 @@ impl CachedMachine {
     {
         known(&self.tables);
         let ident = self.tables.load(name, keep, at);
-        if let Name::Thread(no) = name {
-            // Whatever had it when it was loaded before has it no more.
-            send(&mut self.tables, no, Post::In);
-            self.seats[ident.slot as usize] = no;
-        }
+        take_back(&mut self.tables, &self.seats);
+        note_seat(&mut self.seats, name, ident);
         ident
     }
 
     /// Takes a loaded descriptor out of its cache, and before it all that depends on it, as `Tables::unload` does. What left
-    /// is in `tables().gone()`. A thread that left is on no processor.
+    /// is in `tables().gone()`. A thread that left is on no processor, which takes a search more for each.
     pub fn unload(&mut self, ident: Ident, at: u64)
         requires live { standing_in self.old.held.contents.issued ident ≡ Live }
         requires places { HasPlaces self.old.held.contents ident at }
@@ -55,6 +52,7 @@ impl CachedMachine {
     {
         known(&self.tables);
         self.tables.unload(ident, at);
+        take_back(&mut self.tables, &self.seats);
     }
 
     /// Locks a loaded descriptor, so that it is no victim. Nothing changes where it is locked already.

@@ -65,11 +65,10 @@ impl CachedMachine {
 
     /// The processor that has a thread: only a loaded one is on any.
     pub fn processor_of(&self, no: ThreadNo) -> Option<u32>
-        ensures { result ≡ mark_of self.now.held.contents no }
+        ensures mark { result ≡ mark_of self.now.held.contents no }
+        ensures loaded { IsSome result → is_loaded self.now.held.contents (Name.Thread no) ≡ true }
     {
-        let name = Name::Thread(no);
-        self.tables.resident(name)?;
-        match self.tables.item(name) {
+        match self.tables.item(Name::Thread(no)) {
             Some(ItemRef::Thread(thread)) => thread.on_cpu,
             _ => None,
         }

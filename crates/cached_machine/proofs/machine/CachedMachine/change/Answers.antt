@@ -2,11 +2,10 @@ use Rattle.std.proofs.Common.{◌≡◌, Some, ◌<◌, length, slice_get, sym, 
 use Rattle.std.proofs.lemmas.List.{length-map}
 use Rattle.flat_state.specs.State.{with_thread}
 use Rattle.board_laws.specs.shown_state.specs.Shown.{flat_thread}
-use Rattle.board_laws.specs.desc_tables.specs.Tables.{Held}
 use Rattle.cached_machine.specs.Aside.{aside_of}
 use Rattle.cached_machine.specs.Cached.{state_of, Cached}
 use Rattle.cached_machine.specs.Stepping.{shows_left_by}
-use Rattle.cached_machine.proofs.AsideLaws.{seats_by_residents}
+use Rattle.cached_machine.proofs.AsideLaws.{posts_stay}
 use Rattle.cached_machine.proofs.StepLaws.{aside_stays, shows, sound_stays, stood, thread_there}
 use Rattle.cached_machine.proofs.machine.CachedMachine.change.Goals as goal
 
@@ -28,7 +27,9 @@ invariant_of-self c =
     let here = stood i.machine i.memory c.args.change i.tables c.update.new.tables i.sets c.update.new.sets no c.known.ensures.one c.update.ensures in
     let may = c.requires.may t (subst (λ (m : Cached). slice_get (state_of m).threads no.0 ≡ Some t) c.self.view_is here) in
     let sound = sound_stays i.machine i.memory c.args.change i.tables c.update.new.tables i.sets c.update.new.sets no c.known.ensures.one c.update.ensures t here may i.granted c.self.invariant.0 in
-    (sound, seats_by_residents i.tables c.update.new.tables i.seats.items (ap (λ (h : Held). h.caps) c.update.ensures.only.rest) c.update.ensures.only.residents c.self.invariant.1)
+    let was : Cached = record { machine = i.machine; memory = i.memory; held = i.tables; sets = i.sets } in
+    let now : Cached = record { machine = i.machine; memory = i.memory; held = c.update.new.tables; sets = c.update.new.sets } in
+    (sound, posts_stay was now (aside_stays i.machine i.memory c.args.change i.tables c.update.new.tables i.sets c.update.new.sets no c.known.ensures.one c.update.ensures) i.seats.items c.self.invariant.1)
 
 pub returns-clause-state : goal.returns-clause-state
 returns-clause-state c = λ t here.

@@ -1,7 +1,7 @@
 use Rattle.std.proofs.Common.{◌≤◌, ap, subst, ◌∙◌, arith}
 use Rattle.cache_ident.specs.declared.names.Caps.{Caps}
 use Rattle.cached_machine.specs.Cached.{Cached}
-use Rattle.cached_machine.specs.Posts.{HasSeats}
+use Rattle.cached_machine.specs.Posts.{HasPosts}
 use Rattle.cached_machine.proofs.CheckLaws.{all_checked, one_more_checked}
 use Rattle.cached_machine.proofs.machine.CachedMachine.check_in_all.Goals as goal
 
@@ -15,7 +15,7 @@ pub returns-clause-marks : goal.returns-clause-marks
 returns-clause-marks c =
     let i = c.self.inside in
     let first = c.args.self.now.held in
-    let seats = subst (λ (m : Cached). HasSeats m.held i.seats.items) c.self.view_is c.self.invariant.1 in
+    let seats = subst (λ (m : Cached). HasPosts m.held i.seats.items) c.self.view_is c.self.invariant.1 in
     let caps = ap (λ (x : Caps). x.threads) c.self.invariant.0.caps in
     let same = ap (λ (m : Cached). m.held.caps.threads) c.self.view_is in
     let all : first.caps.threads ≤ c.loop-slot.slot = omega arith in

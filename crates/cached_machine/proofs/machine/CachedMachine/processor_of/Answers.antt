@@ -1,16 +1,12 @@
-use Rattle.std.proofs.Common.{None, Bool, sym, ap, ◌∙◌}
-use Rattle.std.specs.Prelude.{if◌then◌else◌}
-use Rattle.cache_ident.specs.declared.names.Name.TheVariants as name
-use Rattle.board_laws.specs.desc_stores.specs.Contents.{content_of, residents_of}
+use Rattle.std.proofs.Common.{◌≡◌, rules, Option, ℕ, IsSome, subst}
 use Rattle.cached_machine.specs.Cached.{Cached}
-use Rattle.cached_machine.specs.Posts.{mark_in, mark_of}
-use Rattle.cached_machine.proofs.LoadedLaws.{not_loaded}
+use Rattle.cached_machine.specs.Posts.{mark_of, OnlyLoadedAreOut}
+use Rattle.cached_machine.proofs.PostLaws.{loaded_if_out}
 use Rattle.cached_machine.proofs.machine.CachedMachine.processor_of.Goals as goal
 
-pub returns-in_err-resident : goal.returns-in_err-resident
-returns-in_err-resident c =
-    let held = c.self.inside.tables.contents in
-    let absent = not_loaded (residents_of held) (name.Thread c.args.no) (λ r there named. c.in_err-resident.ensures.absent (r, there, named)) in
-    c.from_residual.ensures
-    ∙ sym (ap (λ (b : Bool). if b then mark_in (content_of held (name.Thread c.args.no)) else None) absent)
-    ∙ ap (λ (m : Cached). mark_of m.held.contents c.args.no) c.self.view_is
+pub returns-in-Some-Thread-clause-loaded : goal.returns-in-Some-Thread-clause-loaded
+returns-in-Some-Thread-clause-loaded c = λ some.
+    let contents = c.args.self.now.held.contents in
+    let mark : c.in-Some-Thread.thread.now.on_cpu ≡ mark_of contents c.args.no = search rules in
+    let out = subst (λ (m : Cached). OnlyLoadedAreOut m.held.contents) c.self.view_is c.self.invariant.1.out in
+    loaded_if_out contents c.args.no out (subst (λ (o : Option ℕ). IsSome o) mark some)
