@@ -1,11 +1,12 @@
 //! What a load keeps in the caches.
 
 ghost use Rattle.std.specs.Prelude.{◌≡◌, ◌↔◌, ◌<◌, length, slice_get, Contains, IsTrue, Some};
+ghost use Rattle.cache_ident.specs.declared.idents.Ident.{Ident};
 ghost use Rattle.cache_ident.specs.declared.names.Name.{Name};
 ghost use Rattle.desc_tables.specs.desc_admits.specs.Admits.{KeepsParentsAs, KeepsParentsOf};
 ghost use Rattle.desc_tables.specs.desc_admits.specs.May.{MayBeLoaded};
 ghost use Rattle.board_checks.specs.Facts.{IsFormed, IsLoadable};
-ghost use Rattle.board_checks.specs.Keeps.{HasAlso, IsAboveSome, IsKept, IsKeptForSome, IsOrIsAbove, StartsWith};
+ghost use Rattle.board_checks.specs.Keeps.{HasAlso, IsAbove, IsAboveSome, IsKept, IsKeptForSome, IsOrIsAbove, StartsWith};
 
 use crate::owners::is_sound;
 use arrayvec::ArrayVec;
@@ -23,7 +24,8 @@ pub type Keep = ArrayVec<Ident, MOST_KEPT>;
 pub fn keep_of(tables: &Tables, name: Name) -> Keep
     requires formed { IsFormed tables.now.contents }
     requires may { IsLoadable tables.now.contents name }
-    ensures { MayBeLoaded tables.now.contents name result.items }
+    ensures may { MayBeLoaded tables.now.contents name result.items }
+    ensures only { (ident : Ident) → Contains result.items ident → IsAbove tables.now.contents name ident }
 {
     is_sound(tables);
     let mut keep = Keep::new();

@@ -41,5 +41,8 @@ loop-at-preserved c =
       closed = one_further c.args.tables.now.contents loop.keep.items c.add_parents_as.new.keep.items starts loop.at ident (slice_get_within loop.keep.items loop.at ident at) is loop.invariant.closed c.add_parents_as.ensures.has;
     }
 
-pub returns : goal.returns
-returns c = all_kept c.args.tables.now.contents c.is_sound.ensures.1.whole.one c.requires.formed c.args.name c.requires.may c.loop-at.keep.items c.loop-at.invariant.kept c.loop-at.invariant.has c.loop-at.at (omega (arith, c.loop-at-test.false, c.len.ensures.value)) c.loop-at.invariant.closed
+pub returns-clause-may : goal.returns-clause-may
+returns-clause-may c = all_kept c.args.tables.now.contents c.is_sound.ensures.1.whole.one c.requires.formed c.args.name c.requires.may c.loop-at.keep.items c.loop-at.invariant.kept c.loop-at.invariant.has c.loop-at.at (omega (arith, c.loop-at-test.false, c.len.ensures.value)) c.loop-at.invariant.closed
+
+pub returns-clause-only : goal.returns-clause-only
+returns-clause-only c = c.loop-at.invariant.kept.above
