@@ -1,18 +1,22 @@
 #!/usr/bin/env bash
 # Usage: bench/want_of_memory.sh
-# Lets each allocation of the proved program fail in turn: on a scenario of words, one of code and one of an executable, with
-# the journal, on a large one that is made from a number, and on one with a journal that is checked. Each run ends with status 6 and writes nothing, or answers as
-# the whole run; any other has a line, and so has how many there were. It wants cc, and the program that ./build leaves.
-# Ends with 1 where some run answered otherwise, or the program isn't built.
+# Lets each allocation of the proved programs fail in turn: of v_run on a scenario of words, one of code and one of an executable,
+# with the journal, on a large one that is made from a number, and on one with a journal that is checked; and of v_drive on lists of
+# operations. Each run ends with status 6 and writes nothing, or answers as the whole run; any other has a line, and so has how many
+# there were. It wants cc, and the programs that ./build leaves.
+# Ends with 1 where some run answered otherwise, or a program isn't built.
 set -u
 unset CDPATH
 script=bench/want_of_memory.sh
 top="$(cd "$(dirname "${BASH_SOURCE[0]}")/.." && pwd)"
 source "$top/scripts/program.sh"
-if ! find_proved v_run; then
-    say 'no proved v_run is built from the sources as they are; ./build makes one'
-    exit 1
-fi
+# Sets proved to the program of that name.
+find_program() {
+    if ! find_proved "$1"; then
+        say "no proved $1 is built from the sources as they are; ./build makes one"
+        exit 1
+    fi
+}
 place="$(mktemp -d)"
 trap 'rm -rf "$place"' EXIT
 
@@ -37,9 +41,9 @@ END
 cc -O2 -shared -fPIC -o "$place/refuse.so" "$place/refuse.c" || exit 1
 failed=0
 
-# refuse_memory EXAMPLE WORD..: the input, and the words of the program.
+# refuse_memory INPUT WORD..: the input, and the words of the program.
 refuse_memory() {
-    local input="$top/examples/$1.scenario" whole status number=0 refused=0 other=0
+    local input="$top/$1" whole status number=0 refused=0 other=0
     shift
     "$proved" "$@" < "$input" > "$place/whole"
     whole=$?
@@ -59,10 +63,16 @@ refuse_memory() {
     ((other == 0)) || failed=1
 }
 
-refuse_memory hello
-refuse_memory code
-refuse_memory squares
-refuse_memory hello --mode journal
-refuse_memory hello --mode gen --steps 1
-refuse_memory checked --mode check
+find_program v_run
+refuse_memory examples/hello.scenario
+refuse_memory examples/code.scenario
+refuse_memory examples/squares.scenario
+refuse_memory examples/hello.scenario --mode journal
+refuse_memory examples/hello.scenario --mode gen --steps 1
+refuse_memory examples/checked.scenario --mode check
+find_program v_drive
+refuse_memory crates/v_drive/stdin
+for list in healing_loads_the_receivers_of_a_signal a_row_made_and_taken_at_run a_thread_begun_at_run; do
+    refuse_memory "tests/drive/$list.in"
+done
 exit "$failed"

@@ -4,3 +4,5 @@
 #[cfg(test)]
 mod board_tests;
 pub mod machines;
+#[cfg(test)]
+mod refusal_tests;
