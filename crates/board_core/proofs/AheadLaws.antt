@@ -25,7 +25,8 @@ use Rattle.board_core.specs.Core.{contents_of, IsSound, Recorded}
 use Rattle.board_core.specs.Growth.{AreOfLoaded}
 use Rattle.board_core.specs.Stamps.{AreStamped}
 use Rattle.board_core.proofs.OthersLaws.{one_set, OthersStay}
-use Rattle.cached_machine.proofs.AsideLaws.{loaded_stays, marks_stay}
+use Rattle.cached_machine.proofs.AlikeLaws.{same_loaded, same_out}
+use Rattle.cached_machine.proofs.AsideLaws.{loaded_stays, marks_stay, residents_stay}
 use Rattle.board_core.proofs.RunningLaws.{entry_sound, others_ready, same_counts}
 
 all_steps : (whom : ThreadNo) (n : ℕ) → count_by is_step (replicate n (Step whom)) ≡ n
@@ -60,6 +61,7 @@ module _ (old : Recorded) (machine : Cached) (whom : ThreadNo) (t : FlatThread) 
       entry_sound old machine w (Ran whom a.steps cpu) sound sealed grown_so same_machine told_then (old.steps + taken) at news end
       (ap (λ (k : ℕ). old.steps + k) (all_taken ∙ sym (steps_of_run whom a.steps cpu))) (omega arith)
       (others_ready old machine whom sound marks unmarked (subst (λ (s : FlatState). OthersStay whom.0 (state_of old.machine).threads s.threads) (sym state) (one_set whom.0 (state_of old.machine).threads u)))
+      (same_out (contents_of old) machine.held.contents marks (same_loaded (contents_of old) machine.held.contents (residents_stay old.machine machine aside)) sound.out)
       (same_counts (contents_of old) machine.held.contents old.checkouts marks sound.lasts) stamped
 
 -- ---- processors

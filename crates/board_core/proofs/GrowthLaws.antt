@@ -12,7 +12,7 @@ use Rattle.cached_machine.specs.desc_groups.specs.declared.departures.Gone.{Gone
 use Rattle.cached_machine.specs.desc_stores.specs.Contents.{residents_of, Contents}
 use Rattle.cached_machine.specs.board_laws.specs.Moves.{written_back}
 use Rattle.cached_machine.specs.Cached.{is_loaded, state_of}
-use Rattle.cached_machine.specs.Posts.{mark_of, HasLoadedMarks, HasSameMarks}
+use Rattle.cached_machine.specs.Posts.{mark_of, HasLoadedMarks, HasSameMarks, OnlyLoadedAreOut}
 use Rattle.cached_machine.proofs.AsideLaws.{loaded_alike}
 use Rattle.board_core.specs.Core.{Recorded}
 use Rattle.board_core.specs.Growth.{GrowsBy}
@@ -38,12 +38,12 @@ grows_more es more a b c first second = record {
 
 -- ---- who is on a processor
 
-pub loaded_itself : (c : Contents) → HasLoadedMarks c c
-loaded_itself c = record { marks = λ whom. by whom (is_loaded c (name.Thread whom)) refl; lasts = λ whom. refl }
+pub loaded_itself : (c : Contents) → OnlyLoadedAreOut c → HasLoadedMarks c c
+loaded_itself c out = record { marks = λ whom. by whom (is_loaded c (name.Thread whom)) refl; lasts = λ whom. refl }
   where
     by : (whom : ThreadNo) (b : Bool) → is_loaded c (name.Thread whom) ≡ b → mark_of c whom ≡ (if is_loaded c (name.Thread whom) then mark_of c whom else None)
     by whom true is = rw is refl
-    by whom false is = rw is refl
+    by whom false is = rw is (out whom is)
 
 -- where the same is loaded, and marks are the same
 pub same_marks_more : (a b c : Contents) → residents_of c ≡ residents_of b → HasLoadedMarks a b → HasSameMarks b c → HasLoadedMarks a c

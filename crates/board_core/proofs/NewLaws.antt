@@ -1,37 +1,33 @@
 -- A machine of which nothing but itself was declared.
-use Rattle.std.proofs.Common.{◌≡◌, ℕ, ◌*◌, ◌<◌, false, List, [], ◌∷◌, length, replicate, take, Contains, Option, Some, None, slice_get, refl, ap, sym, ◌∙◌, subst, arith}
+use Rattle.std.proofs.Common.{◌≡◌, ℕ, ◌*◌, ◌<◌, false, List, [], ◌∷◌, length, replicate, take, Option, Some, None, slice_get, refl, ap, sym, ◌∙◌, subst, arith}
 use Rattle.std.proofs.lemmas.List.{get_or-replicate, length-replicate}
 use Rattle.std.proofs.lemmas.Option.{slice_get-get_or}
 use Rattle.cache_ident.specs.declared.names.Frame.{Frame}
 use Rattle.cache_ident.specs.declared.names.Name.TheVariants as name
 use Rattle.cache_ident.specs.declared.names.ThreadNo.{ThreadNo}
-use Rattle.cache_ident.specs.Residents.{Resident}
 use Rattle.phys_groups.specs.Memory.{page_at}
 use Rattle.flat_state.specs.declared.events.Decl.TheVariants as decls
 use Rattle.flat_state.specs.declared.events.Machine.{Machine}
 use Rattle.flat_state.specs.Declaration.{broken_rule, rule_of_machine}
 use Rattle.flat_state.specs.Events.{flat}
 use Rattle.flat_state.specs.State.{nothing_declared, FlatState}
-use Rattle.flat_laws.proofs.Members.{contains_nothing}
 use Rattle.run_journal.specs.declared.entries.Entry.{Entry}
 use Rattle.run_journal.specs.declared.entries.Entry.TheVariants.{Declared}
 use Rattle.run_journal.specs.Entries.{erase, steps_in, Written}
 use Rattle.cached_machine.specs.desc_stores.specs.declared.items.Item.{Item}
 use Rattle.cached_machine.specs.desc_stores.specs.declared.items.Item.TheVariants as item
 use Rattle.cached_machine.specs.desc_stores.specs.Changes.{IsNothing}
-use Rattle.cached_machine.specs.desc_stores.specs.Contents.{content_of, residents_of}
+use Rattle.cached_machine.specs.desc_stores.specs.Contents.{content_of}
 use Rattle.cached_machine.specs.desc_stores.specs.Sound.{IsExactlyOne}
 use Rattle.cached_machine.specs.shown_state.specs.Shown.{thread_of}
 use Rattle.cached_machine.specs.shown_state.proofs.LookupLemmas.{all_found}
 use Rattle.cached_machine.specs.board_laws.specs.Telling.{AreAsTold}
 use Rattle.cached_machine.specs.board_laws.proofs.Declarations.{machine_told}
 use Rattle.cached_machine.specs.board_laws.proofs.Growing.{state_is_flat}
-use Rattle.cached_machine.specs.board_laws.proofs.Loads.{nothing_resident}
 use Rattle.cached_machine.specs.Cached.{state_of, Cached}
-use Rattle.cached_machine.specs.Posts.{last_in, last_of}
+use Rattle.cached_machine.specs.Posts.{last_in, last_of, mark_in, mark_of}
 use Rattle.board_core.specs.Core.{IsSound}
 use Rattle.board_core.specs.Stamps.{AreStamps, IsSince}
-use Rattle.board_core.proofs.NamedLaws.{unloaded_unmarked}
 use Rattle.board_core.proofs.OpeningLaws.{memory_shown}
 use Rattle.board_core.proofs.SoundLaws.{told_again}
 
@@ -45,6 +41,13 @@ last_none (Some (item.Kernel kernel)) none = refl
 last_none (Some (item.Space space)) none = refl
 last_none (Some (item.Mapping row)) none = refl
 last_none None none = refl
+
+mark_none : (o : Option Item) → thread_of o ≡ None → mark_in o ≡ None
+mark_none (Some (item.Thread thread)) none = absurd (cc)
+mark_none (Some (item.Kernel kernel)) none = refl
+mark_none (Some (item.Space space)) none = refl
+mark_none (Some (item.Mapping row)) none = refl
+mark_none None none = refl
 
 module _ (m : Machine) (machine : Cached) (rule : rule_of_machine m ≡ None) (is : machine.machine ≡ m) (nothing : IsNothing m.caps machine.held.contents) (one : IsExactlyOne machine.held.contents)
     (state : state_of machine ≡ record nothing_declared { machine = Some m; memory = replicate (524288 * m.groups) 0 }) where
@@ -60,13 +63,16 @@ module _ (m : Machine) (machine : Cached) (rule : rule_of_machine m ≡ None) (i
   now_told : AreAsTold machine.machine machine.memory machine.held.contents false first
   now_told = told_again m machine.machine (replicate (524288 * m.groups) 0) machine.memory machine.held.contents false first first is memory_is refl first_told
 
-  no_resident : (r : Resident) → Contains (residents_of machine.held.contents) r → ⊥
-  no_resident r there = contains_nothing r (subst (λ (rs : List Resident). Contains rs r) (nothing_resident machine.machine machine.memory machine.held.contents first now_told) there)
+  no_thread : (whom : ThreadNo) → thread_of (content_of machine.held.contents (name.Thread whom)) ≡ None
+  no_thread whom =
+      let found = (all_found (Some machine.machine) machine.memory machine.held.contents one).threads whom.0 in
+      sym found ∙ ap (λ (s : FlatState). slice_get s.threads whom.0) state
 
   last_zero : (whom : ThreadNo) → last_of machine.held.contents whom ≡ 0
-  last_zero whom =
-      let found = (all_found (Some machine.machine) machine.memory machine.held.contents one).threads whom.0 in
-      last_none (content_of machine.held.contents (name.Thread whom)) (sym found ∙ ap (λ (s : FlatState). slice_get s.threads whom.0) state)
+  last_zero whom = last_none (content_of machine.held.contents (name.Thread whom)) (no_thread whom)
+
+  unmarked : (whom : ThreadNo) → mark_of machine.held.contents whom ≡ None
+  unmarked whom = mark_none (content_of machine.held.contents (name.Thread whom)) (no_thread whom)
 
   memory_flat : (flat (erase first)).memory ≡ machine.memory
   memory_flat =
@@ -97,7 +103,8 @@ module _ (m : Machine) (machine : Cached) (rule : rule_of_machine m ≡ None) (i
     told = subst (λ (j : List Entry). AreAsTold machine.machine machine.memory machine.held.contents false j) (sym begun) now_told;
     steps = ap steps_in (sym begun);
     limit = omega arith;
-    marks = λ whom cpu is_on. absurd (let none = unloaded_unmarked machine.held.contents whom (λ there. no_resident there.0 there.1) in cc);
+    marks = λ whom cpu is_on. absurd (let none = unmarked whom in cc);
+    out = λ whom absent. unmarked whom;
     lasts = λ whom. let zero_yet = last_zero whom in omega arith;
     stamps = subst (λ (j : List Entry). AreStamps j machine.memory stamps) (sym begun)
         (subst (λ (xs : List ℕ). AreStamps first machine.memory xs) (sym (are ∙ ap (replicate frames) (ends ∙ ap length begun))) (first_stamps frames enough));

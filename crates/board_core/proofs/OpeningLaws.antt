@@ -48,6 +48,8 @@ use Rattle.cached_machine.specs.Moved.{IsMade, MayBeMade}
 use Rattle.cached_machine.specs.Posts.{mark_of, HasLoadedMarks, HasSameMarks}
 use Rattle.board_core.specs.Core.{contents_of, IsSound, Recorded}
 use Rattle.board_core.specs.Stamps.{frame_declared, stamped_at, AreStamped, AreStamps, IsWithin}
+use Rattle.cached_machine.proofs.AlikeLaws.{same_loaded, same_out}
+use Rattle.cached_machine.proofs.MoveLaws.{loaded_as_before}
 use Rattle.board_core.proofs.NamedLaws.{just_loaded, unloaded_unmarked}
 use Rattle.board_core.proofs.PlaceLaws.{same_shown, IsOnlyContents, IsOnlyHeld}
 use Rattle.board_core.proofs.SoundLaws.{loaded_marks, quiet_sound, same_marks, told_again}
@@ -135,7 +137,7 @@ module _ (old : Recorded) (sound : IsSound old) (open_yet : old.sealed ≡ false
 
   -- before the seal nobody is on a processor
   pub none_marked : (whom : ThreadNo) → mark_of (contents_of old) whom ≡ None
-  none_marked whom = unloaded_unmarked (contents_of old) whom (λ there. none_there there.0 there.1)
+  none_marked whom = unloaded_unmarked (contents_of old) whom sound.out (λ there. none_there there.0 there.1)
 
   module _ (d : Decl) (none : broken_rule (state_of old.machine) d ≡ None) where
     pub may_be_made : MayBeMade d old.machine
@@ -184,6 +186,7 @@ module _ (old : Recorded) (sound : IsSound old) (open_yet : old.sealed ≡ false
             steps = omega arith;
             limit = sound.limit;
             marks = λ whom cpu is_on. absurd (let none_before = none_marked whom in let same = made.beside.marks.marks whom in cc);
+            out = same_out (contents_of old) machine.held.contents made.beside.marks (same_loaded (contents_of old) machine.held.contents made.beside.loaded.residents) sound.out;
             lasts = λ whom. let last = made.beside.marks.lasts whom in let was = sound.lasts whom in omega arith;
             stamps = subst (λ (xs : List ℕ). AreStamps w.entries machine.memory xs) (sym is) (subst (λ (k : List Entry). AreStamps k machine.memory (stamped_at (frame_declared d) at old.stamps)) (sym grown) stamps);
           }
@@ -244,19 +247,19 @@ module _ (old : Recorded) (pairs : List (Ident × Node)) (sound : IsSound old) (
       pub sealed_sound : w.entries ≡ old.journal.entries ++ the_seal → IsSound (record old { machine = machine; journal = w; sealed = true })
       sealed_sound grown =
           let keeps = loaded_marks (contents_of old) mid.held.contents came in
-          let then = same_marks mid.held.contents machine.held.contents stay in
+          let then = same_marks mid.held.contents machine.held.contents (loaded_as_before mid.held machine.held ident true lock.residents) stay in
           quiet_sound old machine w true the_seal sound (refl, (refl, (refl, tt))) grown
           (ap (λ (m : Cached). m.machine) only ∙ ap (λ (m : Cached). m.machine) held) (ap (λ (m : Cached). m.memory) only ∙ ap (λ (m : Cached). m.memory) held)
           (same ∙ same_shown old.machine mid held is.shows)
           (sealed_told old.machine.machine old.machine.memory old.machine.held.caps (contents_of old) mid.held.contents machine.held.contents pairs after old.journal.entries [] at mid.held.gone
           told_now whole whole_mid caps is_the_first may_lock_it (subst (λ (i : Ident). IsLock mid.held.contents machine.held.contents i true) first_is lock))
-          (record { marks = λ whom cpu is_on. keeps.marks whom cpu (then.marks whom cpu is_on); lasts = λ whom. then.lasts whom ∙ keeps.lasts whom })
+          (record { marks = λ whom cpu is_on. keeps.marks whom cpu (then.marks whom cpu is_on); lasts = λ whom. then.lasts whom ∙ keeps.lasts whom; out = λ only. then.out (keeps.out only) })
 
       pub seal_marks : HasSameMarks (contents_of old) machine.held.contents
       seal_marks = record {
         marks = λ whom.
             stay.marks whom
-            ∙ just_loaded (contents_of old) mid.held.contents whom came (λ there. none_there old sound open_yet there.0 there.1)
+            ∙ just_loaded (contents_of old) mid.held.contents whom sound.out came (λ there. none_there old sound open_yet there.0 there.1)
             ∙ sym (none_marked old sound open_yet whom);
         lasts = λ whom. stay.lasts whom ∙ came.lasts whom;
       }

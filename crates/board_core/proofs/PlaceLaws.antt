@@ -29,6 +29,7 @@ use Rattle.cached_machine.specs.board_laws.proofs.Loads.{loaded_told}
 use Rattle.cached_machine.specs.board_laws.proofs.Locks.{locked_told, unlocked_told}
 use Rattle.cached_machine.specs.Cached.{state_of, Cached}
 use Rattle.cached_machine.specs.Posts.{HasLoadedMarks, HasSameMarks}
+use Rattle.cached_machine.proofs.MoveLaws.{loaded_as_before}
 use Rattle.board_core.specs.Core.{contents_of, IsSound, Recorded}
 use Rattle.cached_machine.specs.desc_tables.proofs.Remaining.{IsClosed}
 use Rattle.board_core.specs.Growth.{MayWrite}
@@ -62,23 +63,23 @@ module _ (old : Recorded) (machine : Cached) (w : Written) (pairs : List (Ident 
   sealed_told : AreAsTold old.machine.machine old.machine.memory (contents_of old) true old.journal.entries
   sealed_told = subst (λ (b : Bool). AreAsTold old.machine.machine old.machine.memory (contents_of old) b old.journal.entries) may.sealed sound.told
 
-  by_entry : (e : Entry) → AreQuiet (e ∷ []) → w.entries ≡ old.journal.entries ++ e ∷ [] → AreAsTold old.machine.machine old.machine.memory machine.held.contents true (old.journal.entries ++ e ∷ [])
+  by_entry : (on : Bool) → IsLock (contents_of old) machine.held.contents ident on → (e : Entry) → AreQuiet (e ∷ []) → w.entries ≡ old.journal.entries ++ e ∷ [] → AreAsTold old.machine.machine old.machine.memory machine.held.contents true (old.journal.entries ++ e ∷ [])
       → IsSound (record old { machine = machine; journal = w })
-  by_entry e quiet grown told =
+  by_entry on is e quiet grown told =
       quiet_sound old machine w old.sealed (e ∷ []) sound quiet grown (ap (λ (m : Cached). m.machine) only) (ap (λ (m : Cached). m.memory) only) same
       (subst (λ (b : Bool). AreAsTold old.machine.machine old.machine.memory machine.held.contents b (old.journal.entries ++ e ∷ [])) (sym may.sealed) told)
-      (same_marks (contents_of old) machine.held.contents marks)
+      (same_marks (contents_of old) machine.held.contents (loaded_as_before old.machine.held machine.held ident on is.residents) marks)
 
   pub locked_sound : LockIs (contents_of old) ident false → MayBeLocked (contents_of old) ident → IsLock (contents_of old) machine.held.contents ident true
       → w.entries ≡ old.journal.entries ++ Locked ident cpu ∷ [] → IsSound (record old { machine = machine; journal = w })
   locked_sound unlocked owner is grown =
-      by_entry (Locked ident cpu) (refl, tt) grown
+      by_entry true is (Locked ident cpu) (refl, tt) grown
       (locked_told old.machine.machine old.machine.memory old.machine.held.caps (contents_of old) machine.held.contents pairs old.journal.entries ident cpu sealed_told whole may.processor live unlocked owner is)
 
   pub unlocked_sound : LockIs (contents_of old) ident true → ident ≢ first_ident → IsLock (contents_of old) machine.held.contents ident false
       → w.entries ≡ old.journal.entries ++ Unlocked ident cpu ∷ [] → IsSound (record old { machine = machine; journal = w })
   unlocked_sound locked other is grown =
-      by_entry (Unlocked ident cpu) (refl, tt) grown
+      by_entry false is (Unlocked ident cpu) (refl, tt) grown
       (unlocked_told old.machine.machine old.machine.memory old.machine.held.caps (contents_of old) machine.held.contents pairs old.journal.entries ident cpu sealed_told whole may.processor live locked other is)
 
 -- ---- what comes and leaves
@@ -133,7 +134,7 @@ module _ (old : Recorded) (machine : Cached) (w : Written) (pairs : List (Ident 
   pub unloaded_sound : (ident : Ident) → standing_in (contents_of old).issued ident ≡ Live → ident ≢ first_ident → IsUnload (contents_of old) machine.held.contents ident (length old.journal.entries) machine.held.gone
       → w.entries ≡ old.journal.entries ++ written_back cpu machine.held.gone → IsSound (record old { machine = machine; journal = w })
   unloaded_sound ident live other is grown =
-      by_entries (written_back cpu machine.held.gone) (subst AreQuiet (append-nil (written_back cpu machine.held.gone)) (quiet_gone cpu machine.held.gone [] tt)) (same_shown old.machine machine only is.contents.shows) grown
+      by_entries (written_back cpu machine.held.gone) (subst AreQuiet (append-nil (written_back cpu machine.held.gone)) (quiet_gone cpu machine.held.gone [] tt)) (same_shown old.machine machine only is.shows) grown
       (unloaded_told old.machine.machine old.machine.memory old.machine.held.caps (contents_of old) machine.held.contents pairs old.journal.entries ident machine.held.gone cpu sealed_as_told whole few_processors live other is)
 
   pub loaded_sound : (after : List (Ident × Node)) (loading : Name) (keep : List Ident) (ident : Ident) → AreWhole old.machine.held.caps machine.held.contents after → old.machine.held.caps ≡ old.machine.machine.caps

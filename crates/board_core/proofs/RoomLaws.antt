@@ -15,7 +15,7 @@ use Rattle.cached_machine.specs.shown_state.specs.Shown.{shown}
 use Rattle.cached_machine.specs.desc_parents.specs.Seen.{seen}
 use Rattle.cached_machine.specs.board_laws.specs.Moves.{ShowsTheSame}
 use Rattle.cached_machine.specs.Cached.{is_loaded}
-use Rattle.cached_machine.specs.Posts.{HasLoadedMarks, HasSameMarks}
+use Rattle.cached_machine.specs.Posts.{HasLoadedMarks, HasSameMarks, OnlyLoadedAreOut}
 use Rattle.board_core.specs.Core.{contents_of, Recorded}
 use Rattle.board_core.specs.Growth.{count_loaded, count_unkept, is_kept, GrowsBy, OnlyMakesRoom}
 use Rattle.board_core.proofs.GrowthLaws.{loaded_itself, same_marks_more}
@@ -81,8 +81,8 @@ module _ (old mid : Recorded) (room : OnlyMakesRoom old mid) where
     spare = let more = room.spare in omega arith;
   }
 
-  pub loaded_marks_still : HasLoadedMarks (contents_of old) (contents_of mid)
-  loaded_marks_still = same_marks_more (contents_of old) (contents_of old) (contents_of mid) same_residents (loaded_itself (contents_of old)) room.only.marks
+  pub loaded_marks_still : OnlyLoadedAreOut (contents_of old) → HasLoadedMarks (contents_of old) (contents_of mid)
+  loaded_marks_still out = same_marks_more (contents_of old) (contents_of old) (contents_of mid) same_residents (loaded_itself (contents_of old) out) room.only.marks
 
   -- what happened since happened since then
   pub grows_before : (es : List Entry) (new : Recorded) → GrowsBy es mid new → GrowsBy es old new

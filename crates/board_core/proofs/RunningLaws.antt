@@ -44,8 +44,9 @@ use Rattle.cached_machine.specs.board_laws.proofs.Runs.{completed_told, ended_to
 use Rattle.cached_machine.specs.Aside.{aside_of, Aside}
 use Rattle.cached_machine.specs.Cached.{state_of, Cached}
 use Rattle.cached_machine.specs.Moved.{IsCompleted}
-use Rattle.cached_machine.specs.Posts.{mark_of, HasSameMarks}
-use Rattle.cached_machine.proofs.AsideLaws.{loaded_stays, marks_stay}
+use Rattle.cached_machine.specs.Posts.{mark_of, HasSameMarks, OnlyLoadedAreOut}
+use Rattle.cached_machine.proofs.AlikeLaws.{same_loaded, same_out}
+use Rattle.cached_machine.proofs.AsideLaws.{loaded_stays, marks_stay, residents_stay}
 use Rattle.board_core.specs.Core.{contents_of, AreCounted, AreReady, IsSound, Recorded}
 use Rattle.board_core.specs.Growth.{entry_of_step, KeepsPlaces}
 use Rattle.board_core.specs.Stamps.{frame_stored, stamped_at, AreStamped, AreStamps, IsWithin}
@@ -119,9 +120,9 @@ module _ (old : Recorded) (machine : Cached) (w : Written) (e : Entry) (sound : 
       ap (λ (s : FlatState). s.memory) (sym (state_is_flat old.machine.machine machine.memory machine.held.contents true (old.journal.entries ++ e ∷ []) told))
       ∙ memory_shown old.machine.machine machine.memory machine.held.contents
 
-  pub entry_sound : (n at : ℕ) (news : List ℕ) → at ≡ length w.entries → n ≡ old.steps + steps_in (e ∷ []) → n ≤ old.limit → AreReady machine → AreCounted machine.held.contents old.checkouts
+  pub entry_sound : (n at : ℕ) (news : List ℕ) → at ≡ length w.entries → n ≡ old.steps + steps_in (e ∷ []) → n ≤ old.limit → AreReady machine → OnlyLoadedAreOut machine.held.contents → AreCounted machine.held.contents old.checkouts
       → AreStamped at old.machine.memory old.stamps machine.memory news → IsSound (record old { machine = machine; journal = w; steps = n; stamps = news })
-  entry_sound n at news end steps within ready counted stamped =
+  entry_sound n at news end steps within ready out counted stamped =
       let j = old.journal.entries in
       let more : steps_in (j ++ e ∷ []) ≡ steps_in j + steps_in (e ∷ []) = steps-append j (e ∷ []) in
       let before = sound.steps in
@@ -132,6 +133,7 @@ module _ (old : Recorded) (machine : Cached) (w : Written) (e : Entry) (sound : 
         steps = omega arith;
         limit = within;
         marks = ready;
+        out = out;
         lasts = counted;
         stamps = subst (λ (k : List Entry). AreStamps k machine.memory news) (sym grown) (stamps_grow j e old.machine.memory old.stamps machine.memory news memory_then at (end ∙ ap length grown) sound.stamps stamped);
       }
@@ -214,6 +216,7 @@ module _ (old : Recorded) (machine : Cached) (whom : ThreadNo) (next : NextStep)
       entry_sound old machine w (entry_of_step whom next.faults cpu) sound sealed grown same_machine_stepped (by_fault next.faults may) (old.steps + 1) at news end
       (ap (λ (n : ℕ). old.steps + n) (sym (steps_of_entry next.faults))) left
       (others_ready old machine whom sound marks unmarked (subst (λ (s : FlatState). OthersStay whom.0 (state_of old.machine).threads s.threads) (sym state) (step_others (state_of old.machine) whom)))
+      (same_out (contents_of old) machine.held.contents marks (same_loaded (contents_of old) machine.held.contents (residents_stay old.machine machine aside)) sound.out)
       (same_counts (contents_of old) machine.held.contents old.checkouts marks sound.lasts)
       (subst (λ (xs : List ℕ). AreStamped at old.machine.memory old.stamps machine.memory xs) (sym are) (stamped at))
 
@@ -247,5 +250,6 @@ module _ (old : Recorded) (machine : Cached) (whom : ThreadNo) (cpu : ℕ) (caps
       entry_sound old machine w (Completed whom cpu) sound sealed grown done.beside.machine call_told old.steps (length w.entries) old.stamps refl (omega arith) sound.limit
       (others_ready old machine whom sound done.beside.marks (trapped_unmarked old whom its_thread.0 sound its_thread.1 (able its_thread.0 its_thread.1))
       (subst (λ (s : FlatState). OthersStay whom.0 (state_of old.machine).threads s.threads) (sym done.state) (call_others (state_of old.machine) whom)))
+      (same_out (contents_of old) machine.held.contents done.beside.marks (same_loaded (contents_of old) machine.held.contents done.beside.loaded.residents) sound.out)
       (same_counts (contents_of old) machine.held.contents old.checkouts done.beside.marks sound.lasts)
       (all_stamped (length w.entries) old.machine.memory old.stamps machine.memory same_memory)

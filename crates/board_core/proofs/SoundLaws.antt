@@ -2,6 +2,7 @@
 use Rattle.std.proofs.Common.{◌≡◌, ℕ, ◌+◌, ◌≤◌, Bool, true, false, List, [], ◌∷◌, ◌++◌, length, Option, Some, None, refl, ap, sym, ◌∙◌, subst, arith}
 use Rattle.std.specs.Prelude.{count_by, if◌then◌else◌}
 use Rattle.std.proofs.lemmas.List.{append-nil}
+use Rattle.cache_ident.specs.declared.names.Name.{Name}
 use Rattle.cache_ident.specs.declared.names.Name.TheVariants as name
 use Rattle.cache_ident.specs.declared.names.ThreadNo.{ThreadNo}
 use Rattle.rv32_exec.specs.declared.statuses.Status.TheVariants.{Ready}
@@ -19,7 +20,8 @@ use Rattle.cached_machine.specs.shown_state.specs.Shown.{shown}
 use Rattle.cached_machine.specs.board_laws.specs.Telling.{AreAsTold}
 use Rattle.cached_machine.specs.board_laws.proofs.Growing.{state_is_flat}
 use Rattle.cached_machine.specs.Cached.{is_loaded, state_of, Cached}
-use Rattle.cached_machine.specs.Posts.{last_of, mark_of, HasLoadedMarks, HasSameMarks}
+use Rattle.cached_machine.specs.Posts.{last_of, mark_of, HasLoadedMarks, HasSameMarks, OnlyLoadedAreOut}
+use Rattle.cached_machine.proofs.AlikeLaws.{loaded_out, same_out}
 use Rattle.board_core.specs.Core.{contents_of, AreReady, IsReadyOn, IsSound, Recorded}
 use Rattle.board_core.specs.Growth.{GrowsBy}
 use Rattle.board_core.specs.Stamps.{AreStamps}
@@ -27,13 +29,14 @@ use Rattle.board_core.proofs.StampLaws.{stamps_stay, AreQuiet}
 
 -- ---- marks
 
--- whoever is on a processor was there, and each has its last checkout still
+-- whoever is on a processor was there, and is loaded still if only loaded threads were; each has its last checkout still
 pub record KeepsMarks (old new : Contents) : Type 0 where
   pub marks : (no : ThreadNo) (cpu : ℕ) → mark_of new no ≡ Some cpu → mark_of old no ≡ Some cpu
   pub lasts : (no : ThreadNo) → last_of new no ≡ last_of old no
+  pub out : OnlyLoadedAreOut old → OnlyLoadedAreOut new
 
-pub same_marks : (old new : Contents) → HasSameMarks old new → KeepsMarks old new
-same_marks old new same = record { marks = λ whom cpu is. sym (same.marks whom) ∙ is; lasts = same.lasts }
+pub same_marks : (old new : Contents) → ((n : Name) → is_loaded new n ≡ is_loaded old n) → HasSameMarks old new → KeepsMarks old new
+same_marks old new loaded same = record { marks = λ whom cpu is. sym (same.marks whom) ∙ is; lasts = same.lasts; out = same_out old new same loaded }
 
 mark_if : (b : Bool) (mark : Option ℕ) (cpu : ℕ) → (if b then mark else None) ≡ Some cpu → mark ≡ Some cpu
 mark_if true mark cpu is = is
@@ -43,6 +46,7 @@ pub loaded_marks : (old new : Contents) → HasLoadedMarks old new → KeepsMark
 loaded_marks old new has = record {
   marks = λ whom cpu is. mark_if (is_loaded new (name.Thread whom)) (mark_of old whom) cpu (sym (has.marks whom) ∙ is);
   lasts = has.lasts;
+  out = λ only. loaded_out old new has;
 }
 
 ready_in : (old new : Cached) → state_of new ≡ state_of old → (whom : ThreadNo) (cpu : ℕ) → IsReadyOn old whom cpu → IsReadyOn new whom cpu
@@ -89,6 +93,7 @@ module _ (old : Recorded) (machine : Cached) (w : Written) (sealed : Bool) (es :
         steps = sound.steps ∙ sym (quiet_steps j es quiet) ∙ ap steps_in (sym grown);
         limit = sound.limit;
         marks = still_ready old.machine machine same keeps sound.marks;
+        out = keeps.out sound.out;
         lasts = λ whom. let last = keeps.lasts whom in let was = sound.lasts whom in omega arith;
         stamps = subst (λ (k : List Entry). AreStamps k machine.memory old.stamps) (sym grown) stamps;
       }

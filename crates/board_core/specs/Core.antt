@@ -7,7 +7,7 @@ use Rattle.run_journal.specs.Entries.{steps_in, Written}
 use Rattle.cached_machine.specs.desc_stores.specs.Contents.{Contents}
 use Rattle.cached_machine.specs.board_laws.specs.Telling.{AreAsTold}
 use Rattle.cached_machine.specs.Cached.{state_of, Cached}
-use Rattle.cached_machine.specs.Posts.{last_of, mark_of}
+use Rattle.cached_machine.specs.Posts.{last_of, mark_of, OnlyLoadedAreOut}
 use Rattle.board_core.specs.Stamps.{AreStamps}
 
 -- The machine, its journal, and whether that is sealed; how many steps may be taken and how many were; how many checkouts
@@ -39,12 +39,13 @@ abbrev pub AreCounted : Contents → ℕ → Type 0
 AreCounted c checkouts = (no : ThreadNo) → last_of c no ≤ checkouts
 
 -- The journal is legal, and tells what the machine shows and what is loaded. It has the steps that were taken, which are no
--- more than may be. Each thread that a processor has is ready, and no checkout has a number above the count. And each frame
--- has a stamp.
+-- more than may be. Each thread that a processor has is ready and loaded, and no checkout has a number above the count. And
+-- each frame has a stamp.
 pub record IsSound (b : Recorded) : Type 0 where
   pub told : AreAsTold b.machine.machine b.machine.memory (contents_of b) b.sealed b.journal.entries
   pub steps : b.steps ≡ steps_in b.journal.entries
   pub limit : b.steps ≤ b.limit
   pub marks : AreReady b.machine
+  pub out : OnlyLoadedAreOut (contents_of b)
   pub lasts : AreCounted (contents_of b) b.checkouts
   pub stamps : AreStamps b.journal.entries b.machine.memory b.stamps

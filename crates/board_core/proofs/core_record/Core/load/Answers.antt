@@ -87,4 +87,4 @@ pub returns-clause-unmarked : goal.returns-clause-unmarked
 returns-clause-unmarked c = λ whom named.
     let may = subst (λ (b : Recorded). MayBeLoaded (contents_of b) c.args.name c.args.keep.now) (sym c.self.view_is) c.requires.may in
     let absent = ((shelved_iff c.self.inside.machine.held.contents c.known.ensures.sound.1.whole.one c.args.name).0 may.shelved).1 in
-    just_loaded _ _ whom c.load-ident.ensures.marks (λ there. absent (subst (λ (n : Name). IsNameResident (residents_of c.self.inside.machine.held.contents) n) (sym named) there))
+    just_loaded _ _ whom c.self.invariant.0.out c.load-ident.ensures.marks (λ there. absent (subst (λ (n : Name). IsNameResident (residents_of c.self.inside.machine.held.contents) n) (sym named) there))
