@@ -174,7 +174,7 @@ module _ (cpu : ℕ) (whom : ThreadNo) (old b : Recorded) (s : FlatState) (forme
     steps_still mid room mid_sound sound =
         sound.steps
         ∙ ap steps_in way.grows.entries
-        ∙ ap (count_by is_step) (erase-append old.journal.entries way.loads ∙ ap (λ (es : List Event). erase old.journal.entries ++ es) (erase_loads cpu _ way.loads way.are) ∙ append-nil (erase old.journal.entries))
+        ∙ ap (count_by is_step) (erase-append old.journal.entries way.loads ∙ ap (λ (es : List Event). erase old.journal.entries ++ es) (erase_loads cpu _ chain _ _ _ _ way.loads way.are) ∙ append-nil (erase old.journal.entries))
         ∙ ap (λ (j : List Entry). steps_in j) (sym (ap (λ (x : Recorded). x.journal.entries) room.rest))
         ∙ sym mid_sound.steps
         ∙ ap (λ (x : Recorded). x.steps) room.rest
@@ -194,8 +194,12 @@ module _ (cpu : ℕ) (whom : ThreadNo) (old b : Recorded) (s : FlatState) (forme
       chain = chain;
       order = subst (λ (x : FlatState). IsChainInOrder x whom.0 next chain) (sym same) order;
       few = few;
+      begun = way.begun;
+      begins = way.begins;
+      loaded = contents_of b;
       loads = way.loads;
-      are = subst (λ (names : List Name). AreLoads cpu (filter (is_missing (contents_of old)) names) way.loads) whole way.are;
+      are = subst (λ (names : List Name). AreLoads cpu old.machine.held.caps chain (filter (is_missing (contents_of old)) names) (contents_of way.begun) (length old.journal.entries) (contents_of b) way.loads) whole way.are;
+      keeps = places.loaded;
       most =
           let counted = length-filter (is_missing (contents_of old)) chain in
           let fewer = count_by-le-length (is_missing (contents_of old)) chain in

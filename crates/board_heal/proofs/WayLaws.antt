@@ -1,5 +1,5 @@
 -- What is loaded of a chain, one name after the other.
-use Rattle.std.proofs.Common.{◌≡◌, ℕ, ◌+◌, ◌≤◌, Bool, true, false, not, List, [], ◌∷◌, ◌++◌, length, filter, take, Contains, Some, None, slice_get, refl, ap, sym, ◌∙◌, subst, ◌⊎◌, inl, inr, arith, length-append}
+use Rattle.std.proofs.Common.{◌≡◌, ℕ, ◌+◌, ◌≤◌, Bool, true, false, not, List, [], ◌∷◌, ◌++◌, length, filter, take, Contains, Some, None, slice_get, refl, ap, sym, ◌∙◌, subst, ◌⊎◌, inl, inr, arith, add-zero, add_assoc, length-append}
 use Rattle.std.specs.Prelude.{if◌then◌else◌}
 use Rattle.std.proofs.lemmas.Bool.{false≢true}
 use Rattle.std.proofs.lemmas.List.{append-nil, append_assoc, length-map, take-append-drop, take_more}
@@ -7,6 +7,7 @@ use Rattle.std.proofs.lemmas.List.Elements.{Contains-append_left, Contains-appen
 use Rattle.std.proofs.lemmas.Option.{get_or_from_slice_get, slice_get_within}
 use Rattle.flat_laws.proofs.Members.{Contains-here, contains_nothing}
 use Rattle.cache_ident.specs.declared.idents.Ident.{Ident}
+use Rattle.cache_ident.specs.declared.names.Caps.{Caps}
 use Rattle.cache_ident.specs.declared.names.Name.{Name}
 use Rattle.cache_ident.specs.declared.names.Name.TheVariants.{Thread}
 use Rattle.cache_ident.specs.declared.names.ThreadNo.{ThreadNo}
@@ -30,7 +31,7 @@ use Rattle.board_core.specs.Core.{contents_of, Recorded}
 use Rattle.board_core.specs.Growth.{OnlyMakesRoom}
 use Rattle.board_core.proofs.GrowthLaws.{erase_back, grows_more}
 use Rattle.board_core.proofs.RoomLaws.{grows_nothing, loaded_marks_still, same_residents}
-use Rattle.board_heal.specs.Loads.{count_others, entries_of_load, is_missing, AreLoadedTo, AreLoads, IsLoadedBeside, IsThereNow}
+use Rattle.board_heal.specs.Loads.{count_others, entries_of_load, is_missing, AreLoadedTo, AreLoads, IsLoadedBeside, IsLoadOfChain, IsThereNow}
 
 -- ---- what is loaded
 
@@ -50,15 +51,39 @@ erase_load : (cpu : ℕ) (gone : List Gone) (ident : Ident) (name : Name) → er
 erase_load cpu gone ident name = erase-append (written_back cpu gone) (Loaded ident name cpu ∷ []) ∙ ap (λ (es : List Event). es ++ []) (erase_back cpu gone)
 
 -- loads are no events
-pub erase_loads : (cpu : ℕ) (names : List Name) (es : List Entry) → AreLoads cpu names es → erase es ≡ []
-erase_loads cpu [] es are = ap erase are
-erase_loads cpu (n ∷ names) es (gone, ident, rest, is, later) =
-    ap erase is ∙ erase-append (entries_of_load cpu gone ident n) rest ∙ ap (λ (events : List Event). events ++ erase rest) (erase_load cpu gone ident n) ∙ erase_loads cpu names rest later
+pub erase_loads : (cpu : ℕ) (caps : Caps) (chain names : List Name) (old : Contents) (at : ℕ) (new : Contents) (es : List Entry) → AreLoads cpu caps chain names old at new es → erase es ≡ []
+erase_loads cpu caps chain [] old at new es (same, none) = ap erase none
+erase_loads cpu caps chain (n ∷ names) old at new es (mid, gone, ident, rest, first, is, later) =
+    ap erase is ∙ erase-append (entries_of_load cpu gone ident n) rest ∙ ap (λ (events : List Event). events ++ erase rest) (erase_load cpu gone ident n)
+    ∙ erase_loads cpu caps chain names mid (at + length (entries_of_load cpu gone ident n)) new rest later
 
-one_load_more : (cpu : ℕ) (names : List Name) (es : List Entry) (gone : List Gone) (ident : Ident) (name : Name) → AreLoads cpu names es → AreLoads cpu (names ++ name ∷ []) (es ++ entries_of_load cpu gone ident name)
-one_load_more cpu [] es gone ident name are = (gone, ident, [], ap (λ (x : List Entry). x ++ entries_of_load cpu gone ident name) are ∙ sym (append-nil (entries_of_load cpu gone ident name)), refl)
-one_load_more cpu (n ∷ names) es gone ident name (first, its, rest, is, later) =
-    (first, its, rest ++ entries_of_load cpu gone ident name, ap (λ (x : List Entry). x ++ entries_of_load cpu gone ident name) is ∙ append_assoc (entries_of_load cpu first its n) rest (entries_of_load cpu gone ident name), one_load_more cpu names rest gone ident name later)
+-- one more at the end of some is one more of them
+one_load_more : (cpu : ℕ) (caps : Caps) (chain names : List Name) (old : Contents) (at : ℕ) (mid : Contents) (es : List Entry) (new : Contents) (name : Name) (gone : List Gone) (ident : Ident)
+    → AreLoads cpu caps chain names old at mid es
+    → IsLoadOfChain caps chain mid new name (at + length es) gone ident
+    → AreLoads cpu caps chain (names ++ name ∷ []) old at new (es ++ entries_of_load cpu gone ident name)
+one_load_more cpu caps chain [] old at mid es new name gone ident (same, none) load = (
+  new,
+  gone,
+  ident,
+  [],
+  subst (λ (c : Contents). IsLoadOfChain caps chain c new name at gone ident) same
+      (subst (λ (place : ℕ). IsLoadOfChain caps chain mid new name place gone ident) (ap (λ (x : List Entry). at + length x) none ∙ add-zero at) load),
+  ap (λ (x : List Entry). x ++ entries_of_load cpu gone ident name) none ∙ sym (append-nil (entries_of_load cpu gone ident name)),
+  (refl, refl),
+)
+one_load_more cpu caps chain (n ∷ names) old at mid es new name gone ident (between, left, its, rest, first, is, later) load =
+    let told = entries_of_load cpu left its n in
+    let long : at + length es ≡ at + length told + length rest = ap (λ (x : List Entry). at + length x) is ∙ ap (λ (k : ℕ). at + k) (length-append told rest) ∙ sym (add_assoc at (length told) (length rest)) in (
+      between,
+      left,
+      its,
+      rest ++ entries_of_load cpu gone ident name,
+      first,
+      ap (λ (x : List Entry). x ++ entries_of_load cpu gone ident name) is ∙ append_assoc told rest (entries_of_load cpu gone ident name),
+      one_load_more cpu caps chain names between (at + length told) mid rest new name gone ident later
+          (subst (λ (place : ℕ). IsLoadOfChain caps chain mid new name place gone ident) long load),
+    )
 
 length_load : (cpu : ℕ) (gone : List Gone) (ident : Ident) (name : Name) → length (entries_of_load cpu gone ident name) ≡ length gone + 1
 length_load cpu gone ident name =
@@ -86,8 +111,10 @@ marks_further old mid new first second came = record {
 module _ (cpu : ℕ) (chain : List Name) (old mid : Recorded) (room : OnlyMakesRoom old mid) where
   pub none_yet : count_others mid chain + length chain + 1 ≤ mid.journal.spare → length chain ≤ (contents_of mid).spare → AreLoadedTo cpu chain 0 old mid
   none_yet fits issues = record {
+    begun = mid;
+    begins = room;
     loads = [];
-    are = refl;
+    are = (refl, refl);
     grows = grows_nothing old mid room;
     state = room.only.state;
     there = λ name there. absurd (contains_nothing name there);
@@ -105,6 +132,20 @@ module _ (cpu : ℕ) (chain : List Name) (old mid : Recorded) (room : OnlyMakesR
 module _ (cpu : ℕ) (chain : List Name) (old mid new : Recorded) (i : ℕ) (name : Name) (at : slice_get chain i ≡ Some name) (apart : AreApart chain) (way : AreLoadedTo cpu chain i old mid) where
   abbrev first : List Name
   first = take i chain
+
+  abbrev caps : Caps
+  caps = old.machine.held.caps
+
+  abbrev place : ℕ
+  place = length old.journal.entries
+
+  -- the load came behind those before it
+  load_here : (gone : List Gone) (ident : Ident) → IsLoadOfChain mid.machine.held.caps chain (contents_of mid) (contents_of new) name (length mid.journal.entries) gone ident
+      → IsLoadOfChain caps chain (contents_of mid) (contents_of new) name (place + length way.loads) gone ident
+  load_here gone ident load =
+      subst (λ (k : Caps). IsLoadOfChain k chain (contents_of mid) (contents_of new) name (place + length way.loads) gone ident) way.grows.caps
+      (subst (λ (at : ℕ). IsLoadOfChain mid.machine.held.caps chain (contents_of mid) (contents_of new) name at gone ident)
+      (ap length way.grows.entries ∙ length-append old.journal.entries way.loads) load)
 
   taken : take (i + 1) chain ≡ first ++ name ∷ []
   taken = take_more chain i name (slice_get_within chain i name at) ∙ ap (λ (n : Name). first ++ n ∷ []) (get_or_from_slice_get chain i name name at)
@@ -140,8 +181,10 @@ module _ (cpu : ℕ) (chain : List Name) (old mid new : Recorded) (i : ℕ) (nam
   -- it was there
   was_there : IsNameResident (residents_of (contents_of mid)) name → AreLoadedTo cpu chain (i + 1) old mid
   was_there found = record {
+    begun = way.begun;
+    begins = way.begins;
     loads = way.loads;
-    are = subst (λ (ns : List Name). AreLoads cpu ns way.loads) (sym (missing_so false (ap not (is_there (contents_of old) name (was_loaded found))) ∙ append-nil _)) way.are;
+    are = subst (λ (ns : List Name). AreLoads cpu caps chain ns (contents_of way.begun) place (contents_of mid) way.loads) (sym (missing_so false (ap not (is_there (contents_of old) name (was_loaded found))) ∙ append-nil _)) way.are;
     grows = way.grows;
     state = way.state;
     there = λ n there. elim (taken_cases n there) [
@@ -163,9 +206,13 @@ module _ (cpu : ℕ) (chain : List Name) (old mid new : Recorded) (i : ℕ) (nam
   -- it came
   came : (IsNameResident (residents_of (contents_of mid)) name → ⊥) → IsLoadedBeside cpu chain name mid new → AreLoadedTo cpu chain (i + 1) old new
   came never load = record {
+    begun = way.begun;
+    begins = way.begins;
     loads = way.loads ++ entries_of_load cpu load.gone load.ident name;
-    are = subst (λ (ns : List Name). AreLoads cpu ns (way.loads ++ entries_of_load cpu load.gone load.ident name)) (sym (missing_so true (ap not (is_not (contents_of old) name (λ found. never (is_loaded_still found))))))
-        (one_load_more cpu (filter (is_missing (contents_of old)) first) way.loads load.gone load.ident name way.are);
+    are = subst (λ (ns : List Name). AreLoads cpu caps chain ns (contents_of way.begun) place (contents_of new) (way.loads ++ entries_of_load cpu load.gone load.ident name))
+        (sym (missing_so true (ap not (is_not (contents_of old) name (λ found. never (is_loaded_still found))))))
+        (one_load_more cpu caps chain (filter (is_missing (contents_of old)) first) (contents_of way.begun) place (contents_of mid) way.loads (contents_of new) name load.gone load.ident way.are
+        (load_here load.gone load.ident load.load));
     grows = grows_more way.loads (entries_of_load cpu load.gone load.ident name) old mid new way.grows load.grows;
     state = load.grows.state ∙ ap (after_events (state_of mid.machine)) (erase_load cpu load.gone load.ident name) ∙ way.state;
     there = λ n there. elim (taken_cases n there) [

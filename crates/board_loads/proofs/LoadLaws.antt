@@ -12,7 +12,7 @@ use Rattle.cache_ident.specs.Names.{amount_of, kind_of}
 use Rattle.cache_ident.specs.Residents.{with_loaded, Resident}
 use Rattle.cache_ident.specs.Rolls.{just_issued}
 use Rattle.depend_lists.specs.declared.nodes.Node.{Node}
-use Rattle.flat_state.specs.Dependence.{Depends}
+use Rattle.flat_state.specs.Dependence.{Depends, DependsFar}
 use Rattle.flat_state.specs.Names.{is_fit_name, stands}
 use Rattle.flat_state.specs.State.{FlatState}
 use Rattle.run_journal.specs.declared.entries.Entry.TheVariants.{Loaded}
@@ -33,6 +33,7 @@ use Rattle.board_core.specs.board_laws.specs.Moves.{written_back, IsLoad}
 use Rattle.board_core.specs.cached_machine.specs.Posts.{mark_of, HasLoadedMarks}
 use Rattle.board_core.specs.board_laws.proofs.Growing.{formed_told}
 use Rattle.board_checks.specs.Facts.{IsFormed, IsLoadable}
+use Rattle.board_checks.specs.Keeps.{IsAbove}
 use Rattle.board_core.specs.Core.{contents_of, IsSound, Recorded}
 use Rattle.board_core.specs.Growth.{GrowsBy, OnlyMakesRoom}
 use Rattle.board_loads.specs.Loads.{IsLoadedAs}
@@ -85,6 +86,15 @@ module _ (old mid : Recorded) (room : OnlyMakesRoom old mid) (were are : List (I
       so : (a b : Name) → Depends (seen (contents_of old)) a b → Depends (seen (contents_of mid)) a b
       so a b depends = subst (λ (s : FlatState). Depends s a b) (sym (same_seen old mid room)) depends
 
+  -- what is kept is what the name depended on before, too
+  above_before : (n : Name) (kept : Ident) → IsAbove (contents_of mid) n kept → IsAbove (contents_of old) n kept
+  above_before n kept (r, there, its, far) = (
+    r,
+    subst (λ (rs : List Resident). Contains rs r) (same_residents old mid room) there,
+    its,
+    subst (λ (s : FlatState). DependsFar s n r.name) (same_seen old mid room) far,
+  )
+
   -- ---- what was done
 
   -- a cache that is full was full
@@ -131,16 +141,17 @@ module _ (old mid : Recorded) (room : OnlyMakesRoom old mid) (were are : List (I
       shows = λ machine memory. load.shows machine memory ∙ same_shows old mid room machine memory;
     }
 
-    pub loaded_before : (cpu : ℕ) → IsLoadable (contents_of old) n → MayBeLoaded (contents_of mid) n keep
+    pub loaded_before : (cpu : ℕ) → IsLoadable (contents_of old) n → MayBeLoaded (contents_of mid) n keep → ((kept : Ident) → Contains keep kept → IsAbove (contents_of mid) n kept)
         → GrowsBy (written_back cpu gone ++ Loaded ident n cpu ∷ []) mid new
         → IsLoad mid.machine.held.caps (contents_of mid) (contents_of new) n keep (length mid.journal.entries) gone ident
         → HasLoadedMarks (contents_of mid) (contents_of new)
         → ((no : ThreadNo) → n ≡ name.Thread no → mark_of (contents_of new) no ≡ None)
         → new.sealed ≡ mid.sealed → new.checkouts ≡ mid.checkouts
         → IsLoadedAs cpu n ident old new
-    loaded_before cpu loadable may grows load marks unmarked sealed checkouts = record {
+    loaded_before cpu loadable may only grows load marks unmarked sealed checkouts = record {
       keep = keep;
       may = may_before n keep loadable may;
+      only = λ kept there. above_before n kept (only kept there);
       entries = grows_before old mid room (written_back cpu gone ++ Loaded ident n cpu ∷ []) new grows;
       load = load_before load;
       marks = loaded_marks_before old mid room (contents_of new) marks;

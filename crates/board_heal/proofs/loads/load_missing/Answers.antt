@@ -55,6 +55,12 @@ returns c =
       record {
         gone = gone;
         ident = c.load.result;
+        load = record {
+          pairs = sound.0;
+          whole = sound.1.whole;
+          may = may_load b sound.0 sound.1 chain c.args.name next never;
+          load = is;
+        };
         grows = c.load.ensures.entries;
         there = comes b sound.0 sound.1 chain c.args.name next new at gone c.load.result is;
         stay = stays b sound.0 sound.1 chain c.args.name next new at gone c.load.result is;
