@@ -1,7 +1,9 @@
 //! What holds of every core, and what is read of it.
 
-ghost use Rattle.std.specs.Prelude.{◌≡◌};
+ghost use Rattle.std.specs.Prelude.{◌≡◌, None, Some, IfNone, IfSome};
 ghost use Rattle.flat_state.specs.WellFormed.{IsWellFormed};
+ghost use Rattle.board_core.specs.desc_stores.specs.declared.items.Item.{Item};
+ghost use Rattle.board_core.specs.desc_stores.specs.Contents.{content_of};
 ghost use Rattle.board_core.specs.desc_stores.specs.Sound.{IsExactlyOne};
 ghost use Rattle.board_core.specs.shown_state.specs.Found.{AreFound};
 ghost use Rattle.board_core.specs.store_residents.specs.Slots.{HasSlots};
@@ -9,9 +11,10 @@ ghost use Rattle.board_core.specs.cached_machine.specs.Cached.{is_loaded as is_l
 ghost use Rattle.board_core.specs.Core.{contents_of, IsSound};
 ghost use Rattle.board_threads.specs.Tests.{goes_on};
 
-use board_core::Core;
+use board_core::{Core, ItemRef};
 use cache_ident::{Name, ThreadNo};
 use flat_rules::Records;
+use thread_cache::ThreadRec;
 
 // Does nothing. A proof has from it what holds of every core.
 pub(crate) fn known(core: &Core)
@@ -42,4 +45,15 @@ pub(crate) fn is_loaded(core: &Core, name: Name) -> bool
     ensures { result ≡ is_loaded_def (contents_of core.now) name }
 {
     core.machine().tables().resident(name).is_some()
+}
+
+// The record of a thread, wherever it is.
+pub(crate) fn record_of(core: &Core, no: ThreadNo) -> Option<&ThreadRec>
+    ensures found { IfSome result (λ found. content_of (contents_of core.now) (Name.Thread no) ≡ Some (Item.Thread found.now)) }
+    ensures absent { IfNone result (content_of (contents_of core.now) (Name.Thread no) ≡ None) }
+{
+    match core.machine().tables().item(Name::Thread(no)) {
+        Some(ItemRef::Thread(found)) => Some(found),
+        _ => None,
+    }
 }
