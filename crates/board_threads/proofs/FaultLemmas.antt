@@ -1,5 +1,5 @@
 -- When a step faults, and when a fault may be confirmed.
-use Rattle.std.proofs.Common.{◌≡◌, ℕ, ◌-◌, ◌%◌, Bool, true, false, not, ◌&&◌, eqb, map, List, Option, Some, None, Result, Err, IfErr, refl, sym, ap, ap₂, ◌∙◌, subst, arith, slice_get}
+use Rattle.std.proofs.Common.{◌≡◌, ℕ, ◌%◌, Bool, true, false, not, ◌&&◌, eqb, map, List, Option, Some, None, Result, Err, IfErr, refl, sym, ap, ap₂, ◌∙◌, subst, arith, slice_get}
 use Rattle.std.specs.Prelude.{if◌then◌else◌}
 use Rattle.std.specs.Option.{is_some, option_and_then, option_map, option_or}
 use Rattle.cache_ident.specs.declared.idents.Ident.{Ident}

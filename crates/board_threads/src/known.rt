@@ -1,11 +1,13 @@
 //! What holds of every core, and what is read of it.
 
-ghost use Rattle.std.specs.Prelude.{◌≡◌, None, Some, IfNone, IfSome};
+ghost use Rattle.std.specs.Prelude.{◌≡◌, None, Some, IfNone, IfSome, slice_get};
+ghost use Rattle.std.specs.Option.{option_copied, option_map};
 ghost use Rattle.flat_state.specs.WellFormed.{IsWellFormed};
 ghost use Rattle.board_core.specs.desc_stores.specs.declared.items.Item.{Item};
 ghost use Rattle.board_core.specs.desc_stores.specs.Contents.{content_of};
 ghost use Rattle.board_core.specs.desc_stores.specs.Sound.{IsExactlyOne};
 ghost use Rattle.board_core.specs.shown_state.specs.Found.{AreFound};
+ghost use Rattle.board_core.specs.shown_state.specs.Shown.{flat_thread};
 ghost use Rattle.board_core.specs.store_residents.specs.Slots.{HasSlots};
 ghost use Rattle.board_core.specs.cached_machine.specs.Cached.{is_loaded as is_loaded_def, state_of};
 ghost use Rattle.board_core.specs.Core.{contents_of, IsSound};
@@ -47,11 +49,13 @@ pub(crate) fn is_loaded(core: &Core, name: Name) -> bool
     core.machine().tables().resident(name).is_some()
 }
 
-// The record of a thread, wherever it is.
-pub(crate) fn record_of(core: &Core, no: ThreadNo) -> Option<&ThreadRec>
+/// The record of a thread, wherever it is, and none where there is none of that number.
+pub fn record_of(core: &Core, no: ThreadNo) -> Option<&ThreadRec>
+    ensures state { option_map flat_thread (option_copied result) ≡ slice_get (state_of core.now.machine).threads no.0 }
     ensures found { IfSome result (λ found. content_of (contents_of core.now) (Name.Thread no) ≡ Some (Item.Thread found.now)) }
     ensures absent { IfNone result (content_of (contents_of core.now) (Name.Thread no) ≡ None) }
 {
+    known(core);
     match core.machine().tables().item(Name::Thread(no)) {
         Some(ItemRef::Thread(found)) => Some(found),
         _ => None,

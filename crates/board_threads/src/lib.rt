@@ -13,5 +13,6 @@ pub use board_core::{
 };
 pub use checkouts::{checkout, clear_marks, leave};
 pub use faults::confirm_fault;
+pub use known::record_of;
 pub use standing::{settled, want};
 pub use tickets::Ticket;

@@ -21,7 +21,7 @@ returns-in_err-cpu-clause-absent c =
     let thread = c.in-Ok.thread.now in
     let held : c.tables.result.now ≡ b.machine.held = c.tables.ensures.tables ∙ ap (λ (m : Cached). m.held) c.machine.ensures in
     let there = subst (λ (h : Held). item_as h.contents c.args.ticket.now.thread ≡ Some (item.Thread thread)) held c.in-Ok.ensures.found in
-    let off = subst (λ (m : Cached). None ≡ mark_of m.held.contents thread.no) c.machine-2.ensures c.in_err-cpu.ensures in
+    let off = subst (λ (m : Cached). None ≡ mark_of m.held.contents thread.no) c.machine-2.ensures c.in_err-cpu.ensures.mark in
     rw c.from_residual.ensures (not_out b c.known.ensures.one c.args.ticket.now thread there None off (λ e. cc))
 
 pub returns-then-cpu-ticket-clause-found : goal.returns-then-cpu-ticket-clause-found
@@ -30,7 +30,7 @@ returns-then-cpu-ticket-clause-found c =
     let thread = c.in-Ok.thread.now in
     let held : c.tables.result.now ≡ b.machine.held = c.tables.ensures.tables ∙ ap (λ (m : Cached). m.held) c.machine.ensures in
     let there = subst (λ (h : Held). item_as h.contents c.args.ticket.now.thread ≡ Some (item.Thread thread)) held c.in-Ok.ensures.found in
-    let on = subst (λ (m : Cached). Some c.in_ok-cpu.cpu ≡ mark_of m.held.contents thread.no) c.machine-2.ensures c.in_ok-cpu.ensures in
+    let on = subst (λ (m : Cached). Some c.in_ok-cpu.cpu ≡ mark_of m.held.contents thread.no) c.machine-2.ensures c.in_ok-cpu.ensures.mark in
     out_if b c.known.ensures.one c.args.ticket.now thread there (sym on ∙ ap (λ (cpu : ℕ). Some cpu) c.if-cpu-ticket.true)
 
 pub returns-then-cpu-ticket-clause-alone : goal.returns-then-cpu-ticket-clause-alone
@@ -47,5 +47,5 @@ returns-else-cpu-ticket-clause-absent c =
     let thread = c.in-Ok.thread.now in
     let held : c.tables.result.now ≡ b.machine.held = c.tables.ensures.tables ∙ ap (λ (m : Cached). m.held) c.machine.ensures in
     let there = subst (λ (h : Held). item_as h.contents c.args.ticket.now.thread ≡ Some (item.Thread thread)) held c.in-Ok.ensures.found in
-    let on = subst (λ (m : Cached). Some c.in_ok-cpu.cpu ≡ mark_of m.held.contents thread.no) c.machine-2.ensures c.in_ok-cpu.ensures in
+    let on = subst (λ (m : Cached). Some c.in_ok-cpu.cpu ≡ mark_of m.held.contents thread.no) c.machine-2.ensures c.in_ok-cpu.ensures.mark in
     not_out b c.known.ensures.one c.args.ticket.now thread there (Some c.in_ok-cpu.cpu) on (λ same. c.if-cpu-ticket.false (cc))
