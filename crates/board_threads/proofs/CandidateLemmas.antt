@@ -1,51 +1,48 @@
 -- Who waits for a processor, slot by slot, and who of these is chosen.
-use Rattle.std.proofs.Common.{◌≡◌, ◌≢◌, ◌↔◌, ℕ, zero, suc, ◌+◌, ◌<◌, ◌≤◌, Bool, true, false, not, ◌&&◌, List, [], ◌∷◌, ◌++◌, length, get_or, Contains, Option, Some, None, IfSome, IfNone, refl, sym, ap, ap₂, ◌∙◌, subst, inl, inr, arith, below_more, slice_get}
+use Rattle.std.proofs.Common.{◌≡◌, ◌↔◌, ℕ, ◌+◌, ◌<◌, ◌≤◌, Bool, true, false, not, ◌&&◌, List, [], ◌∷◌, ◌++◌, length, map, get_or, Contains, Option, Some, None, IfSome, IfNone, Bor, refl, sym, ap, ap₂, ◌∙◌, subst, inl, inr, arith, below_more, slice_get, ◌⊎◌}
 use Rattle.std.specs.Option.{is_some, option_map}
 use Rattle.std.specs.Cmp.{IsStrictWeakOrder}
 use Rattle.std.specs.List.Sorted.{IsPermutation, IsSortedBy}
+use Rattle.std.specs.Iterator.{Yields, YieldsFirstRef}
 use Rattle.std.proofs.lemmas.Bool.{cases_lt}
 use Rattle.std.proofs.lemmas.Bool.Decides.{nat_tests}
+use Rattle.std.proofs.lemmas.Iterator.Consumers.{YieldsList-end, YieldsList-from_first, YieldsList-turn}
 use Rattle.std.proofs.lemmas.List.{get_or_default}
 use Rattle.std.proofs.lemmas.List.Elements.{Contains-append_left, Contains-push, Contains-push_cases}
 use Rattle.std.proofs.lemmas.List.Sorted.{sorted_far, Contains-permutation, IsPermutation-sym}
 use Rattle.cache_ident.specs.declared.idents.Ident.{Ident}
 use Rattle.cache_ident.specs.declared.idents.Kind.{Kind}
 use Rattle.cache_ident.specs.declared.idents.Kind.TheVariants as kind
-use Rattle.cache_ident.specs.declared.names.Caps.{Caps}
 use Rattle.cache_ident.specs.declared.names.Name.TheVariants as name
 use Rattle.cache_ident.specs.declared.names.ThreadNo.{ThreadNo}
-use Rattle.cache_ident.specs.Residents.{Resident, IsNameResident, IsResident}
+use Rattle.cache_ident.specs.Names.{kind_of}
+use Rattle.cache_ident.specs.Residents.{Resident, IsNameResident}
 use Rattle.rv32_exec.specs.declared.statuses.Status.TheVariants.{Ready}
 use Rattle.flat_state.specs.declared.records.FlatThread.{FlatThread}
 use Rattle.flat_state.specs.Signals.{full_receiver, is_runnable}
 use Rattle.flat_state.specs.State.{is_ready}
-use Rattle.slot_cache.specs.declared.loaded.Loaded.{Loaded}
-use Rattle.slot_cache.specs.Cells.{cell_at}
 use Rattle.flat_state.specs.WellFormed.{IsWellFormed}
+use Rattle.slot_cache.specs.declared.loaded.Loaded.{Loaded}
+use Rattle.slot_cache.specs.Cells.{cell_at, loaded_in, HasExactlyLoaded}
 use Rattle.thread_cache.specs.Threads as thread_rec
 use Rattle.thread_cache.specs.declared.ThreadRec.{ThreadRec}
 use Rattle.board_core.specs.desc_stores.specs.declared.items.Item.TheVariants as item
 use Rattle.board_core.specs.desc_stores.specs.Contents.{content_of, resident_of, residents_of}
 use Rattle.board_core.specs.desc_stores.specs.Sound.{IsExactlyOne}
+use Rattle.board_core.specs.desc_stores.proofs.PutLemmas.{loaded_content}
 use Rattle.board_core.specs.shown_state.specs.Found.{AreFound}
 use Rattle.board_core.specs.shown_state.specs.Shown.{flat_thread, shown, thread_of}
-use Rattle.board_core.specs.shown_state.proofs.ContentLemmas.{item_has_name}
-use Rattle.board_core.specs.store_residents.specs.Slots.{resident_at, HasSlots}
-use Rattle.board_core.specs.store_residents.proofs.ResidentLemmas.{resident_seat}
+use Rattle.board_core.specs.store_residents.specs.Slots.{resident_at}
+use Rattle.board_core.specs.store_residents.proofs.ResidentLemmas.{resident_kind, resident_seat, seat_resident}
 use Rattle.board_core.specs.thread_sets.specs.SetsOf.{takes_steps}
 use Rattle.ready_queue.specs.declared.Candidate.{Candidate}
 use Rattle.ready_queue.specs.Choice.{is_before}
-use Rattle.board_core.specs.board_ops.specs.declared.refusals.Refused.{Refused}
 use Rattle.board_core.specs.cached_machine.specs.Cached.{state_of, Cached}
-use Rattle.board_core.specs.cached_machine.specs.Posts.{last_in, last_of, mark_of}
-use Rattle.board_core.specs.cached_machine.proofs.LoadedLaws.{alone_in_slot}
+use Rattle.board_core.specs.cached_machine.specs.Posts.{last_in, mark_in}
 use Rattle.board_core.specs.Core.{contents_of, Recorded}
-use Rattle.board_threads.specs.Tests.{goes_on, passes}
-use Rattle.board_threads.specs.Waiting.{IsChosenOf, IsFirstThat, IsFree, IsFreeIn, IsWaiting}
-use Rattle.board_core.specs.Refusals.{not_waiting}
 use Rattle.board_core.proofs.CheckLaws.{ready_is}
-use Rattle.board_threads.proofs.FaultLemmas.{waiting_passes, waits_free, waits_ready}
-use Rattle.board_threads.proofs.IdentLemmas.{named_so, thread_kind}
+use Rattle.board_threads.specs.Tests.{goes_on, passes}
+use Rattle.board_threads.specs.Waiting.{candidate_of, is_free, IsChosenOf, IsEarlier, IsFirstAmong, IsFirstFree, IsFirstThat, IsFree, IsFreeAmong, IsWaiting}
 
 -- ---- the order of choice
 
@@ -64,6 +61,10 @@ choice_ranks = record {
 pub not_before_itself : (c : Candidate) → is_before c c ≡ false
 not_before_itself c = grind (arith, nat_tests)
 
+-- these are the free ones among those
+abbrev pub AreThose : List (Loaded ThreadRec) → List Candidate → Type 0
+AreThose list waiting = (c : Candidate) → Contains waiting c ↔ IsFreeAmong list c
+
 -- ---- one loaded thread
 
 module _ (b : Recorded) (one : IsExactlyOne (contents_of b)) (found : AreFound (state_of b.machine) (contents_of b)) where
@@ -72,6 +73,7 @@ module _ (b : Recorded) (one : IsExactlyOne (contents_of b)) (found : AreFound (
     its = resident_of thread_rec.name_of l
 
     is_resident : Contains (residents_of (contents_of b)) its
+    unfolding its
     is_resident = seat_resident (contents_of b) one.sound kind.Thread l.ident.slot its (ap (option_map (resident_of thread_rec.name_of)) there)
 
     its_content : content_of (contents_of b) (name.Thread l.value.no) ≡ Some (item.Thread l.value)
@@ -79,6 +81,7 @@ module _ (b : Recorded) (one : IsExactlyOne (contents_of b)) (found : AreFound (
 
     -- if it is free, it is so on the board
     pub free_there : is_free l.value ≡ true → IsFree takes_steps b (candidate_of l.value)
+    unfolding its
     free_there free = record {
       thread = flat_thread l.value;
       there = found.threads l.value.no.0 ∙ ap thread_of its_content;
@@ -137,15 +140,17 @@ module _ (b : Recorded) (one : IsExactlyOne (contents_of b)) (found : AreFound (
     λ free. let here = free_here c free in record { loaded = here.0; there = (exact here.0).1 here.1; free = here.2; its = here.3 },
   )
 
+  pub free_among_all : (list : List (Loaded ThreadRec)) → HasExactlyLoaded (contents_of b).threads.cells list → (waiting : List Candidate) → AreThose list waiting → (c : Candidate) → Contains waiting c ↔ IsFree takes_steps b c
+  free_among_all list exact waiting those c = (
+    λ there. (free_iff list exact c).0 ((those c).0 there),
+    λ free. (those c).1 ((free_iff list exact c).1 free),
+  )
+
   pub first_of_all : (list : List (Loaded ThreadRec)) → HasExactlyLoaded (contents_of b).threads.cells list → (first : Option Candidate) → IsFirstAmong list first → IsFirstFree b first
   first_of_all list exact None none = λ c free. none c ((free_iff list exact c).1 free)
   first_of_all list exact (Some first) is = ((free_iff list exact first).0 is.0, λ c free. is.1 c ((free_iff list exact c).1 free))
 
 -- ---- one after another
-
--- these are the free ones among those
-abbrev pub AreThose : List (Loaded ThreadRec) → List Candidate → Type 0
-AreThose list waiting = (c : Candidate) → Contains waiting c ↔ IsFreeAmong list c
 
 module _ (list : List (Loaded ThreadRec)) (l : Loaded ThreadRec) where
   longer : (c : Candidate) → IsFreeAmong list c → IsFreeAmong (list ++ l ∷ []) c
@@ -277,6 +282,13 @@ module _ (b : Recorded) where
 
   waits_if : (c : Candidate) → IsFree takes_steps b c → goes_on b c.no.0 ≡ true → IsWaiting b c
   waits_if c f goes = record { thread = f.thread; there = f.there; passes = sym (ap (passes (is_runnable (state_of b.machine))) f.there) ∙ goes; loaded = f.loaded; free = f.free; priority = f.priority; last = f.last }
+
+  pub nobody_free : ((c : Candidate) → IsFree takes_steps b c → ⊥) → (c : Candidate) → IsWaiting b c → ⊥
+  nobody_free none c w = none c (free_if c w)
+
+  -- the first of all free ones is chosen, if it is runnable
+  pub first_is_chosen : (first : Candidate) → IsFirstFree b (Some first) → goes_on b first.no.0 ≡ true → IsChosenOf b first.no
+  first_is_chosen first is goes = record { candidate = first; named = refl; waits = waits_if first is.0 goes; first = λ other w. is.1 other (free_if other w) }
 
   module _ (found sorted : List Candidate) (all : (c : Candidate) → Contains found c ↔ IsFree takes_steps b c) (moved : IsPermutation found sorted) where
     to_sorted : (c : Candidate) → IsWaiting b c → Contains sorted c

@@ -1,6 +1,4 @@
 use Rattle.std.proofs.Common.{◌≤◌, length, map}
-use Rattle.slot_cache.specs.declared.loaded.Loaded.{Loaded}
-use Rattle.thread_cache.specs.declared.ThreadRec.{ThreadRec}
 use Rattle.board_threads.proofs.CandidateLemmas.{AreThose}
 use Rattle.board_threads.proofs.checkouts.candidates.Given as goal
 
