@@ -37,14 +37,14 @@ use Rattle.board_core.specs.cached_machine.specs.Cached.{state_of}
 use Rattle.board_core.specs.Core.{contents_of, Recorded}
 use Rattle.board_core.specs.Growth.{count_loaded, GrowsBy, KeepsPlaces, OnlyMakesRoom}
 use Rattle.board_core.proofs.GrowthLaws.{grows_more, same_marks_more}
-use Rattle.board_core.proofs.RoomLaws.{rooms_more}
+use Rattle.board_core.proofs.RoomLaws.{rooms_more, same_seen}
 use Rattle.board_checks.proofs.IdentifierLemmas.{item_resident}
 use Rattle.board_calls.specs.Calls.{IsCompletion}
 use Rattle.board_calls.specs.Departures.{AreDepartures, HaveLeft, LeaveInTurn}
 use Rattle.board_calls.specs.Leaving.{AreBad}
 use Rattle.board_calls.proofs.GroupLaws.{all_left, left_good, AreLeft}
 use Rattle.board_calls.proofs.RowLaws.{seen_same}
-use Rattle.board_calls.proofs.TurnLaws.{departures_since, room_departures}
+use Rattle.board_calls.proofs.TurnLaws.{departures_since}
 
 -- ---- the thread
 
@@ -89,7 +89,7 @@ module _ (cpu : ℕ) (a b d : Recorded) (idents : List Ident) (whole : IsWhole (
   pub turns : LeaveInTurn (seen c) cpu idents rs left.entries (residents_of (contents_of d))
   turns =
       subst (λ (xs : List Resident). LeaveInTurn (seen c) cpu idents xs left.entries (residents_of (contents_of d))) made.only.loaded.residents
-      (subst (λ (s : FlatState). LeaveInTurn s cpu idents (residents_of (contents_of b)) left.entries (residents_of (contents_of d))) (room_departures a b made).shows left.turns)
+      (subst (λ (s : FlatState). LeaveInTurn s cpu idents (residents_of (contents_of b)) left.entries (residents_of (contents_of d))) (same_seen a b made) left.turns)
 
   -- there is room for an entry more
   pub room_left : count_loaded a + 1 ≤ b.journal.spare → 1 ≤ d.journal.spare

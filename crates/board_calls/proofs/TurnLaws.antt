@@ -10,6 +10,7 @@ use Rattle.cache_ident.specs.Residents.{Resident, IsIdentResident}
 use Rattle.flat_state.specs.Events.{after_events}
 use Rattle.flat_state.specs.State.{FlatState}
 use Rattle.run_journal.specs.declared.entries.Entry.{Entry}
+use Rattle.board_core.specs.desc_stores.specs.Changes.{room_of}
 use Rattle.board_core.specs.desc_stores.specs.Contents.{residents_of, Contents}
 use Rattle.board_core.specs.group_laws.specs.Leaving.{without_all}
 use Rattle.board_core.specs.group_laws.proofs.Remaining.{without_all_cases}
@@ -19,12 +20,12 @@ use Rattle.board_core.specs.desc_groups.specs.Whole.{IsWhole}
 use Rattle.board_core.specs.desc_parents.specs.Seen.{seen}
 use Rattle.board_core.specs.board_laws.specs.Moves.{written_back, IsUnload}
 use Rattle.board_core.specs.cached_machine.specs.Cached.{is_loaded, state_of}
-use Rattle.board_core.specs.cached_machine.specs.Posts.{mark_of, HasLoadedMarks}
+use Rattle.board_core.specs.cached_machine.specs.Posts.{mark_of, HasLoadedMarks, OnlyLoadedAreOut}
 use Rattle.board_core.specs.cached_machine.proofs.LoadedLaws.{was_loaded, ComesFrom}
 use Rattle.board_core.specs.Core.{contents_of, Recorded}
 use Rattle.board_core.specs.Growth.{GrowsBy, OnlyMakesRoom}
 use Rattle.board_core.proofs.GrowthLaws.{erase_back, grows_more, loaded_itself}
-use Rattle.board_core.proofs.RoomLaws.{grows_nothing, loaded_marks_still, same_checkouts, same_sealed, same_seen}
+use Rattle.board_core.proofs.RoomLaws.{grows_before, loaded_marks_before, same_checkouts, same_count, same_sealed, same_seen}
 use Rattle.board_core.proofs.UnkeptLaws.{group_counts}
 use Rattle.board_calls.specs.Departures.{AreDepartures, HasLeftIf, HaveLeft, KeepsRoom, LeaveInTurn, LeavesIfThere}
 
@@ -74,13 +75,13 @@ departures_more es more a b c comes first second = record {
   checkouts = second.checkouts ∙ first.checkouts;
 }
 
-no_departures : (b : Recorded) → AreDepartures [] b b
-no_departures b = record {
+no_departures : (b : Recorded) → OnlyLoadedAreOut (contents_of b) → AreDepartures [] b b
+no_departures b out = record {
   grows = record { entries = sym (append-nil b.journal.entries); state = refl; limit = refl; machine = refl; caps = refl; spare = omega arith };
   state = refl;
   shows = refl;
   fewer = omega arith;
-  marks = loaded_itself (contents_of b);
+  marks = loaded_itself (contents_of b) out;
   sealed = refl;
   checkouts = refl;
 }
@@ -89,15 +90,15 @@ same_room : (b : Recorded) → KeepsRoom b b
 same_room b = record { room = refl; sets = refl }
 
 -- nothing left
-pub none_left : (cpu : ℕ) (b : Recorded) → HaveLeft cpu [] b b
-none_left cpu b = record { entries = []; turns = (refl, refl); are = no_departures b; room = same_room b }
+pub none_left : (cpu : ℕ) (b : Recorded) → OnlyLoadedAreOut (contents_of b) → HaveLeft cpu [] b b
+none_left cpu b out = record { entries = []; turns = (refl, refl); are = no_departures b out; room = same_room b }
 
 -- it was gone already
-pub gone_already : (cpu : ℕ) (ident : Ident) (b : Recorded) → (IsIdentResident (residents_of (contents_of b)) ident → ⊥) → HasLeftIf cpu ident b b
-gone_already cpu ident b absent = record {
+pub gone_already : (cpu : ℕ) (ident : Ident) (b : Recorded) → OnlyLoadedAreOut (contents_of b) → (IsIdentResident (residents_of (contents_of b)) ident → ⊥) → HasLeftIf cpu ident b b
+gone_already cpu ident b out absent = record {
   entries = [];
   turn = inl (record { absent = absent; nothing = refl; same = refl });
-  are = no_departures b;
+  are = no_departures b out;
   room = same_room b;
 }
 
@@ -110,8 +111,8 @@ count_all (r ∷ rest) =
 
 -- it left, with its group
 pub left_now : (cpu : ℕ) (ident : Ident) (a b : Recorded) (gone : List Gone) (at : ℕ) → IsWhole (contents_of a) → IsIdentResident (residents_of (contents_of a)) ident → GrowsBy (written_back cpu gone) a b → IsUnload (contents_of a) (contents_of b) ident at gone → HasLoadedMarks (contents_of a) (contents_of b)
-    → b.sealed ≡ a.sealed → b.checkouts ≡ a.checkouts → b.machine.sets ≡ a.machine.sets → HasLeftIf cpu ident a b
-left_now cpu ident a b gone at whole r grows unload marks sealed checkouts sets =
+    → b.sealed ≡ a.sealed → b.checkouts ≡ a.checkouts → room_of (contents_of b) ≡ room_of (contents_of a) → b.machine.sets ≡ a.machine.sets → HasLeftIf cpu ident a b
+left_now cpu ident a b gone at whole r grows unload marks sealed checkouts room sets =
     let c = contents_of a in
     let one = whole.2.one in
     let group = unload.group r.0 r.1 r.2 in
@@ -134,13 +135,13 @@ left_now cpu ident a b gone at whole r grows unload marks sealed checkouts sets 
       are = record {
         grows = grows;
         state = grows.state ∙ ap (after_events (state_of a.machine)) (erase_back cpu gone);
-        shows = unload.contents.shows None [];
+        shows = unload.shows None [];
         fewer = omega arith;
         marks = marks;
         sealed = sealed;
         checkouts = checkouts;
       };
-      room = record { room = unload.contents.room; sets = sets };
+      room = record { room = room; sets = sets };
     }
 
 -- one after the others
@@ -155,22 +156,17 @@ one_more_left cpu xs y a b c before one =
       room = record { room = one.room.room ∙ before.room.room; sets = one.room.sets ∙ before.room.sets };
     }
 
--- ---- where only room was made
+-- ---- departures behind room that was made
 
-pub room_departures : (a b : Recorded) → OnlyMakesRoom a b → AreDepartures [] a b
-room_departures a b more = record {
-  grows = grows_nothing a b more;
-  state = more.only.state;
-  shows = same_seen a b more;
-  fewer = let same = ap (λ (rs : List Resident). length rs) more.only.loaded.residents in omega arith;
-  marks = loaded_marks_still a b more;
-  sealed = same_sealed a b more;
-  checkouts = same_checkouts a b more;
-}
-
--- departures behind that
 pub departures_since : (cpu : ℕ) (idents : List Ident) (a b c : Recorded) → OnlyMakesRoom a b → (left : HaveLeft cpu idents b c) → AreDepartures left.entries a c
 departures_since cpu idents a b c made left =
-    departures_more [] left.entries a b c
-    (comes (residents_of (contents_of b)) (residents_of (contents_of c)) (turns_were (seen (contents_of b)) cpu idents (residents_of (contents_of b)) left.entries (residents_of (contents_of c)) left.turns))
-    (room_departures a b made) left.are
+    let are = left.are in
+    record {
+      grows = grows_before a b made left.entries c are.grows;
+      state = are.state ∙ made.only.state;
+      shows = are.shows ∙ same_seen a b made;
+      fewer = let fewer = are.fewer in let same = same_count a b made in omega arith;
+      marks = loaded_marks_before a b made (contents_of c) are.marks;
+      sealed = are.sealed ∙ same_sealed a b made;
+      checkouts = are.checkouts ∙ same_checkouts a b made;
+    }

@@ -8,6 +8,7 @@ ghost use Rattle.board_core.specs.board_ops.specs.declared.refusals.Refused.TheV
 ghost use Rattle.board_core.specs.desc_stores.specs.Contents.{residents_of};
 ghost use Rattle.board_core.specs.desc_groups.specs.Whole.{IsWhole};
 ghost use Rattle.board_core.specs.cached_machine.specs.Cached.{state_of};
+ghost use Rattle.board_core.specs.cached_machine.specs.Posts.{OnlyLoadedAreOut};
 ghost use Rattle.board_checks.specs.Refusals.{refusal_of_complete};
 ghost use Rattle.board_core.specs.Answers.{IsRefused};
 ghost use Rattle.board_core.specs.Core.{contents_of};
@@ -79,6 +80,7 @@ fn unload_each(core: &mut Core, cpu: u32, idents: &[Ident])
     ensures left { HaveLeft cpu idents.now core.old core.new }
     ensures none { idents.now ≡ [] → core.new ≡ core.old }
 {
+    known(core);
     for ident in idents {
         unload_loaded(core, cpu, *ident);
     }
@@ -104,6 +106,7 @@ fn known(core: &Core)
     ensures formed { IsWellFormed (state_of core.now.machine) }
     ensures good { AreGood (state_of core.now.machine) (residents_of (contents_of core.now)) }
     ensures sealed { 0 < count_loaded core.now → core.now.sealed ≡ true }
+    ensures out { OnlyLoadedAreOut (contents_of core.now) }
 {
     core.holds();
     core.machine().holds();

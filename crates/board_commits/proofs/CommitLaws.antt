@@ -1,6 +1,6 @@
 -- Where no test fails, the steps of a quantum may happen.
 use Rattle.std.proofs.Common.{◌≡◌, ℕ, Bool, true, false, List, Contains, Option, Some, None, find, slice_get, refl, sym, ◌∙◌, ap, subst, arith}
-use Rattle.std.specs.Prelude.{◌-◌, ◌==◌, ◌&&◌, bytes_eq, is_some, not}
+use Rattle.std.specs.Prelude.{◌==◌, ◌&&◌, bytes_eq, is_some, not}
 use Rattle.std.specs.Option.{option_and_then, option_eq}
 use Rattle.std.proofs.lemmas.Bool.{and_parts, eqb-true}
 use Rattle.std.proofs.lemmas.Option.{same_Some}
@@ -102,7 +102,7 @@ module _ (b : Recorded) (sound : IsSound b) (one : IsExactlyOne (contents_of b))
 
     could_run : (t : FlatThread) → slice_get (state_of b.machine).threads found.no.0 ≡ Some t → CouldRun (state_of b.machine) t a
     could_run t is = record {
-      ready = (sound.marks found.no ticket.cpu (mark_is (contents_of b) ticket.thread found named content ∙ on_is found.on_cpu ticket.cpu placed.0)).ready t is;
+      ready = (sound.marks found.no ticket.cpu (mark_is (contents_of b) found content ∙ on_is found.on_cpu ticket.cpu placed.0)).ready t is;
       context = ap (λ (x : FlatThread). x.context) (same_Some t (flat_thread found) (sym is ∙ there_now)) ∙ context_is found.context a.first placed.1;
       views = λ v touched.
           let both = Contains-filter (λ (x : View). x.touched) a.views v touched in

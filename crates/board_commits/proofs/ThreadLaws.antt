@@ -97,17 +97,15 @@ pub thread_there : (b : Recorded) → IsExactlyOne (contents_of b) → (found : 
 thread_there b one found is = found_thread (Some b.machine.machine) b.machine.memory (contents_of b) one found.no.0 ∙ ap thread_of is
 
 -- and its processor is the one that it names
-pub mark_is : (c : Contents) (ident : Ident) (found : ThreadRec) → IsResident (residents_of c) ident (name.Thread found.no) → content_of c (name.Thread found.no) ≡ Some (item.Thread found) → mark_of c found.no ≡ found.on_cpu
-mark_is c ident found r is =
-    ap (λ (b : Bool). if b then mark_in (content_of c (name.Thread found.no)) else None) (loads (residents_of c) (name.Thread found.no) r.0 r.1 r.3)
-    ∙ ap mark_in is
+pub mark_is : (c : Contents) (found : ThreadRec) → content_of c (name.Thread found.no) ≡ Some (item.Thread found) → mark_of c found.no ≡ found.on_cpu
+mark_is c found is = ap mark_in is
 
 -- so it has moved where that is another one
 pub moved_is : (c : Contents) (ident : Ident) (found : ThreadRec) (cpu : ℕ) (first : Context) → IsResident (residents_of c) ident (name.Thread found.no) → content_of c (name.Thread found.no) ≡ Some (item.Thread found) → thread_as c ident ≡ Some (flat_thread found)
     → moved_from found.on_cpu cpu first found.context ≡ option_and_then (moved c cpu first) (thread_as c ident)
 unfolding moved
 moved_is c ident found cpu first r is shows =
-    ap (λ (on : Option ℕ). moved_from on cpu first found.context) (sym (mark_is c ident found r is))
+    ap (λ (on : Option ℕ). moved_from on cpu first found.context) (sym (mark_is c found is))
     ∙ ap (option_and_then (moved c cpu first)) (sym shows)
 
 -- ---- why a page isn't copied

@@ -7,6 +7,7 @@ ghost use Rattle.cache_ident.specs.Rolls.{standing_in};
 ghost use Rattle.run_journal.specs.Legal.{first_ident};
 ghost use Rattle.run_journal.specs.declared.entries.Entry.TheVariants.{Loaded, Locked, Unlocked};
 ghost use Rattle.cached_machine.specs.desc_groups.specs.Moves.{MayBeLocked};
+ghost use Rattle.cached_machine.specs.desc_stores.specs.Changes.{room_of};
 ghost use Rattle.cached_machine.specs.desc_stores.specs.Contents.{LockIs};
 ghost use Rattle.cached_machine.specs.desc_admits.specs.May.{MayBeLoaded};
 ghost use Rattle.cached_machine.specs.board_laws.specs.Moves.{written_back, IsLoad, IsLock, IsUnload};
@@ -56,6 +57,7 @@ impl Core {
         ensures sealed { self.new.sealed ≡ self.old.sealed }
         ensures checkouts { self.new.checkouts ≡ self.old.checkouts }
         ensures issues { (contents_of self.new).spare ≡ (contents_of self.old).spare }
+        ensures room { room_of (contents_of self.new) ≡ room_of (contents_of self.old) }
         ensures sets { self.new.machine.sets ≡ self.old.machine.sets }
     {
         known(&self.machine);

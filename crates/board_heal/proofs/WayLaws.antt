@@ -19,11 +19,12 @@ use Rattle.run_journal.specs.declared.entries.Entry.{Entry}
 use Rattle.run_journal.specs.declared.entries.Entry.TheVariants.{Loaded}
 use Rattle.run_journal.specs.Entries.{erase}
 use Rattle.run_journal.proofs.Growth.{erase-append}
-use Rattle.board_core.specs.desc_stores.specs.Contents.{content_of, residents_of, Contents}
+use Rattle.board_core.specs.desc_stores.specs.Contents.{residents_of, Contents}
 use Rattle.board_core.specs.desc_groups.specs.declared.departures.Gone.{Gone}
 use Rattle.board_core.specs.board_laws.specs.Moves.{written_back}
 use Rattle.board_core.specs.cached_machine.specs.Cached.{is_loaded, state_of}
-use Rattle.board_core.specs.cached_machine.specs.Posts.{mark_in, mark_of, HasLoadedMarks}
+use Rattle.board_core.specs.cached_machine.specs.Posts.{mark_of, HasLoadedMarks, OnlyLoadedAreOut}
+use Rattle.board_core.specs.cached_machine.proofs.AlikeLaws.{same_loaded}
 use Rattle.board_core.specs.cached_machine.proofs.LoadedLaws.{loaded_by, loads, not_loaded}
 use Rattle.board_chains.specs.Lists.{AreApart}
 use Rattle.board_chains.proofs.ListLemmas.{apart_before}
@@ -94,8 +95,8 @@ length_load cpu gone ident name =
 -- ---- processors
 
 -- a thread that came since was on none
-pub marks_further : (old mid new : Contents) → HasLoadedMarks old mid → HasLoadedMarks mid new → ((whom : ThreadNo) → is_loaded new (Thread whom) ≡ true → is_loaded mid (Thread whom) ≡ false → is_loaded old (Thread whom) ≡ false) → HasLoadedMarks old new
-marks_further old mid new first second came = record {
+pub marks_further : (old mid new : Contents) → OnlyLoadedAreOut old → HasLoadedMarks old mid → HasLoadedMarks mid new → ((whom : ThreadNo) → is_loaded new (Thread whom) ≡ true → is_loaded mid (Thread whom) ≡ false → is_loaded old (Thread whom) ≡ false) → HasLoadedMarks old new
+marks_further old mid new out first second came = record {
   marks = λ whom. second.marks whom ∙ by whom (is_loaded new (Thread whom)) (is_loaded mid (Thread whom)) refl refl;
   lasts = λ whom. second.lasts whom ∙ first.lasts whom;
 }
@@ -104,11 +105,15 @@ marks_further old mid new first second came = record {
     by whom false was is_now is_was = refl
     by whom true true is_now is_was = first.marks whom ∙ ap (λ (b : Bool). if b then mark_of old whom else None) is_was
     by whom true false is_now is_was =
-        first.marks whom ∙ ap (λ (b : Bool). if b then mark_of old whom else None) is_was ∙ sym (ap (λ (b : Bool). if b then mark_in (content_of old (Thread whom)) else None) (came whom is_now is_was))
+        first.marks whom ∙ ap (λ (b : Bool). if b then mark_of old whom else None) is_was ∙ sym (out whom (came whom is_now is_was))
 
 -- ---- at the beginning
 
-module _ (cpu : ℕ) (chain : List Name) (old mid : Recorded) (room : OnlyMakesRoom old mid) where
+-- who isn't loaded was on no processor before the room was made either
+pub out_before : (old mid : Recorded) → OnlyMakesRoom old mid → OnlyLoadedAreOut (contents_of mid) → OnlyLoadedAreOut (contents_of old)
+out_before old mid room out whom absent = sym (room.only.marks.marks whom) ∙ out whom (same_loaded (contents_of old) (contents_of mid) (same_residents old mid room) (Thread whom) ∙ absent)
+
+module _ (cpu : ℕ) (chain : List Name) (old mid : Recorded) (room : OnlyMakesRoom old mid) (out : OnlyLoadedAreOut (contents_of old)) where
   pub none_yet : count_others mid chain + length chain + 1 ≤ mid.journal.spare → length chain ≤ (contents_of mid).spare → AreLoadedTo cpu chain 0 old mid
   none_yet fits issues = record {
     begun = mid;
@@ -122,14 +127,14 @@ module _ (cpu : ℕ) (chain : List Name) (old mid : Recorded) (room : OnlyMakesR
     only = λ r there. inl (subst (λ (rs : List Resident). Contains rs r) (same_residents old mid room) there);
     room = omega (arith, fits);
     issues = omega (arith, issues);
-    marks = loaded_marks_still old mid room;
+    marks = loaded_marks_still old mid room out;
     sealed = ap (λ (b : Recorded). b.sealed) room.rest;
     checkouts = ap (λ (b : Recorded). b.checkouts) room.rest;
   }
 
 -- ---- one name further
 
-module _ (cpu : ℕ) (chain : List Name) (old mid new : Recorded) (i : ℕ) (name : Name) (at : slice_get chain i ≡ Some name) (apart : AreApart chain) (way : AreLoadedTo cpu chain i old mid) where
+module _ (cpu : ℕ) (chain : List Name) (old mid new : Recorded) (i : ℕ) (name : Name) (at : slice_get chain i ≡ Some name) (apart : AreApart chain) (way : AreLoadedTo cpu chain i old mid) (out : OnlyLoadedAreOut (contents_of old)) where
   abbrev first : List Name
   first = take i chain
 
@@ -234,7 +239,7 @@ module _ (cpu : ℕ) (chain : List Name) (old mid new : Recorded) (i : ℕ) (nam
         let long = length_load cpu load.gone load.ident name in
         omega arith;
     issues = let fits = way.issues in let one = load.issues in omega arith;
-    marks = marks_further (contents_of old) (contents_of mid) (contents_of new) way.marks load.marks (λ whom now was.
+    marks = marks_further (contents_of old) (contents_of mid) (contents_of new) out way.marks load.marks (λ whom now was.
         let found = there_so (contents_of new) (Thread whom) now in
         elim (load.only found.0 found.1) [
           | inl before ↦ absurd (false≢true (sym was ∙ is_there (contents_of mid) (Thread whom) (found.0, before, found.2)))

@@ -11,7 +11,7 @@ abbrev no_ident : Ident
 no_ident = record { kind = kind.Kernel; slot = 0; serial = 0 }
 
 pub loop-ident-init : goal.loop-ident-init
-loop-ident-init c = record { left = none_left c.args.cpu c.args.core.now; none = λ e. refl }
+loop-ident-init c = record { left = none_left c.args.cpu c.args.core.now c.known.ensures.out; none = λ e. refl }
 
 pub loop-ident-preserved : goal.loop-ident-preserved
 loop-ident-preserved c =

@@ -9,7 +9,7 @@ use Rattle.flat_state.specs.State.{FlatState}
 use Rattle.board_core.specs.cached_machine.specs.Cached.{state_of, Cached}
 use Rattle.board_core.specs.Core.{contents_of}
 use Rattle.board_heal.proofs.HealLaws.{can_heal, chain_so, formed_so, healed, here_still, may_come, may_step, room_for_all, some_next, steps_still, thread_loaded, unmarked_still}
-use Rattle.board_heal.proofs.WayLaws.{none_yet, one_further}
+use Rattle.board_heal.proofs.WayLaws.{none_yet, one_further, out_before}
 use Rattle.board_heal.proofs.healing.heal_step.Goals as goal
 
 pub known_step-next-requires : goal.known_step-next-requires
@@ -43,7 +43,7 @@ loop-name-init c =
     let spare = ok.0 in
     let entries = ok.1 in
     let short = c.as_slice-names.ensures.fits in
-    record { way = none_yet c.args.cpu names old mid room (room_for_all old mid whom room can names (omega (arith, short)) (omega (arith, entries))) (omega (arith, short, spare)) }
+    record { way = none_yet c.args.cpu names old mid room (out_before old mid room c.machine_of.ensures.known.out) (room_for_all old mid whom room can names (omega (arith, short)) (omega (arith, entries))) (omega (arith, short, spare)) }
 
 pub load_missing-requires-clause-next : goal.load_missing-requires-clause-next
 load_missing-requires-clause-next c =
@@ -92,7 +92,7 @@ loop-name-preserved c =
     let loop = c.loop-name in
     let way = loop.invariant.way in
     let name : Name = get_or names loop.name-index first_name in
-    record { way = one_further c.args.cpu names old loop.core c.load_missing.new.core loop.name-index name (slice_get-get_or names loop.name-index first_name c.loop-name-test.true) chain.once way c.load_missing.ensures }
+    record { way = one_further c.args.cpu names old loop.core c.load_missing.new.core loop.name-index name (slice_get-get_or names loop.name-index first_name c.loop-name-test.true) chain.once way (out_before old mid room c.machine_of.ensures.known.out) c.load_missing.ensures }
 
 pub step-requires : goal.step-requires
 step-requires c =
