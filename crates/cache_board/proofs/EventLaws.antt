@@ -3,6 +3,7 @@ use Rattle.std.proofs.Common.{◌≡◌, ℕ, zero, suc, Bool, true, false, List
 use Rattle.std.specs.Prelude.{IfErr, IfNone, IfOk, IfSome, OnOk}
 use Rattle.std.proofs.lemmas.List.{map-append}
 use Rattle.cache_ident.specs.declared.idents.Ident.{Ident}
+use Rattle.cache_ident.specs.declared.names.Caps.{Caps}
 use Rattle.cache_ident.specs.declared.names.Name.{Name}
 use Rattle.cache_ident.specs.declared.names.Name.TheVariants.{Mapping}
 use Rattle.cache_ident.specs.declared.names.SpaceNo.{SpaceNo}
@@ -19,6 +20,7 @@ use Rattle.run_journal.specs.Legal.{first_ident}
 use Rattle.turn_lock.specs.Lists.{AllMadeBy, IsContinuedBy}
 use Rattle.turn_lock.proofs.Lists.{all_append}
 use Rattle.board_commits.specs.board_ops.specs.declared.refusals.Refused.{Refused}
+use Rattle.board_commits.specs.board_core.specs.desc_stores.specs.Contents.{Contents}
 use Rattle.board_commits.specs.board_core.specs.desc_groups.specs.declared.departures.Gone.{Gone}
 use Rattle.board_commits.specs.board_core.specs.desc_groups.specs.Moves.{gone_as}
 use Rattle.board_commits.specs.desc_tables.specs.Tables.{Held}
@@ -67,11 +69,11 @@ step_by : (whom : ThreadNo) (faults : Bool) (cpu : ℕ) → AreBy cpu (entry_of_
 step_by whom true cpu = (refl, tt)
 step_by whom false cpu = (refl, tt)
 
-loads_by : (cpu : ℕ) (names : List Name) (es : List Entry) → AreLoads cpu names es → AreBy cpu es
-loads_by cpu [] es are = rw are tt
-loads_by cpu (name ∷ names) es (gone, ident, rest, told, are) =
+loads_by : (cpu : ℕ) (caps : Caps) (chain names : List Name) (old : Contents) (at : ℕ) (new : Contents) (es : List Entry) → AreLoads cpu caps chain names old at new es → AreBy cpu es
+loads_by cpu caps chain [] old at new es (same, none) = rw none tt
+loads_by cpu caps chain (name ∷ names) old at new es (mid, gone, ident, rest, first, told, are) =
     rw told (more_by cpu (written_back cpu gone ++ Loaded ident name cpu ∷ []) rest
-    (more_by cpu (written_back cpu gone) (Loaded ident name cpu ∷ []) (departures_by cpu gone) (refl, tt)) (loads_by cpu names rest are))
+    (more_by cpu (written_back cpu gone) (Loaded ident name cpu ∷ []) (departures_by cpu gone) (refl, tt)) (loads_by cpu caps chain names mid _ new rest are))
 
 leaves_by : (s : FlatState) (cpu : ℕ) (ident : Ident) (rs : List Resident) (es : List Entry) (left : List Resident) → LeavesIfThere s cpu ident rs es left → AreBy cpu es
 leaves_by s cpu ident rs es left (inl gone) = rw gone.nothing tt
@@ -166,7 +168,7 @@ module _ (cpu : ℕ) (old mid new : Recorded) (same : mid ≡ old) (was : IsSoun
   pub heal_event : (result : Result (Unit {0}) Refused) (refusal : Option Refused) (whom : ThreadNo) → IfErr result (IsRefused refusal mid new) → OnOk result (IsHealed cpu whom mid new) → IsOneEvent cpu old new
   heal_event result refusal whom refused done =
       called result refusal (λ _. IsHealed cpu whom mid new) refused done (λ _ is.
-      by_entries (is.loads ++ entry_of_step whom is.next.faults cpu ∷ []) (more_by cpu is.loads (entry_of_step whom is.next.faults cpu ∷ []) (loads_by cpu _ is.loads is.are) (step_by whom is.next.faults cpu)) is.entries)
+      by_entries (is.loads ++ entry_of_step whom is.next.faults cpu ∷ []) (more_by cpu is.loads (entry_of_step whom is.next.faults cpu ∷ []) (loads_by cpu _ is.chain _ _ _ is.loaded is.loads is.are) (step_by whom is.next.faults cpu)) is.entries)
 
   pub checkout_event : (result : Option Ticket) → IfNone result (new ≡ mid) → IfSome result (λ ticket. IsCheckedOut ticket.no cpu mid new) → IsOneEvent cpu old new
   checkout_event None nothing out = by_entries [] tt (nothing_grows mid new nothing)
