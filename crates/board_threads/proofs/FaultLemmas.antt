@@ -111,12 +111,6 @@ pub no_next : (s : FlatState) (n : ℕ) (t : FlatThread) → slice_get s.threads
 unfolding next_step
 no_next s n t there is = let same : None ≡ Some (next_step_of s t) = is ∙ ap (option_map (next_step_of s)) there in cc
 
--- a thread that is ready and on no processor isn't refused as one that isn't
-pub waiting_passes : (c : Contents) (t : FlatThread) → is_ready t.status ≡ true → mark_of c t.no ≡ None → not_waiting c t ≡ None
-unfolding not_waiting
-waiting_passes c t ready free =
-    ap₂ (λ (b : Bool) (o : Option ℕ). option_or (if b then None else Some (why.NotRunnable t.status)) (option_map why.OnCpu o)) ready free
-
 module _ (c : Contents) (t : FlatThread) (passes : None ≡ not_waiting c t) where
   both : (None ≡ not_ready t) × (None ≡ option_map why.OnCpu (mark_of c t.no))
   unfolding not_waiting
