@@ -19,8 +19,8 @@ ghost use Rattle.board_commits.specs.board_ops.specs.declared.refusals.Refused.T
 ghost use Rattle.board_commits.specs.board_core.specs.desc_stores.specs.Contents.{names_of};
 ghost use Rattle.board_commits.specs.desc_tables.specs.Tables.{AreSound};
 ghost use Rattle.board_commits.specs.shown_state.specs.Shown.{flat_thread};
-ghost use Rattle.board_commits.specs.cached_machine.specs.Cached.{state_of};
-ghost use Rattle.board_commits.specs.cached_machine.specs.Posts.{mark_of};
+ghost use Rattle.board_commits.specs.cached_machine.specs.Cached.{is_loaded, state_of};
+ghost use Rattle.board_commits.specs.cached_machine.specs.Posts.{last_of, mark_of};
 ghost use Rattle.board_commits.specs.board_checks.specs.Identifiers.{space_as};
 ghost use Rattle.board_commits.specs.board_checks.specs.Refusals.{refusal_of_complete, refusal_of_load_kernel, refusal_of_load_mapping, refusal_of_load_space, refusal_of_load_thread, refusal_of_lock, refusal_of_unload, refusal_of_unlock};
 ghost use Rattle.board_commits.specs.board_core.specs.Answers.{HasSpare, IsRefused};
@@ -98,7 +98,7 @@ impl Board {
     }
 
     /// Does nothing. A proof has from it what holds of every board: its journal is legal, and tells what the machine shows and
-    /// what is loaded; so each descriptor is in its cache or with its owner, never in both.
+    /// what is loaded; only loaded threads are on processors; and each descriptor is in its cache or with its owner, never in both.
     pub fn holds(&self)
         ensures sound { IsSound self.now }
         ensures tables { (pairs : List (Ident × Node)) × AreSound self.now.machine.held pairs }
@@ -457,11 +457,15 @@ impl Board {
         Box::into_inner(core).into_journal()
     }
 
-    /// The record of a thread, loaded or not, and none where there is none of that number.
+    /// The record of a thread, loaded or not, and none where there is none of that number. Its processor is the one that has it,
+    /// which none has of a thread that isn't loaded; its last checkout it has on the shelf too.
     pub fn flat_thread(&self, no: ThreadNo) -> Option<&ThreadRec>
-        ensures { option_map flat_thread (option_copied result) ≡ slice_get (state_of self.now.machine).threads no.0 }
+        ensures state { option_map flat_thread (option_copied result) ≡ slice_get (state_of self.now.machine).threads no.0 }
+        ensures post { IfSome result (λ t. (t.now.on_cpu ≡ mark_of (contents_of self.now) no) × (t.now.last ≡ last_of (contents_of self.now) no)) }
+        ensures unloaded { IfSome result (λ t. is_loaded (contents_of self.now) (Name.Thread no) ≡ false → t.now.on_cpu ≡ None) }
     {
-        self.core.machine().thread(no)
+        self.core.holds();
+        threads::record_of(&self.core, no)
     }
 
     /// The row of a page, loaded or not, and none where there is none.
