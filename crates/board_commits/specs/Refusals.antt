@@ -1,5 +1,5 @@
 -- Why a page isn't copied, and why steps don't happen: of the tests, in their order, the first that fails.
-use Rattle.std.specs.Prelude.{ℕ, ◌-◌, ◌==◌, ◌&&◌, Bool, not, if◌then◌else◌, nat_lt, is_some, find, List, Option, Some, None, bytes_eq}
+use Rattle.std.specs.Prelude.{ℕ, ◌==◌, ◌&&◌, Bool, not, if◌then◌else◌, is_some, find, List, Option, Some, None, bytes_eq}
 use Rattle.std.specs.Option.{option_and_then, option_eq, option_map, option_or}
 use Rattle.cache_ident.specs.declared.names.Name.TheVariants as name
 use Rattle.cache_ident.specs.declared.names.Vpn.{Vpn}
