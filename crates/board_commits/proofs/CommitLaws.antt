@@ -81,14 +81,14 @@ compared r xs ys one way =
 
 -- ---- the steps
 
-module _ (b : Recorded) (sound : IsSound b) (one : IsExactlyOne (contents_of b)) (ticket : Ticket) (a : Ahead) (are : AreOfTicket b.journal.entries ticket.thread a.views) (all_loaded : None ≡ not_loaded (contents_of b) a.views) where
+module _ (b : Recorded) (sound : IsSound b) (one : IsExactlyOne (contents_of b)) (ticket : Ticket) (a : Ahead) (are : AreOfTicket b.journal.entries ticket.thread a) (all_loaded : None ≡ not_loaded (contents_of b) a.views) where
   row_of_view : (v : View) → Contains a.views v → IsIdentResident (residents_of (contents_of b)) v.row
   row_of_view v there = resident_if (contents_of b) one v.row (each_there (contents_of b) a.views v all_loaded there)
 
   pub all_in_memory : AreInMemory b.machine.memory a.views
   all_in_memory v there =
       let r = row_of_view v there in
-      let of = are v there in
+      let of = are.views v there in
       in_memory_still b sound of.space v of.copied r.0 r.1 r.2
 
   module _ (found : ThreadRec) (named : IsResident (residents_of (contents_of b)) ticket.thread (name.Thread found.no)) (content : content_of (contents_of b) (name.Thread found.no) ≡ Some (item.Thread found))
@@ -107,7 +107,7 @@ module _ (b : Recorded) (sound : IsSound b) (one : IsExactlyOne (contents_of b))
       views = λ v touched.
           let both = Contains-filter (λ (x : View). x.touched) a.views v touched in
           let r = row_of_view v both.0 in
-          let of = are v both.0 in
+          let of = are.views v both.0 in
           subst (λ (s : SpaceNo). Shows (state_of b.machine) s v v.first) (sym (space_is b sound ticket.thread found.no named of.space of.of t is))
           (shows_still b sound of.space v of.copied r.0 r.1 r.2 v.first (unchanged b.machine.memory a.views v same both.0 both.1));
     }
@@ -116,7 +116,7 @@ module _ (b : Recorded) (sound : IsSound b) (one : IsExactlyOne (contents_of b))
     of_loaded t is v touched =
         let both = Contains-filter (λ (x : View). x.touched) a.views v touched in
         let r = row_of_view v both.0 in
-        let of = are v both.0 in
+        let of = are.views v both.0 in
         (r.0, r.1, named_still b sound of.space v of.copied r.0 r.1 r.2 ∙ ap (λ (s : SpaceNo). name.Mapping s v.vpn) (sym (space_is b sound ticket.thread found.no named of.space of.of t is)))
 
     pub may_happen : MayHappen b ticket a found.no

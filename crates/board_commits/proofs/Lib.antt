@@ -1,5 +1,6 @@
 pub mod FindLaws
 pub mod SinceLaws
+pub mod KeptLaws
 pub mod TicketLaws
 pub mod ThreadLaws
 pub mod PageLaws

@@ -1,5 +1,5 @@
 -- A page that is copied through a loaded row is of the ticket.
-use Rattle.std.proofs.Common.{◌≡◌, ℕ, List, [], ◌∷◌, ◌++◌, Contains, Some, None, refl, sym, ◌∙◌, ap, subst, inl, inr}
+use Rattle.std.proofs.Common.{◌≡◌, List, Contains, Some, None, refl, sym, ◌∙◌, ap, subst, inl, inr}
 use Rattle.std.proofs.lemmas.List.Elements.{Contains-push_cases}
 use Rattle.cache_ident.specs.declared.idents.Ident.{Ident}
 use Rattle.cache_ident.specs.declared.names.Name.TheVariants as name
@@ -19,8 +19,9 @@ use Rattle.board_threads.specs.board_checks.specs.Identifiers.{thread_as}
 use Rattle.board_threads.specs.cached_machine.specs.Cached.{state_of}
 use Rattle.board_threads.specs.board_core.specs.Core.{contents_of, IsSound, Recorded}
 use Rattle.board_threads.specs.declared.tickets.Ticket.{Ticket}
-use Rattle.board_commits.specs.Commits.{IsPaged}
-use Rattle.board_commits.specs.Tickets.{AreOfTicket, IsOfTicket}
+use Rattle.board_commits.specs.Commits.{HasPage, IsPaged}
+use Rattle.board_commits.specs.Tickets.{AreKept, AreOfTicket, IsOfTicket}
+use Rattle.board_commits.proofs.KeptLaws.{kept_more}
 use Rattle.board_commits.proofs.ThreadLaws.{thread_there}
 use Rattle.board_commits.proofs.TicketLaws.{copied_now, row_now, thread_now}
 
@@ -30,21 +31,21 @@ module _ (b : Recorded) (sound : IsSound b) (one : IsExactlyOne (contents_of b))
   pub row_there : None ≡ row_of (state_of b.machine).rows found.space vpn.0 → ⊥
   row_there none = let row = row_now b sound r.0 r.1 found.space vpn r.3 in let some : None ≡ Some row.0 = none ∙ row.1 in cc
 
-  module _ (row : Row) (at : Some row ≡ row_of (state_of b.machine).rows found.space vpn.0) (old new : Ahead) (bytes : List ℕ)
-      (fill : new ≡ record old { views = old.views ++ filled old.views vpn row.frame row.flags ident bytes ∷ [] }) where
-    pub paged : thread_as (contents_of b) ticket.thread ≡ Some (flat_thread found) → bytes ≡ page_at b.machine.memory row.frame → IsPaged b ticket vpn old new
-    paged shows page = record {
+  module _ (row : Row) (at : Some row ≡ row_of (state_of b.machine).rows found.space vpn.0) (old new : Ahead) (has : HasPage b vpn row.frame row.flags ident old new) where
+    pub paged : thread_as (contents_of b) ticket.thread ≡ Some (flat_thread found) → IsPaged b ticket vpn old new
+    paged shows = record {
       thread = flat_thread found;
       its = shows;
       ident = ident;
       loaded = r;
       row = row;
       there = sym at;
-      views = fill ∙ ap (λ (bytes : List ℕ). let x : Ahead = record old { views = old.views ++ filled old.views vpn row.frame row.flags ident bytes ∷ [] } in x) page;
+      place = has.place;
+      views = has.views;
     }
 
     abbrev view : View
-    view = filled old.views vpn row.frame row.flags ident bytes
+    view = filled old.views vpn row.frame row.flags ident (page_at b.machine.memory row.frame) (Some has.place)
 
     new_of_ticket : IsOfTicket b.journal.entries ticket.thread view
     new_of_ticket = record {
@@ -53,8 +54,14 @@ module _ (b : Recorded) (sound : IsSound b) (one : IsExactlyOne (contents_of b))
       copied = copied_now b sound ident found.space view r refl row (sym at) refl refl;
     }
 
-    pub all_of_ticket : AreOfTicket b.journal.entries ticket.thread old.views → AreOfTicket b.journal.entries ticket.thread new.views
-    all_of_ticket are v there = elim (Contains-push_cases old.views view v (subst (λ (vs : List View). Contains vs v) (ap (λ (a : Ahead). a.views) fill) there)) [
-      | inl before ↦ are v before
-      | inr now ↦ subst (IsOfTicket b.journal.entries ticket.thread) now new_of_ticket
-    ]
+    pub all_kept : AreKept b.journal.entries old → AreKept b.journal.entries new
+    all_kept kept = subst (AreKept b.journal.entries) (sym has.views) (kept_more b.journal.entries old view has.dated kept)
+
+    pub all_of_ticket : AreOfTicket b.journal.entries ticket.thread old → AreOfTicket b.journal.entries ticket.thread new
+    all_of_ticket are = record {
+      views = λ v there. elim (Contains-push_cases old.views view v (subst (λ (vs : List View). Contains vs v) (ap (λ (a : Ahead). a.views) has.views) there)) [
+        | inl before ↦ are.views v before
+        | inr now ↦ subst (IsOfTicket b.journal.entries ticket.thread) now new_of_ticket
+      ];
+      kept = all_kept are.kept;
+    }

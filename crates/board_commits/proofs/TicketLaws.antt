@@ -21,6 +21,7 @@ use Rattle.flat_state.specs.WellFormed.{IsWellFormed}
 use Rattle.flat_state.proofs.Finding.{find-contains}
 use Rattle.flat_state.proofs.Places.{get-append}
 use Rattle.page_views.specs.Views.{View}
+use Rattle.board_threads.specs.quantum.specs.Ahead.{Ahead}
 use Rattle.board_threads.specs.quantum.specs.LocalRun.{Shows}
 use Rattle.run_journal.specs.declared.entries.Entry.{Entry}
 use Rattle.run_journal.specs.declared.entries.Entry.TheVariants.{Loaded}
@@ -34,6 +35,7 @@ use Rattle.board_threads.specs.board_laws.proofs.Growing.{formed_told}
 use Rattle.board_threads.specs.cached_machine.specs.Cached.{state_of, Cached}
 use Rattle.board_threads.specs.board_core.specs.Core.{contents_of, IsSound, Recorded}
 use Rattle.board_commits.specs.Tickets.{state_at, AreOfTicket, IsCopiedIn, IsThreadIn}
+use Rattle.board_commits.proofs.KeptLaws.{kept_stays}
 use Rattle.board_commits.proofs.SinceLaws.{still_as_loaded, was_loaded, IsKept, IsSameRow, IsSameThread}
 
 pub memory_shown : (m : Cached) → (state_of m).memory ≡ m.memory
@@ -187,7 +189,10 @@ module _ (j es : List Entry) where
     flags = copied.flags;
   }
 
-  pub views_stay : (thread : Ident) (vs : List View) → AreOfTicket j thread vs → AreOfTicket (j ++ es) thread vs
-  views_stay thread vs are v there =
-      let of = are v there in
-      record { space = of.space; of = thread_stays thread of.space of.of; copied = copy_stays of.space v of.copied }
+  pub views_stay : (thread : Ident) (a : Ahead) → AreOfTicket j thread a → AreOfTicket (j ++ es) thread a
+  views_stay thread a are = record {
+    views = λ v there.
+        let of = are.views v there in
+        record { space = of.space; of = thread_stays thread of.space of.of; copied = copy_stays of.space v of.copied };
+    kept = kept_stays j es a are.kept;
+  }

@@ -1,17 +1,19 @@
 -- What a page that was copied leaves of a quantum, and what steps that happened leave of the board.
-use Rattle.std.specs.Prelude.{◌≡◌, ℕ, ◌+◌, ◌≤◌, true, [], ◌∷◌, ◌++◌, None, Some}
+use Rattle.std.specs.Prelude.{◌≡◌, ℕ, ◌+◌, ◌≤◌, true, None, Some}
 use Rattle.cache_ident.specs.declared.idents.Ident.{Ident}
 use Rattle.cache_ident.specs.declared.names.Name.TheVariants as name
 use Rattle.cache_ident.specs.declared.names.ThreadNo.{ThreadNo}
 use Rattle.cache_ident.specs.declared.names.Vpn.{Vpn}
+use Rattle.cache_ident.specs.declared.names.Frame.{Frame}
 use Rattle.cache_ident.specs.Residents.{IsResident}
+use Rattle.phys_groups.specs.declared.rows.Flags.{Flags}
 use Rattle.phys_groups.specs.declared.rows.Row.{Row}
 use Rattle.phys_groups.specs.Memory.{page_at}
 use Rattle.phys_groups.specs.Translation.{row_of}
 use Rattle.flat_state.specs.declared.records.FlatThread.{FlatThread}
 use Rattle.flat_rules.specs.Readings.{OfThread}
 use Rattle.page_views.specs.Views.{filled}
-use Rattle.board_threads.specs.quantum.specs.Ahead.{Ahead}
+use Rattle.board_threads.specs.quantum.specs.Ahead.{more_with, Ahead}
 use Rattle.board_threads.specs.quantum.specs.LocalRun.{touched_views, CouldRun}
 use Rattle.board_threads.specs.desc_stores.specs.Contents.{residents_of}
 use Rattle.board_threads.specs.board_laws.specs.Moves.{KeepsLoaded}
@@ -21,8 +23,16 @@ use Rattle.board_threads.specs.board_core.specs.Core.{contents_of, Recorded}
 use Rattle.board_threads.specs.board_core.specs.Growth.{entries_of_run, AreOfLoaded, GrowsBy}
 use Rattle.board_threads.specs.board_checks.specs.Identifiers.{thread_as}
 use Rattle.board_threads.specs.declared.tickets.Ticket.{Ticket}
+use Rattle.board_commits.specs.Tickets.{IsDated}
 
--- the quantum has one view more, which is a copy of the loaded row of the page in the space of the ticket's thread
+-- the quantum has one view more, of the bytes that the frame has, with a place of the journal as of which it has them
+pub record HasPage (b : Recorded) (vpn : Vpn) (frame : Frame) (flags : Flags) (row : Ident) (old new : Ahead) : Type 0 where
+  pub place : ℕ
+  pub dated : IsDated b.journal.entries (record { frame = frame; bytes = page_at b.machine.memory frame; place = place })
+  pub views : new ≡ more_with (filled old.views vpn frame flags row (page_at b.machine.memory frame) (Some place)) old
+
+-- The quantum has one view more, which is a copy of the loaded row of the page in the space of the ticket's thread. It carries a
+-- place of the journal.
 pub record IsPaged (b : Recorded) (ticket : Ticket) (vpn : Vpn) (old new : Ahead) : Type 0 where
   pub thread : FlatThread
   pub its : thread_as (contents_of b) ticket.thread ≡ Some thread
@@ -30,7 +40,8 @@ pub record IsPaged (b : Recorded) (ticket : Ticket) (vpn : Vpn) (old new : Ahead
   pub loaded : IsResident (residents_of (contents_of b)) ident (name.Mapping thread.space vpn)
   pub row : Row
   pub there : row_of (state_of b.machine).rows thread.space vpn.0 ≡ Some row
-  pub views : new ≡ record old { views = old.views ++ filled old.views vpn row.frame row.flags ident (page_at b.machine.memory row.frame) ∷ [] }
+  pub place : ℕ
+  pub views : new ≡ more_with (filled old.views vpn row.frame row.flags ident (page_at b.machine.memory row.frame) (Some place)) old
 
 -- the thread is loaded with the ticket's identifier, it could have taken the steps as the machine is now, through rows that are
 -- loaded, and so many steps are left

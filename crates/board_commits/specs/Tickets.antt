@@ -1,10 +1,11 @@
--- When a view was copied for the thread of a ticket.
-use Rattle.std.specs.Prelude.{◌≡◌, ℕ, List, take, Contains, Some, slice_get}
+-- When a view was copied for the thread of a ticket, and what carries a place is of a journal.
+use Rattle.std.specs.Prelude.{◌≡◌, ℕ, ◌≤◌, List, length, take, Contains, Option, None, Some, slice_get}
 use Rattle.cache_ident.specs.declared.idents.Ident.{Ident}
 use Rattle.cache_ident.specs.declared.names.Name.TheVariants as name
 use Rattle.cache_ident.specs.declared.names.SpaceNo.{SpaceNo}
 use Rattle.cache_ident.specs.declared.names.ThreadNo.{ThreadNo}
 use Rattle.phys_groups.specs.declared.rows.Row.{Row}
+use Rattle.phys_groups.specs.Memory.{page_at}
 use Rattle.phys_groups.specs.Translation.{row_of}
 use Rattle.flat_state.specs.declared.records.FlatThread.{FlatThread}
 use Rattle.flat_state.specs.Events.{flat}
@@ -12,7 +13,8 @@ use Rattle.flat_state.specs.State.{FlatState}
 use Rattle.run_journal.specs.declared.entries.Entry.{Entry}
 use Rattle.run_journal.specs.declared.entries.Entry.TheVariants.{Loaded}
 use Rattle.run_journal.specs.Entries.{erase}
-use Rattle.page_views.specs.Views.{View}
+use Rattle.page_views.specs.Views.{all_dated, dated, Dated, View}
+use Rattle.board_threads.specs.quantum.specs.Ahead.{Ahead}
 
 -- the machine with unlimited tables behind so many entries
 abbrev pub state_at : List Entry → ℕ → FlatState
@@ -45,6 +47,28 @@ pub record IsOfTicket (j : List Entry) (thread : Ident) (v : View) : Type 0 wher
   pub of : IsThreadIn j thread space
   pub copied : IsCopiedIn j space v
 
--- .. and so was each of them
-abbrev pub AreOfTicket : List Entry → Ident → List View → Type 0
-AreOfTicket j thread vs = (v : View) → Contains vs v → IsOfTicket j thread v
+-- ---- what carries a place
+
+-- the place isn't behind the journal's end, and the bytes are those that the frame has in the flat state of so many entries
+pub record IsDated (j : List Entry) (d : Dated) : Type 0 where
+  pub within : d.place ≤ length j
+  pub bytes : page_at (state_at j d.place).memory d.frame ≡ d.bytes
+
+abbrev pub IsAsOf : List Entry → Option Dated → Type 0
+IsAsOf j None = Unit {0}
+IsAsOf j (Some d) = IsDated j d
+
+-- so it is with what was copied for each of these views
+abbrev pub AreAsOf : List Entry → List View → Type 0
+AreAsOf j vs = (v : View) → Contains vs v → IsAsOf j (dated v)
+
+-- .. and with all that a quantum has, from views or from earlier ones
+abbrev pub AreKept : List Entry → Ahead → Type 0
+AreKept j a = (o : Option Dated) → Contains (all_dated a.views a.kept) o → IsAsOf j o
+
+-- ---- a quantum for a ticket
+
+-- each view was copied for the thread that was loaded with the identifier, and what carries a place is of this journal
+pub record AreOfTicket (j : List Entry) (thread : Ident) (a : Ahead) : Type 0 where
+  pub views : (v : View) → Contains a.views v → IsOfTicket j thread v
+  pub kept : AreKept j a

@@ -1,21 +1,22 @@
 //! Steps of a quantum that happen.
 
 ghost use Rattle.std.specs.Prelude.{◌≡◌, ◌≢◌, None, IfErr, IfOk, OnOk};
+ghost use Rattle.std.specs.Bool.{OnTrue};
 ghost use Rattle.std.specs.Result.{result_err};
 ghost use Rattle.board_threads.specs.board_core.specs.Growth.{AreInMemory};
-ghost use Rattle.phys_groups.specs.Memory.{HasFrame};
+ghost use Rattle.phys_groups.specs.Memory.{page_at, HasFrame};
+ghost use Rattle.page_views.specs.Views.{dated};
 ghost use Rattle.board_threads.specs.board_ops.specs.declared.refusals.Refused.TheVariants.{NoMemory};
 ghost use Rattle.board_threads.specs.board_core.specs.Answers.{HasSpare, IsRefused};
 ghost use Rattle.board_threads.specs.board_core.specs.Core.{contents_of};
 ghost use Rattle.board_commits.specs.Commits.{IsCommitted, MayHappen};
 ghost use Rattle.board_commits.specs.Refusals.{changed, is_changed as is_changed_def, is_gone as is_gone_def, is_in_place as is_in_place_def, moved_from, not_loaded, refusal_of_commit};
-ghost use Rattle.board_commits.specs.Tickets.{AreOfTicket};
+ghost use Rattle.board_commits.specs.Tickets.{AreAsOf, AreOfTicket, IsAsOf};
 
 use crate::pages::thread_of;
 use board_threads::{Core, PageView, Quantum, Refused, Tables, Ticket, check_steps, live};
 use cache_ident::ThreadNo;
 use flat_rules::Records;
-use phys_groups::Memory;
 use thread_cache::ThreadRec;
 
 /// Makes the steps of a quantum happen, as steps of the ticket's thread on the machine as it is now, and gives the thread back. It
@@ -25,9 +26,9 @@ use thread_cache::ThreadRec;
 /// processor, or hasn't the context that the quantum began with (`Moved`); where the row of a view isn't loaded any more
 /// (`NotLoaded`, of the first such view); where a frame whose view was touched has other bytes than were copied (`Changed`, of the
 /// first such view); and where fewer steps are left (`Over`). It costs a search for each view, a comparison for each page that was
-/// touched, and a copy for each that was written.
+/// touched and whose frame may have changed since, and a copy for each that was stored to.
 pub fn commit(core: &mut Core, ticket: &Ticket, quantum: &Quantum) -> Result<u32, Refused>
-    requires views { AreOfTicket core.old.journal.entries ticket.now.thread quantum.now.views }
+    requires views { AreOfTicket core.old.journal.entries ticket.now.thread quantum.now }
     ensures refused { IfErr result (IsRefused (refusal_of_commit core.old ticket.now quantum.now) core.old core.new) }
     ensures done { OnOk result (refusal_of_commit core.old ticket.now quantum.now ≡ None) }
     ensures steps { IfOk result (λ steps. steps ≡ quantum.now.steps) }
@@ -43,14 +44,14 @@ pub fn commit(core: &mut Core, ticket: &Ticket, quantum: &Quantum) -> Result<u32
 
 // The number of the ticket's thread, where the steps may happen.
 fn check_commit(core: &Core, ticket: &Ticket, quantum: &Quantum) -> Result<ThreadNo, Refused>
-    requires views { AreOfTicket core.now.journal.entries ticket.now.thread quantum.now.views }
+    requires views { AreOfTicket core.now.journal.entries ticket.now.thread quantum.now }
     ensures exact { result_err result ≡ refusal_of_commit core.now ticket.now quantum.now }
     ensures may { IfOk result (MayHappen core.now ticket.now quantum.now) }
 {
     let thread = thread_of(core, ticket)?;
     check_place(thread, ticket, quantum)?;
     check_rows(core.tables(), quantum.views())?;
-    check_contents(core.machine().memory(), quantum.views())?;
+    check_contents(core, quantum.views())?;
     check_steps(core, u64::from(quantum.steps()))?;
     Ok(thread.no)
 }
@@ -90,12 +91,13 @@ fn is_gone(tables: &Tables, view: &PageView) -> bool
 }
 
 // Refuses a touched view whose frame isn't any more what was copied of it (`Changed`).
-fn check_contents(memory: &Memory, views: &[PageView]) -> Result<(), Refused>
-    requires { AreInMemory memory.now views.now }
-    ensures { result_err result ≡ changed memory.now views.now }
+fn check_contents(core: &Core, views: &[PageView]) -> Result<(), Refused>
+    requires frames { AreInMemory core.now.machine.memory views.now }
+    requires kept { AreAsOf core.now.journal.entries views.now }
+    ensures { result_err result ≡ changed core.now.machine.memory views.now }
 {
     for view in views {
-        if is_changed(memory, view) {
+        if is_changed(core, view) {
             return Err(Refused::Changed {
                 frame: view.frame(),
             });
@@ -104,9 +106,29 @@ fn check_contents(memory: &Memory, views: &[PageView]) -> Result<(), Refused>
     Ok(())
 }
 
-fn is_changed(memory: &Memory, view: &PageView) -> bool
-    requires { HasFrame memory.now view.now.frame }
-    ensures { result ≡ is_changed_def memory.now view.now }
+fn is_changed(core: &Core, view: &PageView) -> bool
+    requires frame { HasFrame core.now.machine.memory view.now.frame }
+    requires kept { IsAsOf core.now.journal.entries (dated view.now) }
+    ensures { result ≡ is_changed_def core.now.machine.memory view.now }
 {
-    view.touched() && !memory.equals(view.frame(), view.first())
+    if !view.touched() {
+        return false;
+    }
+    if stays_since(core, view) {
+        return false;
+    }
+    !core.machine().memory().equals(view.frame(), view.first())
+}
+
+// Whether no entry changed the frame of a view since the place as of which it had the bytes that were copied. Where the bytes
+// carry no place it isn't known.
+fn stays_since(core: &Core, view: &PageView) -> bool
+    requires frame { HasFrame core.now.machine.memory view.now.frame }
+    requires kept { IsAsOf core.now.journal.entries (dated view.now) }
+    ensures { OnTrue result (view.now.first ≡ page_at core.now.machine.memory view.now.frame) }
+{
+    match view.taken() {
+        Some(place) => core.stamp(view.frame()) <= place,
+        None => false,
+    }
 }

@@ -7,40 +7,58 @@ ghost use Rattle.cache_ident.specs.Residents.{IsResident};
 ghost use Rattle.board_threads.specs.desc_stores.specs.declared.items.Item.{Item};
 ghost use Rattle.board_threads.specs.desc_stores.specs.Contents.{content_of, residents_of};
 ghost use Rattle.board_threads.specs.shown_state.specs.Shown.{flat_thread};
+ghost use Rattle.phys_groups.specs.Memory.{HasFrame};
 ghost use Rattle.page_views.specs.Views.{can_fill};
 ghost use Rattle.board_threads.specs.board_checks.specs.Identifiers.{not_live, thread_as};
 ghost use Rattle.board_threads.specs.board_core.specs.Core.{contents_of};
-ghost use Rattle.board_commits.specs.Commits.{IsPaged};
+ghost use Rattle.board_commits.specs.Commits.{HasPage, IsPaged};
 ghost use Rattle.board_commits.specs.Refusals.{refusal_of_page};
-ghost use Rattle.board_commits.specs.Tickets.{AreOfTicket};
+ghost use Rattle.board_commits.specs.Tickets.{AreKept, AreOfTicket};
 
 use board_threads::{Core, Quantum, Refused, Ticket, thread_as};
-use cache_ident::{Name, Vpn};
+use cache_ident::{Frame, Ident, Name, Vpn};
 use flat_rules::Records;
+use phys_groups::Flags;
 use thread_cache::ThreadRec;
 
-/// Copies the page of a loaded row of the ticket's thread into a quantum that has room for it, whatever the row's flags.
+/// Copies the page of a loaded row of the ticket's thread into a quantum that has room for it, whatever the row's flags. What
+/// carries a place in the quantum must be of this board's journal.
 ///
 /// It is refused where the ticket's identifier isn't live any more (`Unknown`, `Stale`), and where no row of that page is loaded
-/// (`NotLoaded`). It costs two searches and a copy of the page, and takes no memory.
+/// (`NotLoaded`). It costs two searches, and a copy of the page where the quantum doesn't keep it since its frame changed last. It
+/// takes no memory.
 pub fn page(core: &Core, ticket: &Ticket, vpn: Vpn, quantum: &mut Quantum) -> Result<(), Refused>
     requires room { IsTrue (can_fill quantum.old.views vpn) }
+    requires kept { AreKept core.now.journal.entries quantum.old }
     ensures exact { result_err result ≡ refusal_of_page (contents_of core.now) ticket.now vpn }
     ensures refused { OnErr result (quantum.new ≡ quantum.old) }
     ensures filled { OnOk result (IsPaged core.now ticket.now vpn quantum.old quantum.new) }
-    ensures views { AreOfTicket core.now.journal.entries ticket.now.thread quantum.old.views → AreOfTicket core.now.journal.entries ticket.now.thread quantum.new.views }
+    ensures views { AreOfTicket core.now.journal.entries ticket.now.thread quantum.old → AreOfTicket core.now.journal.entries ticket.now.thread quantum.new }
+    ensures kept { AreKept core.now.journal.entries quantum.new }
 {
     let space = thread_of(core, ticket)?.space;
     let Some(ident) = core.tables().resident(Name::Mapping(space, vpn)) else {
         return Err(Refused::NotLoaded { vpn });
     };
-    let machine = core.machine();
-    let Some(row) = machine.row(space, vpn) else {
+    let Some(row) = core.machine().row(space, vpn) else {
         unreachable!()
     };
-    let bytes = machine.memory().page(row.frame);
-    quantum.fill(vpn, row.frame, row.flags, ident, bytes);
+    add_page(core, vpn, row.frame, row.flags, ident, quantum);
     Ok(())
+}
+
+// Adds the view of a page to a quantum: of what it keeps, where the page's frame hasn't changed since, and else copied from memory.
+fn add_page(core: &Core, vpn: Vpn, frame: Frame, flags: Flags, row: Ident, quantum: &mut Quantum)
+    requires room { IsTrue (can_fill quantum.old.views vpn) }
+    requires kept { AreKept core.now.journal.entries quantum.old }
+    requires frame { HasFrame core.now.machine.memory frame }
+    ensures { HasPage core.now vpn frame flags row quantum.old quantum.new }
+{
+    if quantum.refill(vpn, frame, flags, row, core.stamp(frame)) {
+        return;
+    }
+    let bytes = core.machine().memory().page(frame);
+    quantum.fill_as_of(vpn, frame, flags, row, bytes, core.journal().len());
 }
 
 /// The thread that is loaded with the ticket's identifier. Refused is one that isn't live any more (`Unknown`, `Stale`).

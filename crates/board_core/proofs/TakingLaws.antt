@@ -1,17 +1,18 @@
 -- Views that are taken over, one after another.
-use Rattle.std.proofs.Common.{◌≡◌, ℕ, ◌<◌, Bool, true, false, List, [], ◌∷◌, ◌++◌, length, map, Some, refl, ap, sym, ◌∙◌, subst, inl, inr, arith}
+use Rattle.std.proofs.Common.{◌≡◌, ℕ, ◌<◌, Bool, true, false, List, [], ◌∷◌, ◌++◌, length, map, Contains, Some, refl, ap, sym, ◌∙◌, subst, inl, inr, arith}
 use Rattle.std.specs.Prelude.{if◌then◌else◌}
+use Rattle.std.proofs.lemmas.Bool.{cases_eq}
 use Rattle.cache_ident.specs.declared.names.Frame.{Frame}
 use Rattle.cache_ident.specs.declared.names.SpaceNo.{SpaceNo}
 use Rattle.cache_ident.specs.declared.names.Vpn.{Vpn}
 use Rattle.phys_groups.specs.Memory.{page_at, with_page, HasFrame}
 use Rattle.phys_groups.specs.Rows.{marked}
-use Rattle.phys_groups.proofs.Pages.{length-with_page, page_at-with_page_other, with_page-page_at}
+use Rattle.phys_groups.proofs.Pages.{length-with_page, page_at-with_page, page_at-with_page_other, with_page-page_at}
 use Rattle.flat_state.specs.State.{FlatState}
 use Rattle.page_views.specs.Views.{View}
 use Rattle.cached_machine.specs.shown_state.specs.Shown.{shown}
 use Rattle.cached_machine.specs.Cached.{state_of, Cached}
-use Rattle.board_core.specs.Growth.{with_all_views, with_view}
+use Rattle.board_core.specs.Growth.{with_all_views, with_view, AreInMemory, HoldAlike, IsAsCopiedOrNow, IsPutIn}
 use Rattle.board_core.specs.Stamps.{stamped_at, AreStamped, HaveStamps}
 use Rattle.board_core.proofs.OpeningLaws.{memory_shown}
 use Rattle.board_core.proofs.StampLaws.{one_stamped}
@@ -86,6 +87,40 @@ have_places_then at a s b t stamped have frame there =
     let places = stamped.places in
     let low = have frame (omega arith) in
     omega arith
+
+-- ---- what the frames hold meanwhile
+
+-- where a view is put in, the frame of each holds what was copied of it still, or what the view holds now
+pub held_later : (vs : List View) (w : View) (memory after : List ℕ) → HoldAlike vs → Contains vs w → AreInMemory memory vs → IsPutIn w memory after
+    → ((v : View) → Contains vs v → IsAsCopiedOrNow memory v) → (v : View) → Contains vs v → IsAsCopiedOrNow after v
+held_later vs w memory after alike of within put held v there =
+    elim (cases_eq v.frame.0 w.frame.0) [
+      | inl same ↦
+          let frames : v.frame ≡ w.frame = ap (λ (n : ℕ). let f : Frame = record { 0 = n } in f) same in
+          inr (ap (λ (f : Frame). page_at after f) frames ∙ put.its ∙ alike w v of there (sym frames))
+      | inr apart ↦
+          let kept = put.others v.frame (within v there) (λ same. apart (ap (λ (f : Frame). f.0) same)) in
+          elim (held v there) [
+            | inl first ↦ inl (kept ∙ first)
+            | inr now ↦ inr (kept ∙ now)
+          ]
+    ]
+
+-- what is copied into its frame is put in, and so is what stands there already
+pub put_copied : (v : View) (before memory after : List ℕ) (page : List ℕ) → memory ≡ before → HasFrame before v.frame → length page ≡ 4096 → page ≡ v.present → after ≡ with_page memory v.frame page → IsPutIn v before after
+put_copied v before memory after page same there whole of is =
+    let written : after ≡ with_page before v.frame page = is ∙ ap (λ (m : List ℕ). with_page m v.frame page) same in
+    record {
+      its = ap (λ (m : List ℕ). page_at m v.frame) written ∙ page_at-with_page before v.frame page there whole ∙ of;
+      others = λ frame frame_there apart. ap (λ (m : List ℕ). page_at m frame) written ∙ page_at-with_page_other before v.frame page frame there whole (λ equal. apart (ap (λ (n : ℕ). let f : Frame = record { 0 = n } in f) equal));
+    }
+
+pub put_already : (v : View) (before after : List ℕ) → after ≡ before → v.present ≡ v.first → IsAsCopiedOrNow before v → IsPutIn v before after
+put_already v before after same as_copied found =
+    record {
+      its = ap (λ (m : List ℕ). page_at m v.frame) same ∙ elim found [ inl first ↦ first ∙ sym as_copied | inr now ↦ now ];
+      others = λ frame there apart. ap (λ (m : List ℕ). page_at m frame) same;
+    }
 
 -- ---- one view more
 

@@ -1,13 +1,14 @@
 -- What a move leaves of a machine with its journal.
-use Rattle.std.specs.Prelude.{◌≡◌, ℕ, ◌+◌, ◌-◌, ◌<◌, ◌≤◌, ◌^◌, Bool, true, if◌then◌else◌, min, List, [], ◌∷◌, ◌++◌, length, map, not, count_by, Contains, zero, suc}
+use Rattle.std.specs.Prelude.{◌≡◌, ◌≢◌, ◌⊎◌, ℕ, ◌+◌, ◌-◌, ◌<◌, ◌≤◌, ◌^◌, Bool, true, if◌then◌else◌, min, List, [], ◌∷◌, ◌++◌, length, map, not, count_by, Contains, zero, suc}
 use Rattle.std.specs.List.{list_any}
 use Rattle.cache_ident.specs.declared.idents.Ident.{Ident}
 use Rattle.cache_ident.specs.declared.names.Name.TheVariants as name
+use Rattle.cache_ident.specs.declared.names.Frame.{Frame}
 use Rattle.cache_ident.specs.declared.names.SpaceNo.{SpaceNo}
 use Rattle.cache_ident.specs.declared.names.ThreadNo.{ThreadNo}
 use Rattle.cache_ident.specs.Residents.{Resident, IsNameResident}
 use Rattle.cache_ident.specs.Rolls.{is_same}
-use Rattle.phys_groups.specs.Memory.{with_page, HasFrame}
+use Rattle.phys_groups.specs.Memory.{page_at, with_page, HasFrame}
 use Rattle.phys_groups.specs.Rows.{marked}
 use Rattle.flat_state.specs.declared.records.FlatThread.{FlatThread}
 use Rattle.flat_state.specs.Events.{after_events}
@@ -93,6 +94,23 @@ with_view space s v =
 abbrev pub with_all_views : SpaceNo → FlatState → List View → FlatState
 with_all_views space s [] = s
 with_all_views space s (v ∷ vs) = with_all_views space (with_view space s v) vs
+
+-- each frame holds what was copied of it
+abbrev pub AreAsCopied : List ℕ → List View → Type 0
+AreAsCopied memory vs = (v : View) → Contains vs v → page_at memory v.frame ≡ v.first
+
+-- the frame holds what was copied of it, or what the view holds now
+abbrev pub IsAsCopiedOrNow : List ℕ → View → Type 0
+IsAsCopiedOrNow memory v = (page_at memory v.frame ≡ v.first) ⊎ (page_at memory v.frame ≡ v.present)
+
+-- the views of a frame hold the same
+abbrev pub HoldAlike : List View → Type 0
+HoldAlike vs = (u v : View) → Contains vs u → Contains vs v → u.frame ≡ v.frame → u.present ≡ v.present
+
+-- the frame of the view holds what the view does, and the others hold what they did
+pub record IsPutIn (v : View) (memory after : List ℕ) : Type 0 where
+  pub its : page_at after v.frame ≡ v.present
+  pub others : (frame : Frame) → HasFrame memory frame → frame ≢ v.frame → page_at after frame ≡ page_at memory frame
 
 -- the frames of all views are in memory
 abbrev pub AreInMemory : List ℕ → List View → Type 0

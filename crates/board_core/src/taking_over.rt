@@ -6,7 +6,7 @@ ghost use Rattle.flat_rules.specs.Readings.{OfThread};
 ghost use Rattle.cached_machine.specs.quantum.specs.LocalRun.{committed, status_by as status_by_def, touched_views, CouldRun, IsLocalRun};
 ghost use Rattle.cached_machine.specs.Aside.{aside_of};
 ghost use Rattle.cached_machine.specs.Cached.{state_of};
-ghost use Rattle.board_core.specs.Growth.{with_all_views, with_view, AreInMemory};
+ghost use Rattle.board_core.specs.Growth.{with_all_views, with_view, AreAsCopied, AreInMemory, HoldAlike, IsAsCopiedOrNow, IsPutIn};
 ghost use Rattle.board_core.specs.Stamps.{AreStamped, HaveStamps};
 
 use crate::core_record::put_stamp;
@@ -46,6 +46,8 @@ fn take_views(
     at: u64,
 )
     requires frames { AreInMemory machine.old.memory (touched_views views.now) }
+    requires found { AreAsCopied machine.old.memory (touched_views views.now) }
+    requires alike { HoldAlike (touched_views views.now) }
     requires places { HaveStamps machine.old.memory stamps.old.items }
     ensures state { state_of machine.new ≡ with_all_views space (state_of machine.old) views.now }
     ensures rest { aside_of machine.new ≡ aside_of machine.old }
@@ -58,7 +60,8 @@ fn take_views(
     }
 }
 
-// The row of a view is marked as the view is, and its frame has the view's bytes. Where it had them already, it keeps its stamp.
+// The row of a view is marked as the view is, and its frame has the view's bytes. Where nothing was stored to the view, the frame
+// has them already, and keeps its stamp.
 fn take_view(
     machine: &mut CachedMachine,
     stamps: &mut Vec<u64>,
@@ -68,13 +71,15 @@ fn take_view(
 )
     requires touched { view.now.touched ≡ true }
     requires frame { HasFrame machine.old.memory view.now.frame }
+    requires found { IsAsCopiedOrNow machine.old.memory view.now }
     requires places { HaveStamps machine.old.memory stamps.old.items }
     ensures state { state_of machine.new ≡ with_view space (state_of machine.old) view.now }
+    ensures bytes { IsPutIn view.now machine.old.memory machine.new.memory }
     ensures rest { aside_of machine.new ≡ aside_of machine.old }
     ensures stamps { AreStamped at machine.old.memory stamps.old.items machine.new.memory stamps.new.items }
 {
     machine.mark(space, view.vpn(), view.written());
-    if !machine.memory().equals(view.frame(), view.present()) {
+    if !view.is_as_copied() {
         machine.copy_in(view.frame(), view.present());
         put_stamp(stamps, Some(view.frame()), at);
     }

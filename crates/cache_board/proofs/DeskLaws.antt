@@ -5,37 +5,41 @@ use Rattle.cache_ident.specs.declared.names.Vpn.{Vpn}
 use Rattle.flat_state.proofs.Places.{push_cases, set_cases}
 use Rattle.run_journal.specs.declared.entries.Entry.{Entry}
 use Rattle.page_views.specs.Views.{copies_of}
-use Rattle.board_commits.specs.quantum.specs.Ahead.{Ahead}
+use Rattle.board_commits.specs.quantum.specs.Ahead.{begun, unbegun, Ahead}
 use Rattle.board_commits.specs.board_ops.specs.declared.answers.Answer.{Answer}
 use Rattle.board_commits.specs.board_ops.specs.declared.answers.Answer.TheVariants as answers
 use Rattle.board_commits.specs.board_core.specs.Core.{Recorded}
 use Rattle.board_commits.specs.board_core.specs.Growth.{GrowsBy, OnlyMakesRoom}
 use Rattle.board_commits.specs.board_threads.specs.declared.tickets.Ticket.{Ticket}
 use Rattle.board_commits.specs.board_threads.specs.Posts.{OnlyMarks}
-use Rattle.board_commits.specs.Tickets.{AreOfTicket}
+use Rattle.board_commits.specs.Tickets.{AreKept, AreOfTicket}
+use Rattle.board_commits.proofs.KeptLaws.{kept_begun, kept_stays, kept_unbegun}
 use Rattle.board_commits.proofs.TicketLaws.{views_stay}
 use Rattle.cache_board.specs.declared.place.Place.{Place}
-use Rattle.cache_board.specs.Desks.{AreOfTickets, AtPlace, Desktop, IsClear, IsOfIts}
+use Rattle.cache_board.specs.Desks.{AreOfTickets, AtPlace, Desktop, IsClear, IsItsOwn, IsOfIts}
 use Rattle.cache_board.specs.Drive.{IsCheckout, IsCommit, IsCommitWith, IsLeave, IsLeaveWith, IsRunAhead, IsRunTo, IsView, IsViewWith, Spares}
-use Rattle.cache_board.proofs.ViewLaws.{all_of, further_copies}
+use Rattle.cache_board.proofs.ViewLaws.{all_of, further_copies, further_kept, kept_as}
 
 -- nothing lies on a clear desk
 pub clear_is_of_tickets : (j : List Entry) (d : Desktop) → IsClear d → AreOfTickets j d
-clear_is_of_tickets j d clear cpu place ticket there its = let e : None ≡ Some ticket = sym (clear cpu place there) ∙ its in absurd (cc)
+clear_is_of_tickets j d clear cpu place there = subst (IsItsOwn j cpu) (sym (clear cpu place there)) (record { its = λ ticket is. absurd (cc); kept = kept_unbegun j })
 
 -- ---- places without a ticket
 
--- none of them has one
+-- none of them has one, and each quantum is a new one
+abbrev pub new_place : Place
+new_place = record { ticket = None; quantum = unbegun }
+
 abbrev pub AllClear : List Place → Type 0
-AllClear places = (k : ℕ) (place : Place) → slice_get places k ≡ Some place → place.ticket ≡ None
+AllClear places = (k : ℕ) (place : Place) → slice_get places k ≡ Some place → place ≡ new_place
 
 pub clear_if_none : (places : List Place) → places ≡ [] → AllClear places
 clear_if_none places none k place there = let e : None ≡ Some place = ap (λ (ps : List Place). slice_get ps k) (sym none) ∙ there in absurd (cc)
 
-pub one_clear_more : (old new : List Place) (place : Place) → new ≡ old ++ place ∷ [] → AllClear old → place.ticket ≡ None → AllClear new
+pub one_clear_more : (old new : List Place) (place : Place) → new ≡ old ++ place ∷ [] → AllClear old → place ≡ new_place → AllClear new
 one_clear_more old new place is clear none k other there = elim (push_cases old place other k (ap (λ (ps : List Place). slice_get ps k) (sym is) ∙ there)) [
   | inl before ↦ clear k other before
-  | inr here ↦ ap (λ (p : Place). p.ticket) (sym here.1) ∙ none
+  | inr here ↦ sym here.1 ∙ none
 ]
 
 -- ---- what is read of a desk
@@ -69,35 +73,36 @@ module _ (b b′ : Recorded) where
 
 -- ---- a place
 
--- a ticket that lies there is of the processor, and the views are of it
-abbrev pub IsItsOwn : List Entry → ℕ → Place → Type 0
-IsItsOwn j cpu place = (ticket : Ticket) → place.ticket ≡ Some ticket → IsOfIts j cpu place ticket
-
 module _ (b b′ : Recorded) (grown : HasGrown b b′) where
   its_stays : (cpu : ℕ) (place : Place) (ticket : Ticket) → IsOfIts b.journal.entries cpu place ticket → IsOfIts b′.journal.entries cpu place ticket
   its_stays cpu place ticket of = record {
     processor = of.processor;
-    views = subst (λ (j : List Entry). AreOfTicket j ticket.thread place.quantum.views) (sym grown.1) (views_stay b.journal.entries grown.0 ticket.thread place.quantum.views of.views);
+    views = subst (λ (j : List Entry). AreOfTicket j ticket.thread place.quantum) (sym grown.1) (views_stay b.journal.entries grown.0 ticket.thread place.quantum of.views);
   }
 
+  kept_then : (a : Ahead) → AreKept b.journal.entries a → AreKept b′.journal.entries a
+  kept_then a kept = subst (λ (j : List Entry). AreKept j a) (sym grown.1) (kept_stays b.journal.entries grown.0 a kept)
+
+  own_stays : (cpu : ℕ) (place : Place) → IsItsOwn b.journal.entries cpu place → IsItsOwn b′.journal.entries cpu place
+  own_stays cpu place own = record { its = λ ticket is. its_stays cpu place ticket (own.its ticket is); kept = kept_then place.quantum own.kept }
+
   pub tickets_stay : (d : Desktop) → AreOfTickets b.journal.entries d → AreOfTickets b′.journal.entries d
-  tickets_stay d are cpu place ticket there its = its_stays cpu place ticket (are cpu place ticket there its)
+  tickets_stay d are cpu place there = own_stays cpu place (are cpu place there)
 
   own_if_same : (cpu : ℕ) (old new : Place) → new ≡ old → IsItsOwn b.journal.entries cpu old → IsItsOwn b′.journal.entries cpu new
-  own_if_same cpu old new same own = subst (IsItsOwn b′.journal.entries cpu) (sym same) (λ ticket is. its_stays cpu old ticket (own ticket is))
+  own_if_same cpu old new same own = subst (IsItsOwn b′.journal.entries cpu) (sym same) (own_stays cpu old own)
 
-own_if_none : (j : List Entry) (cpu : ℕ) (place : Place) → place.ticket ≡ None → IsItsOwn j cpu place
-own_if_none j cpu place gone ticket is = let e : None ≡ Some ticket = sym gone ∙ is in absurd (cc)
+  -- the quantum stays, and the ticket goes
+  own_if_gone : (cpu : ℕ) (old new : Place) → new ≡ record old { ticket = None } → IsItsOwn b.journal.entries cpu old → IsItsOwn b′.journal.entries cpu new
+  own_if_gone cpu old new gone own = subst (IsItsOwn b′.journal.entries cpu) (sym gone) (record { its = λ ticket is. absurd (cc); kept = kept_then old.quantum own.kept })
 
 -- another place is as it was
 at_place : (j : List Entry) (cpu : ℕ) (P : Place → Place → Type 0) (d d′ : Desktop) (at : AtPlace cpu P d d′) → AreOfTickets j d → IsItsOwn j cpu at.after → AreOfTickets j d′
-at_place j cpu P d d′ at others own k place ticket there its =
+at_place j cpu P d d′ at others own k place there =
     let in_set : slice_get (set d.places cpu at.after) k ≡ Some place = ap (λ (x : Desktop). slice_get x.places k) (sym at.rest) ∙ there in
     elim (set_cases d.places cpu k at.after place in_set) [
-      | inl here ↦
-          let is : at.after.ticket ≡ Some ticket = ap (λ (p : Place). p.ticket) here.1 ∙ its in
-          subst (λ (n : ℕ). IsOfIts j n place ticket) (sym here.0) (subst (λ (p : Place). IsOfIts j cpu p ticket) here.1 (own ticket is))
-      | inr other ↦ others k place ticket other its
+      | inl here ↦ subst (λ (n : ℕ). IsItsOwn j n place) (sym here.0) (subst (IsItsOwn j cpu) here.1 own)
+      | inr other ↦ others k place other
     ]
 
 -- what is done at a place keeps the tickets, where it keeps its own
@@ -105,7 +110,7 @@ pub kept_at : (b b′ : Recorded) (cpu : ℕ) (P : Place → Place → Type 0) (
     → ((old new : Place) → P old new → IsItsOwn b.journal.entries cpu old → HasGrown b b′ × IsItsOwn b′.journal.entries cpu new)
     → AreOfTickets b.journal.entries d → AreOfTickets b′.journal.entries d′
 kept_at b b′ cpu P d d′ at each are =
-    let after = each at.before at.after at.changes (λ ticket is. are cpu at.before ticket at.there is) in
+    let after = each at.before at.after at.changes (are cpu at.before at.there) in
     at_place b′.journal.entries cpu P d d′ at (tickets_stay b b′ after.0 d are) after.1
 
 -- ---- what is done there
@@ -113,13 +118,19 @@ kept_at b b′ cpu P d d′ at each are =
 module _ (cpu : ℕ) (b : Recorded) (old : Place) (own : IsItsOwn b.journal.entries cpu old) where
   pub checkout_keeps : (answer : Answer) (after : Recorded) (new : Place) → IsCheckout cpu b old answer after new → HasGrown b after × IsItsOwn after.journal.entries cpu new
   checkout_keeps (answers.Out (Some whom)) after new done =
-      let fresh : IsItsOwn after.journal.entries cpu new = λ ticket is.
-      let same : done.0 ≡ ticket = same_Some done.0 ticket (ap (λ (p : Place). p.ticket) (sym done.5) ∙ is) in
-      record {
-        processor = ap (λ (t : Ticket). t.cpu) (sym same) ∙ done.3.processor;
-        views = subst (λ (p : Place). AreOfTicket after.journal.entries ticket.thread p.quantum.views) (sym done.5) (λ v there. let below : there.0 < 0 = there.1 in absurd (omega arith));
+      let grown = not_grown b after (ap (λ (x : Recorded). x.journal.entries) done.4.rest) in
+      let begins = begun done.0.context old.quantum in
+      let kept : AreKept after.journal.entries begins = kept_begun after.journal.entries done.0.context old.quantum (kept_then b after grown old.quantum own.kept) in
+      let fresh : IsItsOwn after.journal.entries cpu (record { ticket = Some done.0; quantum = begins }) = record {
+        its = λ ticket is.
+            let same : done.0 ≡ ticket = same_Some done.0 ticket is in
+            record {
+              processor = ap (λ (t : Ticket). t.cpu) (sym same) ∙ done.3.processor;
+              views = record { views = λ v there. let below : there.0 < 0 = there.1 in absurd (omega arith); kept = kept };
+            };
+        kept = kept;
       } in
-      (not_grown b after (ap (λ (x : Recorded). x.journal.entries) done.4.rest), fresh)
+      (grown, subst (IsItsOwn after.journal.entries cpu) (sym done.5) fresh)
   checkout_keeps (answers.Out None) after new done =
       let grown = grown_if_same b after done.1 in
       (grown, own_if_same b after grown cpu old new done.2 own)
@@ -128,14 +139,17 @@ module _ (cpu : ℕ) (b : Recorded) (old : Place) (own : IsItsOwn b.journal.entr
   module _ (vpn : Vpn) where
     view_with_keeps : (ticket : Ticket) → old.ticket ≡ Some ticket → (answer : Answer) (new : Place) → IsViewWith ticket b vpn old answer new → IsItsOwn b.journal.entries cpu new
     view_with_keeps ticket at answers.NoView new done = own_if_same b b (grown_if_same b b refl) cpu old new done.1 own
-    view_with_keeps ticket at answers.Did new done = λ other is.
-        let still : old.ticket ≡ Some other = sym done.2 ∙ is in
-        let same : other ≡ ticket = same_Some other ticket (sym still ∙ at) in
-        let of = own other still in
-        record {
-          processor = of.processor;
-          views = subst (λ (t : Ticket). AreOfTicket b.journal.entries t.thread new.quantum.views) (sym same) (done.4 (subst (λ (t : Ticket). AreOfTicket b.journal.entries t.thread old.quantum.views) same of.views));
-        }
+    view_with_keeps ticket at answers.Did new done = record {
+      its = λ other is.
+          let still : old.ticket ≡ Some other = sym done.2 ∙ is in
+          let same : other ≡ ticket = same_Some other ticket (sym still ∙ at) in
+          let of = own.its other still in
+          record {
+            processor = of.processor;
+            views = subst (λ (t : Ticket). AreOfTicket b.journal.entries t.thread new.quantum) (sym same) (done.4 (subst (λ (t : Ticket). AreOfTicket b.journal.entries t.thread old.quantum) same of.views));
+          };
+      kept = done.5;
+    }
     view_with_keeps ticket at (answers.Refused why) new done = own_if_same b b (grown_if_same b b refl) cpu old new done.2 own
     view_with_keeps ticket at _ new done = absurd done
 
@@ -149,10 +163,15 @@ module _ (cpu : ℕ) (b : Recorded) (old : Place) (own : IsItsOwn b.journal.entr
 
   module _ (limit : ℕ) where
     run_to_keeps : (answer : Answer) (new : Place) → IsRunTo limit old answer new → IsItsOwn b.journal.entries cpu new
-    run_to_keeps (answers.Paused paused) new done = λ ticket is.
-        let of = own ticket (sym done.0 ∙ is) in
+    run_to_keeps (answers.Paused paused) new done =
         let copies : copies_of new.quantum.views ≡ copies_of old.quantum.views = ap (λ (a : Ahead). copies_of a.views) done.1.took ∙ further_copies done.1.count old.quantum in
-        record { processor = of.processor; views = all_of b.journal.entries ticket.thread old.quantum.views new.quantum.views copies of.views }
+        let behind : new.quantum.kept ≡ old.quantum.kept = ap (λ (a : Ahead). a.kept) done.1.took ∙ further_kept done.1.count old.quantum in
+        record {
+          its = λ ticket is.
+              let of = own.its ticket (sym done.0 ∙ is) in
+              record { processor = of.processor; views = all_of b.journal.entries ticket.thread old.quantum new.quantum copies behind of.views };
+          kept = kept_as b.journal.entries old.quantum new.quantum copies behind own.kept;
+        }
     run_to_keeps _ new done = absurd done
 
     run_at : (t : Option Ticket) (answer : Answer) (new : Place) → MatchOption t ((answer ≡ answers.NoTicket) × (new ≡ old)) (λ ticket. IsRunTo limit old answer new) → IsItsOwn b.journal.entries cpu new
@@ -164,7 +183,8 @@ module _ (cpu : ℕ) (b : Recorded) (old : Place) (own : IsItsOwn b.journal.entr
 
   commit_with_keeps : (ticket : Ticket) (answer : Answer) (after : Recorded) (new : Place) → IsCommitWith ticket b old answer after new → HasGrown b after × IsItsOwn after.journal.entries cpu new
   commit_with_keeps ticket (answers.Stepped steps) after new done =
-      (grown_by b after _ done.2.entries, own_if_none after.journal.entries cpu new (ap (λ (p : Place). p.ticket) done.3))
+      let grown = grown_by b after _ done.2.entries in
+      (grown, own_if_gone b after grown cpu old new done.3 own)
   commit_with_keeps ticket (answers.Refused why) after new done =
       let grown = grown_if_room b after done.0.only in
       (grown, own_if_same b after grown cpu old new done.1 own)
@@ -186,7 +206,8 @@ module _ (cpu : ℕ) (b : Recorded) (old : Place) (own : IsItsOwn b.journal.entr
       let grown = grown_if_same b after done.1 in
       (grown, own_if_same b after grown cpu old new done.2 own)
   leave_at (Some ticket) answer after new done =
-      (grown_if_marks b after done.only, own_if_none after.journal.entries cpu new (ap (λ (p : Place). p.ticket) done.gone))
+      let grown = grown_if_marks b after done.only in
+      (grown, own_if_gone b after grown cpu old new done.gone own)
 
   pub leave_keeps : (answer : Answer) (after : Recorded) (new : Place) → IsLeave b old answer after new → HasGrown b after × IsItsOwn after.journal.entries cpu new
   leave_keeps answer after new done = leave_at old.ticket answer after new done

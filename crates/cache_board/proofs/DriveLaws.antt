@@ -24,9 +24,9 @@ use Rattle.board_calls.specs.Calls.{refusal_of_declare, refusal_of_seal, IsCompl
 use Rattle.board_heal.specs.Healed.{IsHealed}
 use Rattle.board_heal.specs.Refusals.{refusal_of_heal}
 use Rattle.cache_board.specs.declared.place.Place.{Place}
-use Rattle.cache_board.specs.Desks.{AreOfTickets, Desktop}
+use Rattle.cache_board.specs.Desks.{AreOfTickets, Desktop, IsItsOwn}
 use Rattle.cache_board.specs.Drive.{answer_if_loaded, AreAnswered, DoesOr, IsAnswered, IsCheckout, IsCommit, IsDone, IsLeave, IsRunAhead, IsView, LoadsOr, MakesRoom, Spares}
-use Rattle.cache_board.proofs.DeskLaws.{checkout_keeps, commit_keeps, grown_by, grown_if_room, grown_if_same, kept_at, leave_keeps, run_keeps, tickets_stay, view_keeps, HasGrown, IsItsOwn}
+use Rattle.cache_board.proofs.DeskLaws.{checkout_keeps, commit_keeps, grown_by, grown_if_room, grown_if_same, kept_at, leave_keeps, run_keeps, tickets_stay, view_keeps, HasGrown}
 
 -- ---- what an operation keeps
 

@@ -1,5 +1,5 @@
 -- Views of a ticket that a run ahead changed are of it still.
-use Rattle.std.proofs.Common.{◌≡◌, ℕ, zero, suc, List, [], ◌∷◌, Some, slice_get, option_map, refl, sym, ◌∙◌, ap, subst}
+use Rattle.std.proofs.Common.{◌≡◌, ℕ, zero, suc, List, [], ◌∷◌, ◌++◌, map, Contains, Option, Some, slice_get, option_map, refl, sym, ◌∙◌, ap, ap₂, subst}
 use Rattle.std.proofs.lemmas.Option.{slice_get-map}
 use Rattle.cache_ident.specs.declared.idents.Ident.{Ident}
 use Rattle.cache_ident.specs.declared.names.Name.TheVariants as name
@@ -9,9 +9,9 @@ use Rattle.flat_state.proofs.Places.{get_from_Contains, get_from_map, Contains-f
 use Rattle.rv32_exec.specs.Pages.{Page}
 use Rattle.run_journal.specs.declared.entries.Entry.{Entry}
 use Rattle.run_journal.specs.declared.entries.Entry.TheVariants.{Loaded}
-use Rattle.page_views.specs.Views.{copied, copies_of, Copied, View}
+use Rattle.page_views.specs.Views.{copied, copies_of, dated, Copied, Dated, View}
 use Rattle.board_commits.specs.quantum.specs.Ahead.{further, one_ahead, outcome, views_with, Ahead}
-use Rattle.board_commits.specs.Tickets.{state_at, AreOfTicket, IsCopiedIn, IsOfTicket}
+use Rattle.board_commits.specs.Tickets.{state_at, AreKept, AreOfTicket, IsCopiedIn, IsOfTicket}
 
 -- steps leave what was copied
 with_copies : (vs : List View) (ps : List Page) → copies_of (views_with vs ps) ≡ copies_of vs
@@ -22,6 +22,24 @@ with_copies (v ∷ vs) (p ∷ ps) = ap (λ (cs : List Copied). copied v ∷ cs) 
 pub further_copies : (k : ℕ) (a : Ahead) → copies_of (further k a).views ≡ copies_of a.views
 further_copies zero a = refl
 further_copies (suc k) a = further_copies k (one_ahead a) ∙ with_copies a.views (outcome a).pages
+
+pub further_kept : (k : ℕ) (a : Ahead) → (further k a).kept ≡ a.kept
+further_kept zero a = refl
+further_kept (suc k) a = further_kept k (one_ahead a)
+
+-- the bytes with their place are among what was copied
+dated_copy : Copied → Option Dated
+dated_copy c = option_map (λ place. record { frame = c.frame; bytes = c.first; place = place }) c.taken
+
+dated_copies : (vs : List View) → map dated vs ≡ map dated_copy (copies_of vs)
+unfolding dated_copy
+dated_copies [] = refl
+dated_copies (v ∷ vs) = ap (λ (os : List (Option Dated)). dated v ∷ os) (dated_copies vs)
+
+pub kept_as : (j : List Entry) (a b : Ahead) → copies_of b.views ≡ copies_of a.views → b.kept ≡ a.kept → AreKept j a → AreKept j b
+kept_as j a b same behind kept o there =
+    let dates : map dated b.views ≡ map dated a.views = dated_copies b.views ∙ ap (map dated_copy) same ∙ sym (dated_copies a.views) in
+    kept o (subst (λ (os : List (Option Dated)). Contains os o) (ap₂ (λ (xs ys : List (Option Dated)). xs ++ ys) dates behind) there)
 
 module _ (j : List Entry) (thread : Ident) where
   copied_as : (space : SpaceNo) (v u : View) → copied v ≡ copied u → IsCopiedIn j space v → IsCopiedIn j space u
@@ -38,10 +56,13 @@ module _ (j : List Entry) (thread : Ident) where
   of_as : (v u : View) → copied v ≡ copied u → IsOfTicket j thread v → IsOfTicket j thread u
   of_as v u same of = record { space = of.space; of = of.of; copied = copied_as of.space v u same of.copied }
 
-  pub all_of : (vs us : List View) → copies_of us ≡ copies_of vs → AreOfTicket j thread vs → AreOfTicket j thread us
-  all_of vs us same are u there =
-      let at = get_from_Contains us u there in
-      let copy : slice_get (copies_of vs) at.0 ≡ Some (copied u) =
-      ap (λ (cs : List Copied). slice_get cs at.0) (sym same) ∙ slice_get-map copied us at.0 ∙ ap (option_map copied) at.1 in
-      let from = get_from_map copied vs at.0 (copied u) copy in
-      of_as from.0 u from.2 (are from.0 (Contains-from_get vs at.0 from.0 from.1))
+  pub all_of : (a b : Ahead) → copies_of b.views ≡ copies_of a.views → b.kept ≡ a.kept → AreOfTicket j thread a → AreOfTicket j thread b
+  all_of a b same behind are = record {
+    views = λ u there.
+        let at = get_from_Contains b.views u there in
+        let copy : slice_get (copies_of a.views) at.0 ≡ Some (copied u) =
+        ap (λ (cs : List Copied). slice_get cs at.0) (sym same) ∙ slice_get-map copied b.views at.0 ∙ ap (option_map copied) at.1 in
+        let from = get_from_map copied a.views at.0 (copied u) copy in
+        of_as from.0 u from.2 (are.views from.0 (Contains-from_get a.views at.0 from.0 from.1));
+    kept = kept_as j a b same behind are.kept;
+  }

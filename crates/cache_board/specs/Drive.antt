@@ -5,10 +5,9 @@ use Rattle.cache_ident.specs.declared.names.Name.TheVariants as name
 use Rattle.cache_ident.specs.declared.names.SpaceNo.{SpaceNo}
 use Rattle.cache_ident.specs.declared.names.ThreadNo.{ThreadNo}
 use Rattle.cache_ident.specs.declared.names.Vpn.{Vpn}
-use Rattle.rv32_exec.specs.declared.contexts.Context.{Context}
 use Rattle.page_views.specs.Views.{can_fill}
 use Rattle.ready_queue.specs.declared.Candidate.{Candidate}
-use Rattle.board_commits.specs.quantum.specs.Ahead.{Ahead, IsRun}
+use Rattle.board_commits.specs.quantum.specs.Ahead.{begun, IsRun}
 use Rattle.board_commits.specs.quantum.specs.LocalRun.{IsLocalRun}
 use Rattle.board_commits.specs.board_ops.specs.declared.answers.Answer.{Answer}
 use Rattle.board_commits.specs.board_ops.specs.declared.answers.Answer.TheVariants as answers
@@ -28,7 +27,7 @@ use Rattle.board_commits.specs.board_threads.specs.Refusals.{refusal_of_fault}
 use Rattle.board_commits.specs.board_threads.specs.Waiting.{IsChosenOf, IsWaiting}
 use Rattle.board_commits.specs.Commits.{IsCommitted, IsPaged}
 use Rattle.board_commits.specs.Refusals.{refusal_of_commit, refusal_of_page}
-use Rattle.board_commits.specs.Tickets.{AreOfTicket}
+use Rattle.board_commits.specs.Tickets.{AreKept, AreOfTicket}
 use Rattle.board_loads.specs.Holds.{IsLockedAs, IsUnloadedAs}
 use Rattle.board_loads.specs.Loads.{IsLoadedAs}
 use Rattle.board_calls.specs.Calls.{refusal_of_declare, refusal_of_seal, IsCompletion, IsDeclaring, IsSealing}
@@ -97,15 +96,11 @@ Spares b answer = HasSpare b 22 → answer ≢ answers.Refused NoMemory
 
 -- ---- at the place of a processor
 
--- a quantum that begins with a context
-abbrev pub begun : Context → Ahead
-begun context = record { first = context; context = context; views = []; steps = 0; paused = None }
-
 -- The next thread is out, and its ticket lies at the place, with a quantum that begins with its context; or no thread waits,
 -- and nothing changed.
 abbrev pub IsCheckout : ℕ → Recorded → Place → Answer → Recorded → Place → Type 0
 IsCheckout cpu b old (answers.Out (Some whom)) after new =
-    (ticket : Ticket) × (ticket.no ≡ whom) × IsChosenOf b whom × IsTicketFor b cpu ticket × IsCheckedOut whom cpu b after × (new ≡ record { ticket = Some ticket; quantum = begun ticket.context })
+    (ticket : Ticket) × (ticket.no ≡ whom) × IsChosenOf b whom × IsTicketFor b cpu ticket × IsCheckedOut whom cpu b after × (new ≡ record { ticket = Some ticket; quantum = begun ticket.context old.quantum })
 IsCheckout cpu b old (answers.Out None) after new = ((candidate : Candidate) → IsWaiting b candidate → ⊥) × (after ≡ b) × (new ≡ old)
 IsCheckout cpu b old _ after new = ⊥
 
@@ -115,7 +110,8 @@ abbrev pub IsViewWith : Ticket → Recorded → Vpn → Place → Answer → Pla
 IsViewWith ticket b vpn old answers.NoView new = (can_fill old.quantum.views vpn ≡ false) × (new ≡ old)
 IsViewWith ticket b vpn old answers.Did new =
     (can_fill old.quantum.views vpn ≡ true) × (refusal_of_page (contents_of b) ticket vpn ≡ None) × (new.ticket ≡ old.ticket) × IsPaged b ticket vpn old.quantum new.quantum
-    × (AreOfTicket b.journal.entries ticket.thread old.quantum.views → AreOfTicket b.journal.entries ticket.thread new.quantum.views)
+    × (AreOfTicket b.journal.entries ticket.thread old.quantum → AreOfTicket b.journal.entries ticket.thread new.quantum)
+    × AreKept b.journal.entries new.quantum
 IsViewWith ticket b vpn old (answers.Refused why) new =
     (can_fill old.quantum.views vpn ≡ true) × (refusal_of_page (contents_of b) ticket vpn ≡ Some why) × (new ≡ old)
 IsViewWith ticket b vpn old _ new = ⊥

@@ -35,7 +35,7 @@ ghost use Rattle.board_commits.specs.board_threads.specs.Tests.{IsWanted};
 ghost use Rattle.board_commits.specs.board_threads.specs.Waiting.{IsChosenOf, IsWaiting};
 ghost use Rattle.board_commits.specs.Commits.{IsCommitted, IsPaged};
 ghost use Rattle.board_commits.specs.Refusals.{refusal_of_commit, refusal_of_page};
-ghost use Rattle.board_commits.specs.Tickets.{AreOfTicket};
+ghost use Rattle.board_commits.specs.Tickets.{AreKept, AreOfTicket};
 ghost use Rattle.board_calls.specs.Calls.{refusal_of_declare, refusal_of_seal, IsCompletion, IsDeclaring, IsSealing};
 ghost use Rattle.board_heal.specs.Healed.{IsHealed};
 ghost use Rattle.board_heal.specs.Refusals.{refusal_of_heal};
@@ -287,13 +287,16 @@ impl Board {
     }
 
     /// Copies the page of a loaded row of the ticket's thread into a quantum that has room for it, whatever the row's flags.
-    /// Refused where no row of that page is loaded (`NotLoaded`).
+    /// Refused where no row of that page is loaded (`NotLoaded`). What carries a place in the quantum must be of this board's
+    /// journal: of a new quantum, of one that was only used with this board, or of one that forgot what it had.
     pub fn page(&self, ticket: &Ticket, vpn: Vpn, quantum: &mut Quantum) -> Result<(), Refused>
         requires room { IsTrue (can_fill quantum.old.views vpn) }
+        requires kept { AreKept self.now.journal.entries quantum.old }
         ensures exact { result_err result ≡ refusal_of_page (contents_of self.now) ticket.now vpn }
         ensures refused { OnErr result (quantum.new ≡ quantum.old) }
         ensures filled { OnOk result (IsPaged self.now ticket.now vpn quantum.old quantum.new) }
-        ensures views { AreOfTicket self.now.journal.entries ticket.now.thread quantum.old.views → AreOfTicket self.now.journal.entries ticket.now.thread quantum.new.views }
+        ensures views { AreOfTicket self.now.journal.entries ticket.now.thread quantum.old → AreOfTicket self.now.journal.entries ticket.now.thread quantum.new }
+        ensures kept { AreKept self.now.journal.entries quantum.new }
     {
         board_commits::page(&self.core, ticket, vpn, quantum)
     }
@@ -302,7 +305,7 @@ impl Board {
     /// isn't where it was (`Moved`), the row of a view isn't loaded (`NotLoaded`), a touched view isn't any more what memory
     /// holds (`Changed`), or fewer steps are left (`Over`).
     pub fn commit(&mut self, ticket: &Ticket, quantum: &Quantum) -> Result<u32, Refused>
-        requires views { AreOfTicket self.old.journal.entries ticket.now.thread quantum.now.views }
+        requires views { AreOfTicket self.old.journal.entries ticket.now.thread quantum.now }
         ensures refused { IfErr result (IsRefused (refusal_of_commit self.old ticket.now quantum.now) self.old self.new) }
         ensures done { OnOk result (refusal_of_commit self.old ticket.now quantum.now ≡ None) }
         ensures steps { IfOk result (λ steps. steps ≡ quantum.now.steps) }

@@ -32,7 +32,7 @@ impl Model for Desk {
 }
 
 impl Desk {
-    /// No ticket for any processor. The one call that takes memory.
+    /// No ticket for any processor, and new quanta. The one call that takes memory.
     pub fn new(alloc: Global) -> Result<Desk, NoMemory>
         ensures { IfOk result IsClear }
     {
@@ -53,6 +53,7 @@ impl Desk {
 
     pub(crate) fn view(&mut self, board: &Board, cpu: u32, vpn: Vpn) -> Answer
         requires processor { cpu < 8 }
+        requires views { AreOfTickets board.now.journal.entries self.old }
         ensures { AtPlace cpu (λ old new. IsView board.now vpn old result new) self.old self.new }
     {
         self.places[cpu as usize].view(board, vpn)

@@ -14,8 +14,8 @@ use cache_ident::NoMemory;
 /// Does each operation on the board that the ones before it left, and adds its answer. Room for the answers is made first;
 /// where there is none nothing is done.
 ///
-/// The views of each processor that has a ticket on the desk are of that ticket on this board; on a new desk they are, and
-/// they stay so.
+/// The views of each processor that has a ticket on the desk are of that ticket on this board, and what carries a place in any
+/// quantum there is of this board's journal; on a new desk they are, and they stay so.
 pub fn drive(
     board: &mut Board,
     desk: &mut Desk,

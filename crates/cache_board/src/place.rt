@@ -2,7 +2,8 @@
 
 ghost use Rattle.std.specs.Prelude.{◌≡◌, ◌<◌, IfOk, None, Some};
 ghost use Rattle.board_commits.specs.board_threads.specs.declared.tickets.Ticket.{Ticket};
-ghost use Rattle.board_commits.specs.Tickets.{AreOfTicket};
+ghost use Rattle.board_commits.specs.quantum.specs.Ahead.{unbegun};
+ghost use Rattle.board_commits.specs.Tickets.{AreKept, AreOfTicket};
 ghost use Rattle.cache_board.specs.Drive.{IsCheckout, IsCommit, IsLeave, IsRunAhead, IsView};
 
 use crate::answers::did;
@@ -21,7 +22,7 @@ pub(crate) struct Place {
 impl Place {
     /// One without a ticket. The one call that takes memory.
     pub(crate) fn new(alloc: Global) -> Result<Place, NoMemory>
-        ensures { IfOk result (λ place. place.ticket ≡ None) }
+        ensures { IfOk result (λ place. place ≡ record { ticket = None; quantum = unbegun }) }
     {
         Ok(Place {
             ticket: None,
@@ -45,6 +46,7 @@ impl Place {
 
     /// Copies a page into the quantum.
     pub(crate) fn view(&mut self, board: &Board, vpn: Vpn) -> Answer
+        requires kept { AreKept board.now.journal.entries self.old.quantum }
         ensures { IsView board.now vpn self.old result self.new }
     {
         let Some(ticket) = self.ticket else {
@@ -68,7 +70,7 @@ impl Place {
 
     /// Makes the steps of the quantum happen, and the ticket goes.
     pub(crate) fn commit(&mut self, board: &mut Board) -> Answer
-        requires views { (ticket : Ticket) → self.old.ticket ≡ Some ticket → AreOfTicket board.old.journal.entries ticket.thread self.old.quantum.views }
+        requires views { (ticket : Ticket) → self.old.ticket ≡ Some ticket → AreOfTicket board.old.journal.entries ticket.thread self.old.quantum }
         ensures { IsCommit board.old self.old result board.new self.new }
     {
         let Some(ticket) = self.ticket else {

@@ -1,5 +1,6 @@
 -- Copied pages: what one is, and the pages that a step sees in them.
-use Rattle.std.specs.Prelude.{◌≡◌, ◌≢◌, ℕ, ◌/◌, ◌≤◌, Bool, true, false, ◌&&◌, ◌||◌, ◌==◌, if◌then◌else◌, List, [], ◌∷◌, map, find, length, take, Option, Some, None, is_some, nat_lt, not}
+use Rattle.std.specs.Prelude.{◌≡◌, ◌≢◌, ℕ, ◌/◌, ◌≤◌, Bool, true, false, ◌&&◌, ◌||◌, ◌==◌, if◌then◌else◌, List, [], ◌∷◌, ◌++◌, map, find, length, take, drop, replicate, Option, Some, None, is_some, nat_le, nat_lt, not}
+use Rattle.std.specs.Option.{option_map}
 use Rattle.std.specs.List.{AllPairs}
 use Rattle.cache_ident.specs.declared.idents.Ident.{Ident}
 use Rattle.cache_ident.specs.declared.names.Vpn.{Vpn}
@@ -11,7 +12,8 @@ use Rattle.rv32_exec.specs.Pages.{Page, put_bytes}
 use Rattle.flat_state.specs.Translation.{wants}
 
 -- A copied page: its number, the frame that it was copied from, what may be done with it, the row that it was copied
--- through, its bytes as they were copied and as they are now, and whether an access and whether a store went through it.
+-- through, its bytes as they were copied and as they are now, and whether an access and whether a store went through it. And
+-- the place of a journal as of which the frame had the bytes that were copied, where they carry one.
 pub record View : Type 0 where
   pub vpn : Vpn
   pub frame : Frame
@@ -21,6 +23,7 @@ pub record View : Type 0 where
   pub present : List ℕ
   pub touched : Bool
   pub written : Bool
+  pub taken : Option ℕ
 
 -- a view as a page of a space
 abbrev pub page_of : View → Page
@@ -46,9 +49,10 @@ pub record Copied : Type 0 where
   pub flags : Flags
   pub row : Ident
   pub first : List ℕ
+  pub taken : Option ℕ
 
 abbrev pub copied : View → Copied
-copied v = record { vpn = v.vpn; frame = v.frame; flags = v.flags; row = v.row; first = v.first }
+copied v = record { vpn = v.vpn; frame = v.frame; flags = v.flags; row = v.row; first = v.first; taken = v.taken }
 
 abbrev pub copies_of : List View → List Copied
 copies_of vs = map copied vs
@@ -71,8 +75,8 @@ present_in None bytes = bytes
 present_in (Some v) bytes = v.present
 
 -- a new view beside others
-abbrev pub filled : List View → Vpn → Frame → Flags → Ident → List ℕ → View
-filled vs vpn frame flags row bytes =
+abbrev pub filled : List View → Vpn → Frame → Flags → Ident → List ℕ → Option ℕ → View
+filled vs vpn frame flags row bytes taken =
     record {
       vpn = vpn;
       frame = frame;
@@ -82,7 +86,65 @@ filled vs vpn frame flags row bytes =
       present = present_in (find (is_touched_of frame) vs) bytes;
       touched = false;
       written = false;
+      taken = taken;
     }
+
+-- ---- what is kept
+
+-- a frame's bytes, with the place of a journal as of which it has them
+pub record Dated : Type 0 where
+  pub frame : Frame
+  pub bytes : List ℕ
+  pub place : ℕ
+
+-- the bytes that were copied, where they carry a place
+abbrev pub dated : View → Option Dated
+dated v = option_map (λ place. record { frame = v.frame; bytes = v.first; place = place }) v.taken
+
+-- The views, and for each place behind them what is kept there of an earlier view: the bytes that were copied, where they
+-- carry a place.
+pub record Table : Type 0 where
+  pub views : List View
+  pub kept : List (Option Dated)
+
+-- of so many slots the first are views
+abbrev pub table_of : ℕ → List View → Table
+table_of count slots = record { views = take count slots; kept = map dated (drop count slots) }
+
+-- what no access changes of a table
+abbrev pub rest_of : Table → List Copied × List (Option Dated)
+rest_of t = (copies_of t.views, t.kept)
+
+-- all the bytes that carry a place: those of views, and those that are kept
+abbrev pub all_dated : List View → List (Option Dated) → List (Option Dated)
+all_dated vs kept = map dated vs ++ kept
+
+-- no view, and nothing kept
+abbrev pub nothing_kept : List (Option Dated)
+nothing_kept = replicate 8 None
+
+-- with a view more, in the place behind the others. What was kept there is gone
+abbrev pub with_filled : Table → View → Table
+with_filled t v = record { views = t.views ++ v ∷ []; kept = drop 1 t.kept }
+
+abbrev pub next_kept : List (Option Dated) → Option Dated
+next_kept [] = None
+next_kept (o ∷ os) = o
+
+-- the bytes, where they are those of the frame as of the place or a later one
+abbrev pub if_since : Frame → ℕ → Option Dated → Option Dated
+if_since frame place None = None
+if_since frame place (Some d) = if (d.frame.0 == frame.0) && nat_le place d.place then Some d else None
+
+-- what is kept of the frame in the place behind the views, as of that place of a journal or a later one. Nothing, where a view
+-- of the frame was touched
+abbrev pub kept_since : List View → List (Option Dated) → Frame → ℕ → Option Dated
+kept_since vs kept frame place = if is_some (find (is_touched_of frame) vs) then None else if_since frame place (next_kept kept)
+
+-- with a view more of what is kept, if it is
+abbrev pub refilled : Table → Vpn → Frame → Flags → Ident → Option Dated → Table
+refilled t vpn frame flags row None = t
+refilled t vpn frame flags row (Some d) = with_filled t (filled t.views vpn frame flags row d.bytes (Some d.place))
 
 -- no page has two views
 abbrev pub HaveOneViewAPage : List View → Type 0

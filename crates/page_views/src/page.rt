@@ -1,9 +1,11 @@
 //! One copied page.
 
-ghost use Rattle.std.specs.Prelude.{◌≡◌, ◌+◌, ◌<◌, if◌then◌else◌, length, false, true};
+ghost use Rattle.std.specs.Prelude.{◌≡◌, ◌+◌, ◌<◌, if◌then◌else◌, length, true};
+ghost use Rattle.std.specs.Bool.{OnTrue};
 ghost use Rattle.rv32_exec.specs.Pages.{number_at, put_bytes, size_of};
 ghost use Rattle.std.specs.Option.{option_copied};
 ghost use Rattle.page_views.specs.Views.{mark_view, present_in};
+ghost use Rattle.page_views.specs.Origins.{viewed};
 ghost use Rattle.page_views.specs.Ways.{is_marked};
 
 use cache_ident::{Frame, Ident, Vpn};
@@ -12,6 +14,17 @@ use rv32_exec::{Access, Width};
 use std::marker::Model;
 
 pub(crate) const PAGE_BYTES: usize = 4_096;
+
+/// Where a copied page comes from: its number, its frame, and the flags and the identifier of the row that it was copied
+/// through; and the place of a journal as of which the frame had its bytes, where they carry one.
+#[derive(Clone, Copy)]
+pub(crate) struct Origin {
+    pub(crate) vpn: Vpn,
+    pub(crate) frame: Frame,
+    pub(crate) flags: Flags,
+    pub(crate) row: Ident,
+    pub(crate) taken: Option<u64>,
+}
 
 /// A copied page of 4,096 bytes, and what steps did to it.
 ///
@@ -22,10 +35,7 @@ pub struct PageView {
     // They come first, so that a word is aligned.
     present: [u8; PAGE_BYTES],
     first: [u8; PAGE_BYTES],
-    vpn: Vpn,
-    frame: Frame,
-    flags: Flags,
-    row: Ident,
+    origin: Origin,
     touched: bool,
     written: bool,
     // Whether the first contents are kept apart. Where they aren't, the present ones are still these.
@@ -38,19 +48,25 @@ impl Model for PageView {
 
     ghost Value = { View };
 
-    ghost view = { λ v. record { vpn = v.vpn; frame = v.frame; flags = v.flags; row = v.row; first = if v.apart then v.first else v.present; present = v.present; touched = v.touched; written = v.written } };
+    ghost view = { λ v. record { vpn = v.origin.vpn; frame = v.origin.frame; flags = v.origin.flags; row = v.origin.row; first = if v.apart then v.first else v.present; present = v.present; touched = v.touched; written = v.written; taken = v.origin.taken } };
 }
 
 impl PageView {
     // A view of zeros, which nothing was copied to yet.
-    pub(crate) fn empty() -> PageView {
-        PageView {
-            present: [0; PAGE_BYTES],
-            first: [0; PAGE_BYTES],
+    pub(crate) fn empty() -> PageView
+        ensures { result.taken ≡ None }
+    {
+        let origin = Origin {
             vpn: Vpn(0),
             frame: Frame(0),
             flags: Flags::default(),
             row: Ident::default(),
+            taken: None,
+        };
+        PageView {
+            present: [0; PAGE_BYTES],
+            first: [0; PAGE_BYTES],
+            origin,
             touched: false,
             written: false,
             apart: false,
@@ -62,7 +78,7 @@ impl PageView {
     pub fn vpn(&self) -> Vpn
         ensures { result ≡ self.now.vpn }
     {
-        self.vpn
+        self.origin.vpn
     }
 
     /// The frame that was copied.
@@ -70,7 +86,7 @@ impl PageView {
     pub fn frame(&self) -> Frame
         ensures { result ≡ self.now.frame }
     {
-        self.frame
+        self.origin.frame
     }
 
     /// The flags of the row that it was copied through.
@@ -78,14 +94,14 @@ impl PageView {
     pub fn flags(&self) -> Flags
         ensures { result ≡ self.now.flags }
     {
-        self.flags
+        self.origin.flags
     }
 
     /// The identifier of the row that it was copied through.
     pub fn row(&self) -> Ident
         ensures { result ≡ self.now.row }
     {
-        self.row
+        self.origin.row
     }
 
     /// The bytes as they were copied.
@@ -98,6 +114,22 @@ impl PageView {
         } else {
             &self.present
         }
+    }
+
+    /// The place of a journal as of which the frame had the bytes that were copied, where they carry one.
+    #[inline]
+    pub fn taken(&self) -> Option<u64>
+        ensures { result ≡ self.now.taken }
+    {
+        self.origin.taken
+    }
+
+    /// Whether nothing was ever stored to it, and so its bytes are those that were copied. Constant time.
+    #[inline]
+    pub fn is_as_copied(&self) -> bool
+        ensures { OnTrue result (self.now.present ≡ self.now.first) }
+    {
+        !self.apart
     }
 
     /// The bytes as they are now.
@@ -181,25 +213,12 @@ impl PageView {
         }
     }
 
-    // Makes it an untouched view of that page, copied from `bytes`. It holds what `touched` holds, if there is one.
-    pub(crate) fn copy(
-        &mut self,
-        vpn: Vpn,
-        frame: Frame,
-        flags: Flags,
-        row: Ident,
-        bytes: &[u8],
-        touched: Option<&PageView>,
-    )
+    // Makes it an untouched view of a page, copied from `bytes`. It holds what `touched` holds, if there is one.
+    pub(crate) fn copy(&mut self, origin: Origin, bytes: &[u8], touched: Option<&PageView>)
         requires { length bytes.now ≡ 4096 }
-        ensures { self.new ≡ record { vpn = vpn; frame = frame; flags = flags; row = row; first = bytes.now; present = present_in (option_copied touched.entry) bytes.now; touched = false; written = false } }
+        ensures { self.new ≡ viewed origin bytes.now (present_in (option_copied touched.entry) bytes.now) }
     {
-        self.vpn = vpn;
-        self.frame = frame;
-        self.flags = flags;
-        self.row = row;
-        self.touched = false;
-        self.written = false;
+        self.renew(origin);
         match touched {
             Some(view) => {
                 self.first.copy_from_slice(bytes);
@@ -211,6 +230,33 @@ impl PageView {
                 self.apart = false;
             }
         }
+    }
+
+    // Makes it an untouched view of a page, which holds the bytes that it was copied from.
+    pub(crate) fn recall(&mut self, origin: Origin)
+        ensures { self.new ≡ viewed origin self.old.first self.old.first }
+    {
+        if self.apart {
+            self.present.copy_from_slice(&self.first);
+            self.apart = false;
+        }
+        self.renew(origin);
+    }
+
+    // Makes it an untouched view of a page, with the contents that it has.
+    fn renew(&mut self, origin: Origin)
+        ensures { self.new ≡ viewed origin self.old.first self.old.present }
+    {
+        self.origin = origin;
+        self.touched = false;
+        self.written = false;
+    }
+
+    // Its bytes carry no place any more.
+    pub(crate) fn forget(&mut self)
+        ensures { self.new ≡ record self.old { taken = None } }
+    {
+        self.origin.taken = None;
     }
 }
 

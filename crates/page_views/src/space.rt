@@ -1,9 +1,9 @@
 //! Copied pages as a space for steps.
 
-ghost use Rattle.std.specs.Prelude.{◌≡◌, ◌+◌, ◌%◌, ◌<◌, List};
+ghost use Rattle.std.specs.Prelude.{◌≡◌, ◌+◌, ◌%◌, ◌<◌, List, Option};
 ghost use Rattle.std.specs.Result.{result_ok};
 ghost use Rattle.rv32_exec.specs.Pages.{read_through, size_of};
-ghost use Rattle.page_views.specs.Views.{copies_of, pages_of_views, Copied};
+ghost use Rattle.page_views.specs.Views.{pages_of_views, rest_of, Copied, Dated};
 
 use crate::table::PageViews;
 use cache_ident::Vpn;
@@ -25,7 +25,7 @@ impl PageViews {
     #[inline]
     fn read(&self, va: u32, access: Access, width: Width) -> Result<u32, Hole>
         requires { va % size_of width ≡ 0 }
-        ensures { result_ok result ≡ read_through access (pages_of_views self.now) va width }
+        ensures { result_ok result ≡ read_through access (pages_of_views self.now.views) va width }
     {
         match self.through(va, access) {
             Some(view) => Ok(view.number(place(va, width), width)),
@@ -35,11 +35,11 @@ impl PageViews {
 }
 
 impl Space for PageViews {
-    ghost pages = { pages_of_views };
+    ghost pages = { λ table. pages_of_views table.views };
 
-    ghost Kept = { List Copied };
+    ghost Kept = { List Copied × List (Option Dated) };
 
-    ghost kept = { copies_of };
+    ghost kept = { rest_of };
 
     #[inline]
     fn fetch(&self, va: u32) -> Result<u32, Hole> {

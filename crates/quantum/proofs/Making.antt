@@ -31,12 +31,12 @@ use Rattle.flat_state.proofs.Finding.{find-contains, find-passes}
 use Rattle.std.proofs.lemmas.Option.{same_Some}
 use Rattle.flat_state.proofs.Places.{get-set_same}
 use Rattle.flat_laws.proofs.Members.{Contains-cases, Contains-here, Contains-behind, Contains-filter, Contains-map, Contains-from_map, contains_nothing}
-use Rattle.page_views.specs.Views.{View, Copied, pages_of_views, is_of_page, is_touched_of, can_fill, present_in, filled}
+use Rattle.page_views.specs.Views.{can_fill, filled, is_of_page, is_touched_of, pages_of_views, present_in, refilled, Copied, Dated, Table, View}
 use Rattle.page_views.proofs.Tables.{no_view, one_filled, one_mapped}
 use Rattle.quantum.specs.declared.paused.Paused.{Paused}
 use Rattle.quantum.specs.declared.paused.Paused.TheVariants as pauses
-use Rattle.quantum.specs.Ahead.{Ahead, outcome, one_ahead, pause_after, pause_before, pause_if_missed, signals_next, standing, views_with}
-use Rattle.quantum.specs.LocalRun.{touched_views, CouldRun, GoesThrough, Shows, state_after, status_by}
+use Rattle.quantum.specs.Ahead.{Ahead, again_with, more_with, outcome, one_ahead, pause_after, pause_before, pause_if_missed, signals_next, standing, views_with}
+use Rattle.quantum.specs.LocalRun.{touched_views, CouldRun, HaveOneContents, GoesThrough, Shows, state_after, status_by}
 use Rattle.quantum.specs.Made.{put_on, has_mark, has_store_mark, AreOf, changed_memory, changed_rows, changed_state, IsView, IsMade}
 use Rattle.quantum.proofs.StepsIn.{step_acts}
 use Rattle.quantum.proofs.ViewPages.{after_changes, views_changed}
@@ -52,8 +52,8 @@ set_same [] n t here = absurd (cc)
 set_same (u ∷ threads) zero t here = ap (λ (v : FlatThread). v ∷ threads) (sym (same_Some u t here))
 set_same (u ∷ threads) (suc n) t here = ap (λ (ts : List FlatThread). u ∷ ts) (set_same threads n t here)
 
-pub made_begun : (c : Context) → c.pc % 4 ≡ 0 → IsMade (record { first = c; context = c; views = []; steps = 0; paused = None })
-made_begun c aligned = record {
+pub made_begun : (c : Context) (kept : List (Option Dated)) → c.pc % 4 ≡ 0 → IsMade (record { first = c; context = c; views = []; kept = kept; steps = 0; paused = None })
+made_begun c kept aligned = record {
   aligned = aligned;
   one_a_page = λ i j d below within. absurd (omega (arith, within));
   changes = [];
@@ -122,9 +122,9 @@ none_found {X = X} p (y ∷ xs) none x there = by (p y) refl none (Contains-case
 pub true_false : {P : Type 0} → true ≡ false → P
 true_false e = absurd (cc)
 
-module _ (vs : List View) (cs : List Change) (of : AreOf vs cs) (views : (v : View) → Contains vs v → IsView vs cs v) (vpn : Vpn) (frame : Frame) (flags : Flags) (row : Ident) (bytes : List ℕ) (room : can_fill vs vpn ≡ true) where
+module _ (vs : List View) (cs : List Change) (of : AreOf vs cs) (views : (v : View) → Contains vs v → IsView vs cs v) (vpn : Vpn) (frame : Frame) (flags : Flags) (row : Ident) (bytes : List ℕ) (taken : Option ℕ) (room : can_fill vs vpn ≡ true) where
   abbrev new : View
-  new = filled vs vpn frame flags row bytes
+  new = filled vs vpn frame flags row bytes taken
 
   other_page : (v : View) → Contains vs v → v.vpn.0 ≢ vpn.0
   other_page v there = λ same. true_false (sym (eq-eqb v.vpn.0 vpn.0 same) ∙ none_found (is_of_page vpn) vs (no_view vs vpn room) v there)
@@ -170,21 +170,45 @@ could_before a b s t first grows could = record {
   views = shows_before a.views b.views grows s t.space could.views;
 }
 
-pub made_filled : (a : Ahead) (vpn : Vpn) (frame : Frame) (flags : Flags) (row : Ident) (bytes : List ℕ) → IsMade a → can_fill a.views vpn ≡ true → IsMade (record a { views = a.views ++ filled a.views vpn frame flags row bytes ∷ [] })
-made_filled a vpn frame flags row bytes made room =
-    let new : View = filled a.views vpn frame flags row bytes in
+pub made_filled : (a : Ahead) (vpn : Vpn) (frame : Frame) (flags : Flags) (row : Ident) (bytes : List ℕ) (taken : Option ℕ) → IsMade a → can_fill a.views vpn ≡ true
+    → IsMade (more_with (filled a.views vpn frame flags row bytes taken) a)
+made_filled a vpn frame flags row bytes taken made room =
+    let new : View = filled a.views vpn frame flags row bytes taken in
     let grows = grows_by a.views new in
-    let b : Ahead = record a { views = a.views ++ new ∷ [] } in
+    let b : Ahead = more_with new a in
     record {
       aligned = made.aligned;
       one_a_page = one_filled a.views new room made.one_a_page;
       changes = made.changes;
       of = of_later a.views (a.views ++ new ∷ []) grows made.changes made.of;
-      views = views_more a.views made.changes made.of made.views vpn frame flags row bytes room;
+      views = views_more a.views made.changes made.of made.views vpn frame flags row bytes taken room;
       each = λ s n t formed here could k below.
           goes_later a.views (a.views ++ new ∷ []) grows (state_after s n k) n t.space (made.each s n t formed here (could_before a b s t refl grows could) k below);
       ahead = λ s n t formed here could. made.ahead s n t formed here (could_before a b s t refl grows could);
     }
+
+-- with a view more of what was kept, if it was
+pub made_again : (a : Ahead) (vpn : Vpn) (frame : Frame) (flags : Flags) (row : Ident) (o : Option Dated) → IsMade a → can_fill a.views vpn ≡ true → IsMade (again_with vpn frame flags row o a)
+made_again a vpn frame flags row None made room = made
+made_again a vpn frame flags row (Some d) made room = made_filled a vpn frame flags row d.bytes (Some d.place) made room
+
+-- .. as the table has it
+pub again_so : (a : Ahead) (vpn : Vpn) (frame : Frame) (flags : Flags) (row : Ident) (o : Option Dated) → let t : Table = record { views = a.views; kept = a.kept } in
+    record a { views = (refilled t vpn frame flags row o).views; kept = (refilled t vpn frame flags row o).kept } ≡ again_with vpn frame flags row o a
+again_so a vpn frame flags row None = refl
+again_so a vpn frame flags row (Some d) = refl
+
+-- the touched views of a frame that were copied alike hold the same: the first contents with all that was put there
+pub one_contents : (a : Ahead) → IsMade a → HaveOneContents a.views
+one_contents a made u v u_there v_there same alike =
+    let frames : u.frame.0 ≡ v.frame.0 = ap (λ (f : Frame). f.0) same in
+    let u_is = made.views u (Contains-filter (λ (w : View). w.touched) a.views u u_there).0 in
+    let v_is = made.views v (Contains-filter (λ (w : View). w.touched) a.views v v_there).0 in
+    let as_v = λ (w : View) (there : Contains (touched_views a.views) w) (at : w.frame.0 ≡ v.frame.0). alike w there (ap (λ (n : ℕ). let f : Frame = record { 0 = n } in f) at) in
+    let first : u.first ≡ v.first = alike u u_there same in
+    u_is.present (λ w there at. as_v w there (at ∙ frames) ∙ sym first)
+    ∙ ap₂ (λ (f : ℕ) (b : List ℕ). put_on made.changes f b) frames first
+    ∙ sym (v_is.present as_v)
 
 -- ---- with a step more
 
@@ -346,17 +370,18 @@ not_a_miss (steps.Miss va access) other = absurd (other va access refl)
 pub made_so : (a : Ahead) → IsMade a → a.paused ≡ None → (us : List View) → us ≡ a.views → signals_next a ≡ false
     → (stepped : Stepped) → ((va : ℕ) (access : Access) → stepped ≡ steps.Miss va access → ⊥) → stepped ≡ (after_step a.context (pages_of_views us)).answer
     → (c : Context) → c ≡ (after_step a.context (pages_of_views us)).context
-    → (vs : List View) → vs ≡ views_with us (after_step a.context (pages_of_views us)).pages
+    → (vs : List View) (kept : List (Option Dated)) → vs ≡ views_with us (after_step a.context (pages_of_views us)).pages → kept ≡ a.kept
     → (p : Option Paused) → p ≡ pause_after stepped
-    → IsMade (record { first = a.first; context = c; views = vs; steps = a.steps + 1; paused = p })
-made_so a made free us same quiet stepped other answer c same-context vs same-views p same-pause =
+    → IsMade (record { first = a.first; context = c; views = vs; kept = kept; steps = a.steps + 1; paused = p })
+made_so a made free us same quiet stepped other answer c same-context vs kept same-views same-kept p same-pause =
     let after = λ (ws : List View). after_step a.context (pages_of_views ws) in
     let is : stepped ≡ (outcome a).answer = answer ∙ ap (λ (ws : List View). (after ws).answer) same in
     let went : is_miss (outcome a).answer ≡ false = subst (λ (s : Stepped). is_miss s ≡ false) is (not_a_miss stepped other) in
     let context : c ≡ (outcome a).context = same-context ∙ ap (λ (ws : List View). (after ws).context) same in
     let views : vs ≡ views_with a.views (outcome a).pages = same-views ∙ ap (λ (ws : List View). views_with ws (after ws).pages) same in
     subst IsMade
-    (sym (ap₂ (λ (d : Context) (ws : List View). record { first = a.first; context = d; views = ws; steps = a.steps + 1; paused = p }) context views
+    (sym (ap₂ (λ (d : Context) (ws : List View). record { first = a.first; context = d; views = ws; kept = kept; steps = a.steps + 1; paused = p }) context views
+    ∙ ap (λ (ks : List (Option Dated)). record { first = a.first; context = (outcome a).context; views = views_with a.views (outcome a).pages; kept = ks; steps = a.steps + 1; paused = p }) same-kept
     ∙ ap (λ (o : Option Paused). record (one_ahead a) { paused = o }) (same-pause ∙ ap pause_after is)))
     (made_ahead a made (ap standing free) quiet went)
 

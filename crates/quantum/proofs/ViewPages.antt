@@ -1,5 +1,5 @@
 -- Views, by their pages: what changes of the pages are in the views.
-use Rattle.std.proofs.Common.{◌≡◌, ℕ, Bool, true, false, List, [], ◌∷◌, map, refl, ap, ap₂, sym, ◌∙◌}
+use Rattle.std.proofs.Common.{◌≡◌, ℕ, Bool, true, false, List, [], ◌∷◌, map, Option, refl, ap, ap₂, sym, ◌∙◌}
 use Rattle.std.specs.Prelude.{if◌then◌else◌, ◌==◌, ◌||◌, ◌&&◌}
 use Rattle.std.proofs.lemmas.Bool.{or_right}
 use Rattle.std.proofs.Math.Bool.{or-false, or_assoc}
@@ -7,13 +7,13 @@ use Rattle.rv32_exec.specs.declared.statuses.Access.{Access}
 use Rattle.rv32_exec.specs.declared.statuses.Access.TheVariants.{Fetch, Read, Write}
 use Rattle.rv32_exec.specs.Pages.{Page, put_bytes, mark, is_write}
 use Rattle.rv32_exec.specs.Changes.{Change, Marked, Put, changed, all_changed}
-use Rattle.page_views.specs.Views.{View, Copied, page_of, pages_of_views, copied, copies_of}
+use Rattle.page_views.specs.Views.{copied, copies_of, page_of, pages_of_views, rest_of, Copied, Dated, Table, View}
 use Rattle.quantum.specs.Ahead.{views_with}
 use Rattle.quantum.specs.Made.{put_on, has_mark, has_store_mark}
 
 -- a view that is copied from where the other is, with the page of that
 view_from : (v w : View) → copied w ≡ copied v → record v { present = (page_of w).bytes; touched = (page_of w).touched; written = (page_of w).written } ≡ w
-view_from v w same = ap (λ (c : Copied). record { vpn = c.vpn; frame = c.frame; flags = c.flags; row = c.row; first = c.first; present = w.present; touched = w.touched; written = w.written }) (sym same)
+view_from v w same = ap (λ (c : Copied). record { vpn = c.vpn; frame = c.frame; flags = c.flags; row = c.row; first = c.first; present = w.present; touched = w.touched; written = w.written; taken = c.taken }) (sym same)
 
 head_same : (c d : Copied) (cs ds : List Copied) → c ∷ cs ≡ d ∷ ds → c ≡ d
 head_same c d cs ds e = cc
@@ -31,6 +31,17 @@ views_from (v ∷ vs) (w ∷ ws) same =
 
 pub same_views : (vs ws : List View) → copies_of ws ≡ copies_of vs → pages_of_views ws ≡ pages_of_views vs → ws ≡ vs
 same_views vs ws copies pages = sym (views_from vs ws copies) ∙ (ap (views_with vs) pages ∙ views_from vs vs refl)
+
+-- .. and so is a table of them
+pub table_from : (t u : Table) → rest_of u ≡ rest_of t → record t { views = views_with t.views (pages_of_views u.views) } ≡ u
+table_from t u same =
+    ap₂ (λ (vs : List View) (ks : List (Option Dated)). let x : Table = record { views = vs; kept = ks } in x) (views_from t.views u.views (ap (λ (p : List Copied × List (Option Dated)). p.0) same))
+    (sym (ap (λ (p : List Copied × List (Option Dated)). p.1) same))
+
+pub same_table : (t u : Table) → rest_of u ≡ rest_of t → pages_of_views u.views ≡ pages_of_views t.views → u ≡ t
+same_table t u copies pages =
+    ap₂ (λ (vs : List View) (ks : List (Option Dated)). let x : Table = record { views = vs; kept = ks } in x) (same_views t.views u.views (ap (λ (p : List Copied × List (Option Dated)). p.0) copies) pages)
+    (ap (λ (p : List Copied × List (Option Dated)). p.1) copies)
 
 -- a page, and a view, after changes
 abbrev pub page_after : List Change → Page → Page

@@ -1,6 +1,10 @@
 -- A run ahead: what it has come to, what a step makes of it, and where it pauses.
-use Rattle.std.specs.Prelude.{◌≡◌, ℕ, zero, suc, ◌+◌, ◌%◌, ◌<◌, ◌&&◌, Bool, false, if◌then◌else◌, nat_le, List, [], ◌∷◌, replicate, Option, Some, None}
+use Rattle.std.specs.Prelude.{◌≡◌, ℕ, zero, suc, ◌+◌, ◌%◌, ◌<◌, ◌&&◌, Bool, false, if◌then◌else◌, nat_le, List, [], ◌∷◌, ◌++◌, drop, replicate, Option, Some, None}
 use Rattle.std.specs.Option.{option_or}
+use Rattle.cache_ident.specs.declared.idents.Ident.{Ident}
+use Rattle.cache_ident.specs.declared.names.Frame.{Frame}
+use Rattle.cache_ident.specs.declared.names.Vpn.{Vpn}
+use Rattle.phys_groups.specs.declared.rows.Flags.{Flags}
 use Rattle.signal_pages.specs.Signals.{is_signalling}
 use Rattle.rv32_exec.specs.declared.contexts.Context.{Context}
 use Rattle.rv32_exec.specs.declared.statuses.Access.TheVariants.{Write}
@@ -12,29 +16,44 @@ use Rattle.rv32_exec.specs.declared.steps.Stepped.TheVariants as steps
 use Rattle.rv32_exec.specs.Pages.{Page}
 use Rattle.rv32_exec.specs.Steps.{After, after_step}
 use Rattle.flat_state.specs.Signals.{next_action}
-use Rattle.page_views.specs.Views.{View, pages_of_views, view_through}
+use Rattle.page_views.specs.Views.{all_dated, filled, nothing_kept, pages_of_views, view_through, Dated, View}
 use Rattle.quantum.specs.declared.paused.Paused.{Paused}
 use Rattle.quantum.specs.declared.paused.Paused.TheVariants.{Limit, Call, Stopped, Miss, Signal}
 
--- what a contract sees of a run ahead: the context that it began with and the one now, the views, how many steps it took,
--- and the last answer
+-- what a contract sees of a run ahead: the context that it began with and the one now, the views, what is kept for each place
+-- behind them, how many steps it took, and the last answer
 pub record Ahead : Type 0 where
   pub first : Context
   pub context : Context
   pub views : List View
+  pub kept : List (Option Dated)
   pub steps : ℕ
   pub paused : Option Paused
 
--- nothing was begun yet: all registers are 0, and so is pc
+-- nothing was begun yet: all registers are 0, and so is pc, and nothing is kept
 abbrev pub unbegun : Ahead
 unbegun =
     record {
       first = record { regs = replicate 32 0; pc = 0 };
       context = record { regs = replicate 32 0; pc = 0 };
       views = [];
+      kept = nothing_kept;
       steps = 0;
       paused = None;
     }
+
+-- a run ahead that begins with a context. What carried a place is kept
+abbrev pub begun : Context → Ahead → Ahead
+begun context a = record { first = context; context = context; views = []; kept = all_dated a.views a.kept; steps = 0; paused = None }
+
+-- with a view more. What was kept in its place is gone
+abbrev pub more_with : View → Ahead → Ahead
+more_with v a = record a { views = a.views ++ v ∷ []; kept = drop 1 a.kept }
+
+-- with a view more of what was kept, if it was
+abbrev pub again_with : Vpn → Frame → Flags → Ident → Option Dated → Ahead → Ahead
+again_with vpn frame flags row None a = a
+again_with vpn frame flags row (Some d) a = more_with (filled a.views vpn frame flags row d.bytes (Some d.place)) a
 
 -- the views, when their pages are these
 abbrev pub views_with : List View → List Page → List View

@@ -26,6 +26,12 @@ use Rattle.quantum.specs.Ahead.{Ahead}
 abbrev pub touched_views : List View → List View
 touched_views vs = filter (λ v. v.touched) vs
 
+-- the touched views of a frame that were copied alike hold the same now
+abbrev pub HaveOneContents : List View → Type 0
+HaveOneContents vs =
+    (u v : View) → Contains (touched_views vs) u → Contains (touched_views vs) v → u.frame ≡ v.frame
+    → ((w : View) → Contains (touched_views vs) w → w.frame ≡ v.frame → w.first ≡ v.first) → u.present ≡ v.present
+
 -- the view is that of a fit row of the space, with its frame and flags, and its frame holds these bytes
 pub record Shows (s : FlatState) (space : SpaceNo) (v : View) (bytes : List ℕ) : Type 0 where
   pub row : Row

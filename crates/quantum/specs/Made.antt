@@ -1,10 +1,8 @@
 -- What a run ahead keeps of its steps: their changes, one after another.
-use Rattle.std.specs.Prelude.{◌≡◌, ℕ, ◌+◌, ◌*◌, ◌%◌, ◌<◌, ◌≤◌, ◌==◌, ◌||◌, ◌&&◌, Bool, true, false, if◌then◌else◌, List, [], ◌∷◌, map, Contains, Some, slice_get}
+use Rattle.std.specs.Prelude.{◌≡◌, ℕ, ◌+◌, ◌*◌, ◌%◌, ◌<◌, ◌≤◌, ◌==◌, ◌||◌, ◌&&◌, Bool, false, if◌then◌else◌, List, [], ◌∷◌, map, Contains, Some, slice_get}
 use Rattle.cache_ident.specs.declared.names.SpaceNo.{SpaceNo}
 use Rattle.phys_groups.specs.declared.rows.Row.{Row}
 use Rattle.phys_groups.specs.Rows.{marked}
-use Rattle.rv32_exec.specs.declared.statuses.Access.{Access}
-use Rattle.rv32_exec.specs.declared.statuses.Access.TheVariants.{Fetch, Read, Write}
 use Rattle.rv32_exec.specs.Pages.{put_bytes, is_write}
 use Rattle.rv32_exec.specs.Changes.{Change, Marked, Put}
 use Rattle.flat_state.specs.declared.records.FlatThread.{FlatThread}

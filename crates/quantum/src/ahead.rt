@@ -1,11 +1,11 @@
 //! Steps of one thread, taken on copied pages.
 
-ghost use Rattle.std.specs.Prelude.{◌≡◌, ◌+◌, ◌%◌, ◌^◌, ◌<◌, ◌∷◌, ◌++◌, [], None, Some, length, IfOk, IsTrue};
-ghost use Rattle.page_views.specs.Views.{can_fill, filled, pages_of_views, HaveOneViewAPage};
+ghost use Rattle.std.specs.Prelude.{◌≡◌, ◌+◌, ◌%◌, ◌^◌, ◌<◌, None, Some, is_some, length, IfOk, IsTrue};
+ghost use Rattle.page_views.specs.Views.{can_fill, filled, kept_since, pages_of_views, HaveOneViewAPage};
 ghost use Rattle.rv32_exec.specs.Steps.{after_step, OnMiss};
 ghost use Rattle.flat_state.specs.Signals.{next_action};
-ghost use Rattle.quantum.specs.Ahead.{advanced, answer_of, pause_after as pause_after_def, pause_before, signals_by, standing as standing_def, unbegun, views_with, HasGone, IsRun};
-ghost use Rattle.quantum.specs.LocalRun.{IsLocalRun};
+ghost use Rattle.quantum.specs.Ahead.{advanced, again_with, answer_of, begun, more_with, pause_after as pause_after_def, pause_before, signals_by, standing as standing_def, unbegun, views_with, HasGone, IsRun};
+ghost use Rattle.quantum.specs.LocalRun.{HaveOneContents, IsLocalRun};
 
 use crate::paused::Paused;
 use cache_ident::{Frame, Ident, NoMemory, Vpn};
@@ -16,7 +16,7 @@ use std::alloc::Global;
 use std::marker::Model;
 
 /// Steps of one thread ahead of its machine, on copies of up to eight pages. A contract sees the context that it began
-/// with, the one now, the views, how many steps there are, and the last answer of `run`.
+/// with, the one now, the views, what is kept of earlier views, how many steps there are, and the last answer of `run`.
 ///
 /// Whatever pages were copied at whatever moments, the steps are those that the thread takes in every state in which it
 /// has the first context and finds the first contents of each view that was touched. No call after `new` takes memory.
@@ -35,20 +35,17 @@ impl Model for Quantum {
 
     ghost Value = { Ahead };
 
-    ghost view = { λ q. record { first = q.first; context = q.context; views = q.views; steps = q.steps; paused = q.paused } };
+    ghost view = { λ q. record { first = q.first; context = q.context; views = q.views.views; kept = q.views.kept; steps = q.steps; paused = q.paused } };
 
-    ghost invariant = { λ q. IsMade (record { first = q.first; context = q.context; views = q.views; steps = q.steps; paused = q.paused }) };
+    ghost invariant = { λ q. IsMade (record { first = q.first; context = q.context; views = q.views.views; kept = q.views.kept; steps = q.steps; paused = q.paused }) };
 }
 
 impl Quantum {
-    /// Begun with registers and pc of 0, without views and steps. The one call that takes memory, some 100 KiB.
+    /// Begun with registers and pc of 0, without views and steps, and nothing kept. The one call that takes memory, some 100 KiB.
     pub fn new(alloc: Global) -> Result<Quantum, NoMemory>
         ensures { IfOk result (λ quantum. quantum ≡ unbegun) }
     {
-        let context = Context {
-            regs: [0; 32],
-            pc: 0,
-        };
+        let context = no_context();
         Ok(Quantum {
             first: context,
             context,
@@ -58,14 +55,26 @@ impl Quantum {
         })
     }
 
-    /// Begins anew with a context, without views and steps.
+    /// Begins anew with a context, without views and steps. What carries a place of a journal is kept.
     pub fn begin(&mut self, context: Context)
         requires { context.pc % 4 ≡ 0 }
-        ensures { self.new ≡ record { first = context; context = context; views = []; steps = 0; paused = None } }
+        ensures { self.new ≡ begun context self.old }
     {
         self.first = context;
         self.context = context;
         self.views.clear();
+        self.steps = 0;
+        self.paused = None;
+    }
+
+    /// Gives up all that there is. It is as a new one, which may be used with another journal.
+    pub fn forget(&mut self)
+        ensures { self.new ≡ unbegun }
+    {
+        let context = no_context();
+        self.first = context;
+        self.context = context;
+        self.views.forget();
         self.steps = 0;
         self.paused = None;
     }
@@ -78,19 +87,48 @@ impl Quantum {
     }
 
     /// Adds an untouched view of a page, copied from `bytes`. Where a view of its frame was touched, it holds what the
-    /// first of these holds now. All else stays.
+    /// first of these holds now. The bytes carry no place, and what was kept in the view's place is gone. All else stays.
     pub fn fill(&mut self, vpn: Vpn, frame: Frame, flags: Flags, row: Ident, bytes: &[u8])
         requires room { IsTrue (can_fill self.old.views vpn) }
         requires whole_page { length bytes.now ≡ 4096 }
-        ensures { self.new ≡ record self.old { views = self.old.views ++ filled self.old.views vpn frame flags row bytes.now ∷ [] } }
+        ensures { self.new ≡ more_with (filled self.old.views vpn frame flags row bytes.now None) self.old }
     {
         self.views.fill(vpn, frame, flags, row, bytes);
+    }
+
+    /// As `fill`, of bytes that the frame has as of a place of a journal, which they carry.
+    pub fn fill_as_of(
+        &mut self,
+        vpn: Vpn,
+        frame: Frame,
+        flags: Flags,
+        row: Ident,
+        bytes: &[u8],
+        place: u64,
+    )
+        requires room { IsTrue (can_fill self.old.views vpn) }
+        requires whole_page { length bytes.now ≡ 4096 }
+        ensures { self.new ≡ more_with (filled self.old.views vpn frame flags row bytes.now (Some place)) self.old }
+    {
+        self.views.fill_as_of(vpn, frame, flags, row, bytes, place);
+    }
+
+    /// Adds an untouched view of a page, where its place keeps the bytes of the frame as of the place `since` of a journal, or
+    /// a later one, and no view of the frame was touched; and answers whether it did. So the pages that are asked for in the
+    /// same order each time aren't copied again.
+    pub fn refill(&mut self, vpn: Vpn, frame: Frame, flags: Flags, row: Ident, since: u64) -> bool
+        requires room { IsTrue (can_fill self.old.views vpn) }
+        ensures answer { result ≡ is_some (kept_since self.old.views self.old.kept frame since) }
+        ensures views { self.new ≡ again_with vpn frame flags row (kept_since self.old.views self.old.kept frame since) self.old }
+    {
+        self.views.refill(vpn, frame, flags, row, since)
     }
 
     /// The views in the order of their filling.
     pub fn views(&self) -> &[PageView]
         ensures views { result.now ≡ self.now.views }
         ensures one_a_page { HaveOneViewAPage self.now.views }
+        ensures one_contents { HaveOneContents self.now.views }
     {
         self.views.as_slice()
     }
@@ -177,6 +215,15 @@ impl Quantum {
     }
 }
 
+fn no_context() -> Context
+    ensures { result ≡ unbegun.context }
+{
+    Context {
+        regs: [0; 32],
+        pc: 0,
+    }
+}
+
 // A pause that stands, whatever is asked for.
 fn standing(paused: Option<Paused>) -> Option<Paused>
     ensures { result ≡ standing_def paused }
@@ -205,9 +252,9 @@ fn pause_after(stepped: Stepped) -> Option<Paused>
 fn take(context: &mut Context, views: &mut PageViews) -> Stepped
     requires { context.old.pc % 4 ≡ 0 }
     ensures aligned { context.new.pc % 4 ≡ 0 }
-    ensures context { context.new ≡ (after_step context.old (pages_of_views views.old)).context }
-    ensures views { views.new ≡ views_with views.old (after_step context.old (pages_of_views views.old)).pages }
-    ensures answer { result ≡ (after_step context.old (pages_of_views views.old)).answer }
+    ensures context { context.new ≡ (after_step context.old (pages_of_views views.old.views)).context }
+    ensures views { views.new ≡ record views.old { views = views_with views.old.views (after_step context.old (pages_of_views views.old.views)).pages } }
+    ensures answer { result ≡ (after_step context.old (pages_of_views views.old.views)).answer }
     ensures missed { OnMiss result ((context.new ≡ context.old) × (views.new ≡ views.old)) }
 {
     step(context, views)
@@ -217,7 +264,7 @@ fn take(context: &mut Context, views: &mut PageViews) -> Stepped
 #[inline]
 fn signals_next(context: &Context, views: &mut PageViews) -> bool
     requires { context.now.pc % 4 ≡ 0 }
-    ensures answer { result ≡ signals_by views.old (next_action context.now (pages_of_views views.old)) }
+    ensures answer { result ≡ signals_by views.old.views (next_action context.now (pages_of_views views.old.views)) }
     ensures views { views.new ≡ views.old }
 {
     if !views.has_message() {
@@ -234,7 +281,7 @@ fn signals_next(context: &Context, views: &mut PageViews) -> bool
 
 // Whether an action is a store that signals.
 fn signals(views: &PageViews, action: Action) -> bool
-    ensures { result ≡ signals_by views.now (Some action) }
+    ensures { result ≡ signals_by views.now.views (Some action) }
 {
     match action {
         Action::Store {

@@ -1,5 +1,15 @@
+use Rattle.board_commits.proofs.KeptLaws.{kept_begun, kept_stays, kept_unbegun}
 use Rattle.board_commits.proofs.TicketLaws.{views_stay}
 use Rattle.board_commits.proofs.laws.what_is_of_a_ticket_stays_so.Goals as goal
 
-pub returns : goal.returns
-returns c = λ j es thread views are. views_stay j es thread views are
+pub returns-clause-views : goal.returns-clause-views
+returns-clause-views c = λ j es thread a are. views_stay j es thread a are
+
+pub returns-clause-kept : goal.returns-clause-kept
+returns-clause-kept c = λ j es a kept. kept_stays j es a kept
+
+pub returns-clause-begun : goal.returns-clause-begun
+returns-clause-begun c = λ j context a kept. kept_begun j context a kept
+
+pub returns-clause-new : goal.returns-clause-new
+returns-clause-new c = λ j. kept_unbegun j

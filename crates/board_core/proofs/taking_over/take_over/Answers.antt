@@ -2,13 +2,17 @@
 use Rattle.std.proofs.Common.{◌≡◌, ℕ, ◌%◌, List, Contains, refl, ap, sym, ◌∙◌, subst}
 use Rattle.std.specs.Prelude.{slice_set}
 use Rattle.std.proofs.lemmas.Option.{slice_get_within}
+use Rattle.cache_ident.specs.declared.names.Frame.{Frame}
+use Rattle.phys_groups.specs.Memory.{page_at}
 use Rattle.rv32_exec.specs.declared.contexts.Context.{Context}
 use Rattle.flat_state.specs.declared.records.FlatThread.{FlatThread}
 use Rattle.flat_state.specs.State.{FlatState}
 use Rattle.page_views.specs.Views.{View}
-use Rattle.cached_machine.specs.quantum.specs.LocalRun.{committed, status_by, touched_views}
+use Rattle.cached_machine.specs.quantum.specs.Ahead.{Ahead}
+use Rattle.cached_machine.specs.quantum.specs.LocalRun.{committed, status_by, touched_views, CouldRun}
 use Rattle.cached_machine.specs.shown_state.specs.Shown.{flat_thread}
-use Rattle.cached_machine.specs.Cached.{state_of}
+use Rattle.cached_machine.specs.Cached.{state_of, Cached}
+use Rattle.board_core.specs.Growth.{AreAsCopied, HoldAlike}
 use Rattle.board_core.specs.Stamps.{AreStamped}
 use Rattle.board_core.proofs.ClearedLaws.{context_aligned}
 use Rattle.board_core.proofs.CommittedLaws.{here_then, taken_over, views_in_memory}
@@ -20,6 +24,23 @@ take_views-requires-clause-frames c = λ v within.
     let t = flat_thread c.thread_at.result.now in
     views_in_memory c.args.machine.now t c.args.quantum.now c.holds.ensures (c.requires.could t c.thread_at.ensures.thread) v
     (subst (λ (vs : List View). Contains (touched_views vs) v) c.views.ensures.views within)
+
+-- each touched view's frame holds what was copied of it
+found : (m : Cached) (t : FlatThread) (a : Ahead) → CouldRun (state_of m) t a → AreAsCopied m.memory (touched_views a.views)
+found m t a could v there = ap (λ (x : List ℕ). page_at x v.frame) (sym (memory_shown m.machine m.memory m.held.contents)) ∙ (could.views v there).holds
+
+pub take_views-requires-clause-found : goal.take_views-requires-clause-found
+take_views-requires-clause-found c =
+    let t = flat_thread c.thread_at.result.now in
+    subst (λ (vs : List View). AreAsCopied c.args.machine.now.memory (touched_views vs)) (sym c.views.ensures.views)
+    (found c.args.machine.now t c.args.quantum.now (c.requires.could t c.thread_at.ensures.thread))
+
+pub take_views-requires-clause-alike : goal.take_views-requires-clause-alike
+take_views-requires-clause-alike c =
+    let t = flat_thread c.thread_at.result.now in
+    let are = found c.args.machine.now t c.args.quantum.now (c.requires.could t c.thread_at.ensures.thread) in
+    subst (λ (vs : List View). HoldAlike (touched_views vs)) (sym c.views.ensures.views)
+    (λ u v u_there v_there same. c.views.ensures.one_contents u v u_there v_there same (λ w there of. sym (are w there) ∙ ap (λ (f : Frame). page_at c.args.machine.now.memory f) of ∙ are v v_there))
 
 pub put-requires-clause-there : goal.put-requires-clause-there
 put-requires-clause-there c =

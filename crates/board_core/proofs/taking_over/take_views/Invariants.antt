@@ -1,7 +1,9 @@
-use Rattle.std.proofs.Common.{◌≡◌, take}
+use Rattle.std.proofs.Common.{◌≡◌, take, Contains}
+use Rattle.page_views.specs.Views.{View}
+use Rattle.cached_machine.specs.quantum.specs.LocalRun.{touched_views}
 use Rattle.cached_machine.specs.Aside.{aside_of}
 use Rattle.cached_machine.specs.Cached.{state_of}
-use Rattle.board_core.specs.Growth.{with_all_views}
+use Rattle.board_core.specs.Growth.{with_all_views, IsAsCopiedOrNow}
 use Rattle.board_core.specs.Stamps.{AreStamped}
 use Rattle.board_core.proofs.taking_over.take_views.Given as goal
 
@@ -9,5 +11,6 @@ abbrev pub invariant-loop-view : goal.invariant-loop-view
 invariant-loop-view l = record {
   state : state_of l.machine ≡ with_all_views l.space (state_of l.initial.machine) (take l.view-index l.views);
   rest : aside_of l.machine ≡ aside_of l.initial.machine;
+  held : (v : View) → Contains (touched_views l.views) v → IsAsCopiedOrNow l.machine.memory v;
   stamped : AreStamped l.at l.initial.machine.memory l.initial.stamps.items l.machine.memory l.stamps.items;
 }

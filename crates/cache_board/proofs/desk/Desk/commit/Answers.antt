@@ -7,7 +7,7 @@ pub commit-requires : goal.commit-requires
 commit-requires c =
     let place = c.index_mut.result.now in
     let there = place_there c.args.self.now c.self.inside.places.items c.args.cpu place c.self.view_is c.self.invariant c.requires.processor c.index_mut.ensures.value in
-    record { views = λ ticket is. (c.requires.views c.args.cpu place ticket there is).views }
+    record { views = λ ticket is. ((c.requires.views c.args.cpu place there).its ticket is).views }
 
 pub returns : goal.returns
 returns c =

@@ -10,13 +10,13 @@ use Rattle.quantum.proofs.ahead.Quantum.run.Goals as goal
 pub invariant_of-self : goal.invariant_of-self
 invariant_of-self c =
     let q = c.self.inside in
-    let a : Ahead = record { first = q.first; context = q.context; views = q.views; steps = q.steps; paused = q.paused } in
+    let a : Ahead = record { first = q.first; context = q.context; views = q.views.views; kept = q.views.kept; steps = q.steps; paused = q.paused } in
     made_paused a None c.self.invariant (sym (ready_where q.paused (sym c.standing.ensures ∙ c.in_default.is)))
 
 pub invariant_of-self-2 : goal.invariant_of-self-2
 invariant_of-self-2 c =
     let q = c.self-2.inside in
-    let a : Ahead = record { first = q.first; context = q.context; views = q.views; steps = q.steps; paused = q.paused } in
+    let a : Ahead = record { first = q.first; context = q.context; views = q.views.views; kept = q.views.kept; steps = q.steps; paused = q.paused } in
     let gone = c.go-paused.ensures in
     made_paused a (Some c.go-paused.result) c.self-2.invariant (pause_status c.args.limit a c.go-paused.result (ap (pause_at c.args.limit) (c.self-2.view_is ∙ gone.took) ∙ gone.stands))
 
@@ -27,8 +27,8 @@ pub returns-clause-run : goal.returns-clause-run
 returns-clause-run c =
     let q = c.self.inside in
     let r = c.self-2.inside in
-    let a : Ahead = record { first = q.first; context = q.context; views = q.views; steps = q.steps; paused = q.paused } in
-    let b : Ahead = record { first = r.first; context = r.context; views = r.views; steps = r.steps; paused = r.paused } in
+    let a : Ahead = record { first = q.first; context = q.context; views = q.views.views; kept = q.views.kept; steps = q.steps; paused = q.paused } in
+    let b : Ahead = record { first = r.first; context = r.context; views = r.views.views; kept = r.views.kept; steps = r.steps; paused = r.paused } in
     let free : standing q.paused ≡ None = sym c.standing.ensures ∙ c.in_default.is in
     let gone : HasGone c.args.limit (record a { paused = None }) b c.go-paused.result = subst (λ (now : Ahead). HasGone c.args.limit (record a { paused = None }) now c.go-paused.result) (sym c.self-2.view_is) c.go-paused.ensures in
     rw (← c.self.view_is) (run_going c.args.limit a b c.go-paused.result free gone)
