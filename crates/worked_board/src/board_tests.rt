@@ -65,6 +65,23 @@ fn go_and_come_back(rt: &impl Abort, board: &mut Board) {
     board.clear_marks();
 }
 
+// A thread leaves its cache while a processor has it: then none has it, and its last checkout is still the one that it was.
+fn leave_while_out(
+    rt: &impl Abort,
+    board: &mut Board,
+    first: Ident,
+    space: Ident,
+) -> Result<(), Refused> {
+    assert!(rt; board.checkout(7).is_some());
+    board.unload(7, first, space)?;
+    let Some(thread) = board.flat_thread(PUTS) else {
+        panic!(rt; "the thread is gone")
+    };
+    assert!(rt; thread.on_cpu.is_none());
+    assert_eq!(rt; thread.last, 5);
+    Ok(())
+}
+
 fn run_all(rt: &impl Abort, alloc: Global, board: &mut Board) -> Result<(), Refused> {
     let first = board.seal()?;
     board.reserve(64)?;
@@ -76,7 +93,7 @@ fn run_all(rt: &impl Abort, alloc: Global, board: &mut Board) -> Result<(), Refu
     board.complete(6, first, thread)?;
     go_and_come_back(rt, board);
     confirm_end(board, first, space)?;
-    board.unload(7, first, space)?;
+    leave_while_out(rt, board, first, space)?;
     board.heal_step(1, PUTS)?;
     board.load_kernel(2, first, SECOND)?;
     Ok(())
