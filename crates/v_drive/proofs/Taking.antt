@@ -14,7 +14,7 @@ use Rattle.cache_board.specs.Desks.{AreOfTickets, Desktop, IsClear}
 use Rattle.cache_board.specs.Drive.{AreAnswered, IsAnswered}
 use Rattle.std.specs.Option.{MatchOption}
 use Rattle.std.proofs.lemmas.Bool.{false≢true, ne_eqb}
-use Rattle.std.proofs.lemmas.Option.{none-some}
+use Rattle.cache_board.proofs.DeskLaws.{clear_is_of_tickets}
 use Rattle.v_drive.specs.Lines.{answers_text, EndsAt, IsDone, IsTaken}
 
 -- ---- the lines of answers
@@ -45,9 +45,9 @@ operated op b new d laid given items old out are is put =
     let one = one_answer op b new d laid given are in
     (answer_line one.0, put ∙ ap (λ (xs : List Answer). old ++ answers_text xs) (is ∙ one.1) ∙ ap (λ (x : List ℕ). old ++ x) (append-nil (answer_line one.0)), (one.0, one.2, refl))
 
--- on a clear desk there is no ticket
+-- on a clear desk there is no ticket, and nothing is kept
 pub clear_views : (j : List Entry) (d : Desktop) → IsClear d → AreOfTickets j d
-clear_views j d clear = λ cpu place ticket at is. absurd (none-some _ (sym (clear cpu place at) ∙ is))
+clear_views j d clear = clear_is_of_tickets j d clear
 
 -- ---- lines
 
