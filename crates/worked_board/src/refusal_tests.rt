@@ -4,7 +4,6 @@ ghost use Rattle.std.specs.Prelude.{◌<◌};
 
 use crate::machines::*;
 use cache_board::{Board, Quantum, Refused, Ticket};
-use cache_ident::Ident;
 use std::alloc::Global;
 use std::mem;
 use std::process::Abort;
@@ -28,12 +27,22 @@ fn checked_out(rt: &impl Abort, board: &mut Board, cpu: u32) -> Ticket
     ticket
 }
 
-// A commit of no steps, of a thread that went back.
+// Commits no steps.
+fn commit_nothing(
+    board: &mut Board,
+    ticket: &Ticket,
+    quantum: &mut Quantum,
+) -> Result<u32, Refused> {
+    quantum.forget();
+    quantum.begin(ticket.context);
+    board.commit(ticket, quantum)
+}
+
+// The thread went back before.
 fn commit_late(rt: &impl Abort, board: &mut Board, quantum: &mut Quantum) -> Result<u32, Refused> {
     let ticket = checked_out(rt, board, 5);
-    quantum.begin(ticket.context);
     board.leave(&ticket);
-    board.commit(&ticket, quantum)
+    commit_nothing(board, &ticket, quantum)
 }
 
 // All threads came away from their processors, and this one went to another: its first ticket serves no more.
@@ -44,10 +53,9 @@ fn leave_late(rt: &impl Abort, board: &mut Board, quantum: &mut Quantum) -> Resu
     assert_eq!(rt; ticket.no, late.no);
     board.leave(&late);
     assert!(rt; board.checkout(0).is_none());
-    quantum.begin(late.context);
-    let refused = board.commit(&late, quantum);
+    let refused = commit_nothing(board, &late, quantum);
     assert_eq!(rt; refused, Err(Refused::Moved { cpu: Some(4) }));
-    board.commit(&ticket, quantum)
+    commit_nothing(board, &ticket, quantum)
 }
 
 fn with_quantum(rt: &impl Abort, alloc: Global, board: &mut Board) -> Result<(), Refused> {
@@ -80,7 +88,10 @@ fn what_no_memory_holds_is_refused_and_changes_nothing(rt: HostRuntime) -> Resul
     assert_eq!(rt; loaded, Ok(()));
     let before = (board.spare(), board.loaded(), board.journal().len());
     assert!(rt; board.reserve(usize::MAX).is_err());
-    assert_eq!(rt; (board.spare(), board.loaded(), board.journal().len()), before);
+    assert_eq!(rt;
+        (board.spare(), board.loaded(), board.journal().len()),
+        before
+    );
     assert_eq!(rt; board.want(), Some(FAULTS));
     mem::forget(board);
     Ok(())
