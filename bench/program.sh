@@ -9,8 +9,9 @@ trap 'rm -rf "$place"' EXIT
 # sets program to its folder.
 begin_program() {
     local crate part
+    cp "$top/HANDLES" "$place/"
     for crate in $2; do
-        grep "^$crate:" "$top/crates.txt" >> "$place/crates.txt"
+        grep "^$crate[ :]" "$top/crates.txt" >> "$place/crates.txt"
         mkdir -p "$place/crates/$crate"
         for part in src specs proofs; do
             if [ -d "$top/crates/$crate/$part" ]; then
