@@ -3,20 +3,25 @@
 # Times calls of the board by hand, as v_drive makes them: a row that is unloaded and loaded again where 1,024 and where 65,536
 # rows are loaded, and a thread that is checked out and given back where 16 and where 16,000 threads stand. A call's time is
 # the difference between a long list and one without those calls. The ratios should be small: a row's cost is logarithmic
-# in what is loaded, and threads that aren't loaded cost a checkout nothing.
+# in what is loaded, and threads that aren't loaded cost a checkout nothing. And it times what a small machine takes at the
+# greatest capacities up to its seal, beside a text that is at fault in its first line. That should be under 300 microseconds, and
+# isn't: on 2026-11-29 it took 680, nearly all of it for 1.8 MB of zeros, in memory, in the reader's memory, and in the views of
+# eight quanta. On that day a row took 2.7 microseconds and 4.0, and a thread 0.5 both times.
 set -euo pipefail
+script=bench/board.sh
 top="$(cd "$(dirname "$0")/.." && pwd)"
+source "$top/scripts/program.sh"
 place="$(mktemp -d)"
 trap 'rm -rf "$place"' EXIT
 
-# Microseconds that the list takes, the least of five runs; its answers are left in the file answers.
+# timed RUNS: microseconds that the list takes, the least of so many runs; its answers are left in the file answers.
 timed() {
-    local start end least=
-    for _ in 1 2 3 4 5; do
-        start=$(date +%s%N)
-        "$top/drive" < "$place/list" > "$place/answers"
-        end=$(date +%s%N)
-        [[ -n $least ]] && ((least <= (end - start) / 1000)) || least=$(((end - start) / 1000))
+    local start end least='' run
+    for ((run = 0; run < $1; run++)); do
+        start=$EPOCHREALTIME
+        "$proved" < "$place/list" > "$place/answers" || true
+        end=$EPOCHREALTIME
+        [[ -n $least ]] && ((least <= ${end/./} - ${start/./})) || least=$((${end/./} - ${start/./}))
     done
     echo "$least"
 }
@@ -63,9 +68,9 @@ compare() {
     local -a each=()
     for size in "$2" "$3"; do
         "$1" "$size" 0 > "$place/list"
-        base=$(timed)
+        base=$(timed 5)
         "$1" "$size" "$4" > "$place/list"
-        whole=$(timed)
+        whole=$(timed 5)
         refused=$(grep -c '^refused\|^operation fault\|^scenario fault\|^no ' "$place/answers" || true)
         each+=($(((whole - base) * 1000 / $4)))
         echo "$size $1: ${each[-1]} ns for each of $4 pairs of calls ($refused refused)"
@@ -74,5 +79,14 @@ compare() {
 }
 
 "$top/build"
+find_proved v_drive
 compare rows 1024 65536 20000
 compare threads 16 16000 40000
+
+echo 'no machine' > "$place/list"
+base=$(timed 100)
+{
+    echo 'mem 1'
+    printf '%s\n' 'kernel 0' 'right 0 0 rw' 'space 0 0' 'thread 0 0 0' 'map 0 0 0 rx' end seal
+} > "$place/list"
+echo "start: $(($(timed 100) - base)) microseconds up to the seal of a small machine"
