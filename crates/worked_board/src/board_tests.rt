@@ -1,5 +1,7 @@
 //! One machine, from the seal to its journal.
 
+ghost use Rattle.cache_board.specs.board_commits.specs.Tickets.{AreKept};
+
 use crate::machines::*;
 use cache_board::{Board, Quantum, Refused, Ticket};
 use cache_ident::{Ident, Kind, Name};
@@ -27,7 +29,9 @@ fn run_with(
     board: &mut Board,
     ticket: &Ticket,
     quantum: &mut Quantum,
-) -> Result<u32, Refused> {
+) -> Result<u32, Refused>
+    requires { AreKept board.old.journal.entries quantum.old }
+{
     quantum.begin(ticket.context);
     assert!(rt; quantum.can_fill(CODE));
     board.page(ticket, CODE, quantum)?;

@@ -180,3 +180,41 @@ fn there_is_room_for_eight(rt: HostRuntime) -> Result<(), Fail> {
     mem::forget(views);
     Ok(())
 }
+
+// Fills a page as of place 3 of a journal.
+fn filled_as_of_3(views: &mut PageViews, vpn: u32, frame: u32, bytes: &[u8]) -> bool
+    requires { length bytes.now ≡ 4096 }
+{
+    let can = views.can_fill(Vpn(vpn));
+    if can {
+        views.fill_as_of(Vpn(vpn), Frame(frame), ALL, Ident::default(), bytes, 3);
+    }
+    can
+}
+
+fn refilled(views: &mut PageViews, vpn: u32, frame: u32, since: u64) -> bool {
+    views.can_fill(Vpn(vpn)) && views.refill(Vpn(vpn), Frame(frame), ALL, Ident::default(), since)
+}
+
+// What a store went to is kept as it was copied, for the same frame, and for a place that isn't above 3.
+fn keep_two(rt: &impl Abort, views: &mut PageViews) {
+    assert!(rt; filled_as_of_3(views, 0, 0, &page(0, 0, STORE)));
+    assert!(rt; filled_as_of_3(views, 1, 5, &[1; 4_096]));
+    assert!(rt; stepped(views, 0, [0x1000, 77, 0]) == (Stepped::Next, 0));
+    views.clear();
+    assert!(rt; refilled(views, 0, 0, 3));
+    assert!(rt; !refilled(views, 1, 5, 4));
+    assert!(rt; !refilled(views, 1, 6, 3));
+    assert!(rt; refilled(views, 1, 5, 2));
+    assert!(rt; seen(views.as_slice().get(1)) == Some((1, 1, 1, false, false)));
+    views.forget();
+    assert!(rt; !refilled(views, 0, 0, 0));
+}
+
+#[test]
+fn what_carries_a_place_is_kept(rt: HostRuntime) -> Result<(), Fail> {
+    let mut views = PageViews::new(rt.alloc())?;
+    keep_two(&rt, &mut views);
+    mem::forget(views);
+    Ok(())
+}

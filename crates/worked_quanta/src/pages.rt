@@ -1,7 +1,7 @@
 //! Pages that are filled where they can be.
 
-ghost use Rattle.std.specs.Prelude.{◌≡◌, ◌++◌, ◌∷◌, [], MatchBool, length};
-ghost use Rattle.page_views.specs.Views.{can_fill, filled};
+ghost use Rattle.std.specs.Prelude.{◌≡◌, None, MatchBool, length};
+ghost use Rattle.page_views.specs.Views.{can_fill, filled, with_filled};
 
 use cache_ident::{Frame, Ident, Vpn};
 use page_views::PageViews;
@@ -17,8 +17,8 @@ pub fn fill(
     bytes: &[u8],
 ) -> bool
     requires { length bytes.now ≡ 4096 }
-    ensures can { result ≡ can_fill views.old vpn }
-    ensures views { MatchBool result (views.new ≡ views.old ++ filled views.old vpn frame flags row bytes.now ∷ []) (views.new ≡ views.old) }
+    ensures can { result ≡ can_fill views.old.views vpn }
+    ensures views { MatchBool result (views.new ≡ with_filled views.old (filled views.old.views vpn frame flags row bytes.now None)) (views.new ≡ views.old) }
 {
     let can = views.can_fill(vpn);
     if can {
