@@ -2,8 +2,9 @@
 # Usage: bench/want_of_memory.sh
 # Lets each allocation of the proved programs fail in turn: of v_run on a scenario of words, one of code and one of an executable,
 # with the journal, on a large one that is made from a number, and on one with a journal that is checked; and of v_drive on lists of
-# operations. Each run ends with status 6 and writes nothing, or answers as the whole run; any other has a line, and so has how many
-# there were. It wants cc, and the programs that ./build leaves.
+# operations. Each run ends with status 6 and writes nothing, or answers as the whole run; of a list of operations it may also answer
+# as the whole run up to a line `refused no memory`, for the call that wanted it. Any other has a line, and so has how many there
+# were. It wants cc, and the programs that ./build leaves.
 # Ends with 1 where some run answered otherwise, or a program isn't built.
 set -u
 unset CDPATH
@@ -41,9 +42,14 @@ END
 cc -O2 -shared -fPIC -o "$place/refuse.so" "$place/refuse.c" || exit 1
 failed=0
 
+# Whether the first line that isn't that of the whole run says that an operation wanted memory.
+refuses_one() {
+    [ "$(diff "$place/whole" "$place/output" | sed -n '/^> /{p;q}')" = '> refused no memory' ]
+}
+
 # refuse_memory INPUT WORD..: the input, and the words of the program.
 refuse_memory() {
-    local input="$top/$1" whole status number=0 refused=0 other=0
+    local input="$top/$1" whole status number=0 refused=0 partly=0 other=0
     shift
     "$proved" "$@" < "$input" > "$place/whole"
     whole=$?
@@ -54,12 +60,14 @@ refuse_memory() {
         [ -s "$place/refused" ] || break
         if [ "$status" = 6 ] && [ ! -s "$place/output" ]; then
             refused=$((refused + 1))
+        elif [ "$status" = "$whole" ] && refuses_one; then
+            partly=$((partly + 1))
         elif [ "$status" != "$whole" ] || ! cmp -s "$place/whole" "$place/output"; then
             echo "allocation $number: status $status, $(wc -c < "$place/output") bytes"
             other=$((other + 1))
         fi
     done
-    echo "${input##*/} $*: $((number - 1)) allocations, $refused answered as want of memory, $other otherwise than the whole run"
+    echo "${input##*/} $*: $((number - 1)) allocations, $refused answered as want of memory, $partly so by one operation, $other otherwise than the whole run"
     ((other == 0)) || failed=1
 }
 
