@@ -6,3 +6,5 @@ mod board_tests;
 pub mod machines;
 #[cfg(test)]
 mod refusal_tests;
+#[cfg(test)]
+mod signal_tests;
