@@ -20,6 +20,11 @@ const SENDER: ThreadNo = ThreadNo(0);
 
 const RECEIVER: ThreadNo = ThreadNo(1);
 
+// The space of each.
+const SENDS: SpaceNo = SpaceNo(0);
+
+const HEARS: SpaceNo = SpaceNo(1);
+
 // The frame that both spaces have.
 const SHARED: u32 = 2;
 
@@ -32,10 +37,13 @@ fn flags(text: &str) -> Flags {
     }
 }
 
-// A kernel of that number with both rights, a space of that number below by one, and a thread of it.
-fn declare_owner(board: &mut Board, number: u32, below: u32) -> Result<(), Refused> {
-    let kernel = KernelNo(number);
-    let space = SpaceNo(below);
+// The right of a kernel to all frames, its space, and the thread there.
+fn declare_owner(
+    board: &mut Board,
+    kernel: KernelNo,
+    space: SpaceNo,
+    thread: ThreadNo,
+) -> Result<(), Refused> {
     board.declare(&Decl::Right {
         kernel,
         group: 0,
@@ -44,7 +52,7 @@ fn declare_owner(board: &mut Board, number: u32, below: u32) -> Result<(), Refus
     })?;
     board.declare(&Decl::Space { no: space, kernel })?;
     board.declare(&Decl::Thread {
-        no: ThreadNo(below),
+        no: thread,
         space,
         pc: 0,
         priority: 0,
@@ -67,14 +75,14 @@ fn declare_kernel(board: &mut Board, number: u32) -> Result<(), Refused> {
 
 fn declare_row(
     board: &mut Board,
-    space: u32,
+    space: SpaceNo,
     vpn: u32,
     frame: u32,
     flags: Flags,
     receiver: Option<ThreadNo>,
 ) -> Result<(), Refused> {
     board.declare(&Decl::Map {
-        space: SpaceNo(space),
+        space,
         vpn: Vpn(vpn),
         frame: Frame(frame),
         flags,
@@ -94,11 +102,11 @@ fn declare_all(board: &mut Board) -> Result<(), Refused> {
     declare_kernel(board, 0)?;
     declare_kernel(board, 1)?;
     declare_kernel(board, 2)?;
-    declare_owner(board, 1, 0)?;
-    declare_owner(board, 2, 1)?;
-    declare_row(board, 0, 0, 0, flags("x"), None)?;
-    declare_row(board, 0, 16, SHARED, flags("rwm"), None)?;
-    declare_row(board, 1, 32, SHARED, flags("r"), Some(RECEIVER))?;
+    declare_owner(board, KernelNo(1), SENDS, SENDER)?;
+    declare_owner(board, KernelNo(2), HEARS, RECEIVER)?;
+    declare_row(board, SENDS, 0, 0, flags("x"), None)?;
+    declare_row(board, SENDS, 16, SHARED, flags("rwm"), None)?;
+    declare_row(board, HEARS, 32, SHARED, flags("r"), Some(RECEIVER))?;
     // The address of page 16, and a store in the last word of its first slot.
     declare_word(board, 0, 0x0001_02b7)?;
     declare_word(board, 4, 0x0202_ae23)
