@@ -71,14 +71,14 @@ impl Roll {
         ensures gives { result ≡ record { kind = kind; slot = slot; serial = length self.old.issued } }
         ensures fresh { standing_in self.old.issued result ≡ Standing.Never }
         ensures after { self.new.issued ≡ self.old.issued ++ just_issued result ∷ [] }
-        ensures spare { self.old.spare ≤ self.new.spare + 1 }
+        ensures spare { self.old.spare ≡ self.new.spare + 1 }
     {
         let ident = Ident {
             kind,
             slot,
             serial: self.issued.len() as u64,
         };
-        let _ = self.issued.push(Issued { ident, left: None });
+        self.issued.push_reserved(Issued { ident, left: None });
         ident
     }
 

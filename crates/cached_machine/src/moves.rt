@@ -28,7 +28,7 @@ impl CachedMachine {
         ensures caps { self.new.held.caps ≡ self.old.held.caps }
         ensures marks { HasLoadedMarks self.old.held.contents self.new.held.contents }
         ensures room { room_of self.new.held.contents ≡ room_of self.old.held.contents }
-        ensures spare { self.old.held.contents.spare ≤ self.new.held.contents.spare + 1 }
+        ensures spare { self.old.held.contents.spare ≡ self.new.held.contents.spare + 1 }
     {
         known(&self.tables);
         let ident = self.tables.load(name, keep, at);

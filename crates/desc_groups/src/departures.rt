@@ -55,7 +55,7 @@ pub fn leave(
     ensures residents { residents_of stores.new ≡ without_all (idents_of gone.new.items) (residents_of stores.old) }
     ensures issued { stores.new.issued ≡ departed_all stores.old.issued (idents_of gone.new.items) at }
     ensures kept { KeepsButCounts stores.old stores.new }
-    ensures capacity { vec_capacity gone.old ≤ vec_capacity gone.new }
+    ensures capacity { vec_capacity gone.new ≡ vec_capacity gone.old }
 {
     gone.clear();
     order_from(stores, pairs, root);
@@ -68,7 +68,7 @@ pub fn leave(
         };
         depart(stores, pairs, node.ident, at + place as u64);
         // There is room for all that is loaded.
-        let _ = gone.push(Gone {
+        gone.push_reserved(Gone {
             ident: node.ident,
             cause: why,
         });

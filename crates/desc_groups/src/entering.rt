@@ -33,7 +33,7 @@ pub fn enter(stores: &mut Stores, pairs: &mut ResidentPairs, name: Name, parents
     ensures contents { KeepsContents stores.old stores.new }
     ensures shows { (machine : Option Machine) (memory : List ℕ) → shown machine memory stores.new ≡ shown machine memory stores.old }
     ensures room { room_of stores.new ≡ room_of stores.old }
-    ensures spare { stores.old.spare ≤ stores.new.spare + 1 }
+    ensures spare { stores.old.spare ≡ stores.new.spare + 1 }
 {
     let class = class_of(stores, name);
     let ident = stores.load(name);

@@ -317,7 +317,7 @@ impl Stores {
         ensures contents { KeepsContents self.old self.new }
         ensures residents { residents_of self.new ≡ with_loaded result name (residents_of self.old) }
         ensures issued { self.new.issued ≡ self.old.issued ++ just_issued result ∷ [] }
-        ensures spare { self.old.spare ≤ self.new.spare + 1 }
+        ensures spare { self.old.spare ≡ self.new.spare + 1 }
         ensures owned { (owner_of : Name → Option KernelNo) → AreOwned owner_of self.old → AreOwned owner_of self.new }
         ensures after { IsLoadingOf self.old self.new name result }
     {

@@ -214,7 +214,7 @@ impl Tables {
         ensures contents { (other : Name) → option_map but_for_counts (content_of self.new.contents other) ≡ option_map but_for_counts (content_of self.old.contents other) }
         ensures shows { (machine : Option Machine) (memory : List ℕ) → shown machine memory self.new.contents ≡ shown machine memory self.old.contents }
         ensures room { room_of self.new.contents ≡ room_of self.old.contents }
-        ensures spare { self.old.contents.spare ≤ self.new.contents.spare + 1 }
+        ensures spare { self.old.contents.spare ≡ self.new.contents.spare + 1 }
     {
         self.make_place(name, keep, at);
         let parents = parents_of(&self.stores, name);

@@ -170,7 +170,7 @@ impl<T: Descriptor + Drop> KindStore<T> {
         ensures owned { (owner_of : Name → Option KernelNo) → AreOwned T.called owner_of self.old.rows → AreOwned T.called owner_of self.new.rows }
 
         ensures issued { roll.new.issued ≡ roll.old.issued ++ just_issued result ∷ [] }
-        ensures spare { roll.old.spare ≤ roll.new.spare + 1 }
+        ensures spare { roll.old.spare ≡ roll.new.spare + 1 }
         ensures last { (value : T) → content_under T.called self.old.rows name ≡ Some value → in_order roll.new.issued self.new.cells ≡ in_order roll.old.issued self.old.cells ++ just_loaded result value ∷ [] }
         ensures enrolled { AreEnrolled T.KIND roll.new.issued self.new.cells }
     {

@@ -236,7 +236,7 @@ impl RowStore {
         ensures owned { (owner_of : Name → Option KernelNo) → AreOwned row_name owner_of self.old.kept.rows → AreOwned row_name owner_of self.new.kept.rows }
 
         ensures issued { roll.new.issued ≡ roll.old.issued ++ just_issued result ∷ [] }
-        ensures spare { roll.old.spare ≤ roll.new.spare + 1 }
+        ensures spare { roll.old.spare ≡ roll.new.spare + 1 }
         ensures last { (value : Row) → content_under row_name self.old.kept.rows name ≡ Some value → in_order roll.new.issued self.new.kept.cells ≡ in_order roll.old.issued self.old.kept.cells ++ just_loaded result value ∷ [] }
         ensures enrolled { AreEnrolled Mapping roll.new.issued self.new.kept.cells }
     {

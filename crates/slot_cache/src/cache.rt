@@ -243,7 +243,7 @@ fn reach<T: Drop>(cells: &mut Vec<Option<Loaded<T>>>, free: &mut SortedList<u32,
     requires free_room { slot < free.old.room }
     requires few { length free.old.entries ≤ length cells.old.items }
     ensures grown { IsGrown cells.old.items cells.new.items slot }
-    ensures capacity { vec_capacity cells.old ≤ vec_capacity cells.new }
+    ensures capacity { vec_capacity cells.new ≡ vec_capacity cells.old }
     ensures listed { Lists nat_cmp (IsFree cells.new.items) free.new.entries }
     ensures len { length free.new.entries + length cells.old.items ≡ length free.old.entries + length cells.new.items }
     ensures free_room { free.new.room ≡ free.old.room }
@@ -251,7 +251,7 @@ fn reach<T: Drop>(cells: &mut Vec<Option<Loaded<T>>>, free: &mut SortedList<u32,
     while cells.len() <= slot as usize {
         let next = cells.len() as u32;
         index::insert(free, next, ());
-        let _ = cells.push(None);
+        cells.push_reserved(None);
     }
 }
 

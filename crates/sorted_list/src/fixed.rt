@@ -90,7 +90,7 @@ impl<T: Copy> FixedList<T> {
     {
         let (gone, left) = nodes::remove(&mut self.nodes, self.root, place);
         self.root = left;
-        let _ = self.spare.push(gone);
+        self.spare.push_reserved(gone);
     }
 }
 
@@ -99,14 +99,14 @@ fn new_seat<T: Copy>(nodes: &mut Vec<Node<T>>, spare: &mut Vec<u32>, item: T) ->
     requires room { vec_len spare.old ≡ 0 → vec_len nodes.old < vec_capacity nodes.old }
     requires few { vec_len nodes.old < 2 ^ 32 }
     ensures seated { IsSeated nodes.old.items spare.old.items nodes.new.items spare.new.items result }
-    ensures nodes_capacity { vec_capacity nodes.old ≤ vec_capacity nodes.new }
-    ensures spare_capacity { vec_capacity spare.old ≤ vec_capacity spare.new }
+    ensures nodes_capacity { vec_capacity nodes.new ≡ vec_capacity nodes.old }
+    ensures spare_capacity { vec_capacity spare.new ≡ vec_capacity spare.old }
 {
     match spare.pop() {
         Some(seat) => seat,
         None => {
             let seat = nodes.len() as u32;
-            let _ = nodes.push(Node {
+            nodes.push_reserved(Node {
                 item,
                 before: EMPTY,
                 behind: EMPTY,

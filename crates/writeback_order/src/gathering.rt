@@ -1,6 +1,6 @@
 //! Gathers what depends on a root.
 
-ghost use Rattle.std.specs.Prelude.{◌≤◌, length, All, vec_len, vec_capacity};
+ghost use Rattle.std.specs.Prelude.{◌≡◌, ◌≤◌, length, All, vec_len, vec_capacity};
 ghost use Rattle.depend_lists.specs.Pairs.{count_of, IsChild, IsProper};
 ghost use Rattle.writeback_order.specs.Order.{IsClosure};
 ghost use Rattle.writeback_order.specs.Gathering.{HasChildrenOf, IsApart, IsClear, IsExtended, IsGathered, IsMarked, IsUnder};
@@ -14,10 +14,10 @@ pub(crate) fn reach(marks: &mut Vec<bool>, count: usize)
     requires unmarked { IsClear marks.old.items }
     ensures unmarked { IsClear marks.new.items }
     ensures enough { count ≤ vec_len marks.new }
-    ensures capacity { vec_capacity marks.old ≤ vec_capacity marks.new }
+    ensures capacity { vec_capacity marks.new ≡ vec_capacity marks.old }
 {
     while marks.len() < count {
-        let _ = marks.push(false);
+        marks.push_reserved(false);
     }
 }
 
@@ -30,7 +30,7 @@ pub(crate) fn gather(depends: &Depends, root: Ident, nodes: &mut Vec<Node>, mark
     ensures closure { IsClosure depends.now.pairs root nodes.new.items }
     ensures apart { IsApart nodes.new.items }
     ensures few { vec_len nodes.new ≤ count_of depends.now.caps }
-    ensures capacity { vec_capacity nodes.old ≤ vec_capacity nodes.new }
+    ensures capacity { vec_capacity nodes.new ≡ vec_capacity nodes.old }
     ensures unmarked { IsClear marks.new }
 {
     nodes.clear();
@@ -63,13 +63,13 @@ fn gather_children(
     ensures extended { IsExtended nodes.old.items nodes.new.items }
     ensures children { HasChildrenOf depends.now.pairs root parent nodes.new.items }
     ensures few { vec_len nodes.new ≤ count_of depends.now.caps }
-    ensures capacity { vec_capacity nodes.old ≤ vec_capacity nodes.new }
+    ensures capacity { vec_capacity nodes.new ≡ vec_capacity nodes.old }
 {
     for child in depends.children(parent) {
         let place = depends.place(child.ident);
         if child.ident != root && !marks[place] {
             marks[place] = true;
-            let _ = nodes.push(child);
+            nodes.push_reserved(child);
         }
     }
 }

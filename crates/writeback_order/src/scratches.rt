@@ -74,7 +74,7 @@ pub fn order(depends: &Depends, root: Node, into: &mut Scratch)
     gather(depends, root.ident, &mut into.nodes, &mut into.marks);
     into.nodes
         .sort_unstable_by_key(|node| (rank(node.class), node.ident.serial, node.ident));
-    let _ = into.nodes.push(root);
+    into.nodes.push_reserved(root);
 }
 
 // How many classes leave before.

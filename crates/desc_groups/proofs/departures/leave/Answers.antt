@@ -49,6 +49,15 @@ overflow_add-place c =
     let low = next_fits c.requires.whole c.args.root c.requires.live c.order_from.ensures.order c.loop-node.invariant.0 (sym c.at.ensures ∙ c.in-Some.is) in
     omega arith
 
+pub push_reserved-requires : goal.push_reserved-requires
+push_reserved-requires c =
+    let left = c.loop-node.invariant.0 in
+    let at_place : slice_get c.loop-node.pairs.order c.loop-node.place ≡ Some c.in-Some.node = sym c.at.ensures ∙ c.in-Some.is in
+    let low = next_fits c.requires.whole c.args.root c.requires.live c.order_from.ensures.order left at_place in
+    let count : length c.loop-node.gone.items ≡ c.loop-node.place = gone_before c.requires.whole c.args.root c.requires.live c.order_from.ensures.order left at_place in
+    let grown = c.loop-node.invariant.2 in
+    omega arith
+
 pub loop-node-smaller : goal.loop-node-smaller
 loop-node-smaller c =
     let low = next_within c.requires.whole c.args.root c.requires.live c.order_from.ensures.order c.loop-node.invariant.0 (sym c.at.ensures ∙ c.in-Some.is) in
@@ -59,22 +68,17 @@ loop-node-preserved c =
     let left = c.loop-node.invariant.0 in
     let at_place : slice_get c.loop-node.pairs.order c.loop-node.place ≡ Some c.in-Some.node = sym c.at.ensures ∙ c.in-Some.is in
     let low = next_fits c.requires.whole c.args.root c.requires.live c.order_from.ensures.order left at_place in
-    let count : length c.loop-node.gone.items ≡ c.loop-node.place = gone_before c.requires.whole c.args.root c.requires.live c.order_from.ensures.order left at_place in
-    let grown = c.loop-node.invariant.2 in
-    let room : vec_len c.loop-node.gone < vec_capacity c.loop-node.gone = omega arith in
-    let done : is_ok c.push.result ≡ true = c.push.ensures.succeeds room in
     let why : c.if-eq.why ≡ cond (is_same c.in-Some.node.ident c.args.root) c.args.cause Dependent = elim c.if-eq.branch [
       | then-eq w ↦ w.why-is ∙ ap (λ (b : Bool). cond b c.args.cause Dependent) (sym w.if-eq.true ∙ c.eq.ensures)
       | else-eq w ↦ w.why-is ∙ ap (λ (b : Bool). cond b c.args.cause Dependent) (sym w.if-eq.false ∙ c.eq.ensures)
     ] in
-    let items : c.push.new.self.items ≡ c.loop-node.gone.items ++ gone_of c.args.root c.args.cause c.in-Some.node ∷ [] =
-    c.push.ensures.items
-    ∙ ap (λ (b : Bool). cond b (c.loop-node.gone.items ++ record { ident = c.in-Some.node.ident; cause = c.if-eq.why } ∷ []) c.loop-node.gone.items) done
+    let items : c.push_reserved.new.self.items ≡ c.loop-node.gone.items ++ gone_of c.args.root c.args.cause c.in-Some.node ∷ [] =
+    c.push_reserved.ensures.items
     ∙ ap (λ (cause : Cause). c.loop-node.gone.items ++ record { ident = c.in-Some.node.ident; cause = cause } ∷ []) why in (
-      next_left c.requires.whole c.args.root c.requires.live c.order_from.ensures.order left at_place c.depart.new.stores c.depart.new.pairs c.push.new.self.items c.depart.ensures.whole (ap (λ (all : Among). all.order) c.depart.ensures.rest)
+      next_left c.requires.whole c.args.root c.requires.live c.order_from.ensures.order left at_place c.depart.new.stores c.depart.new.pairs c.push_reserved.new.self.items c.depart.ensures.whole (ap (λ (all : Among). all.order) c.depart.ensures.rest)
           c.depart.ensures.residents c.depart.ensures.issued c.depart.ensures.kept items,
       ap (λ (all : Among). all.caps) c.depart.ensures.rest ∙ c.loop-node.invariant.1,
-      (let kept = c.push.ensures.capacity in omega arith),
+      (let kept = c.push_reserved.ensures.capacity in omega arith),
     )
 
 pub returns-clause-caps : goal.returns-clause-caps

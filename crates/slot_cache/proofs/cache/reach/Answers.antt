@@ -17,21 +17,22 @@ insert-requires-clause-room g c =
     let r = c.loop-cells.invariant.reaching in
     omega (arith, r.len, r.room, c.requires.few, c.requires.free_room, c.loop-cells-test.true, c.len.ensures, c.loop-cells.cells.ok.0)
 
+pub push_reserved-requires : goal.push_reserved-requires
+push_reserved-requires g c = omega (arith, c.loop-cells-test.true, c.len.ensures, c.loop-cells.invariant.capacity, c.requires.room)
+
 pub loop-cells-preserved : goal.loop-cells-preserved
 loop-cells-preserved g c =
     let i = c.loop-cells.invariant in
     let cells = c.loop-cells.cells in
     let next = c.len-next.ensures ∙ cells.ok.0 in
-    let pushed = rw (c.push.ensures.succeeds (omega (arith, c.loop-cells-test.true, c.len.ensures, i.capacity, c.requires.room))) at c.push.ensures.items in
     record {
-      reaching = reaching_more c.args.cells.now.items c.args.free.now c.args.slot cells.items c.push.new.self.items c.loop-cells.free c.insert.new.index i.reaching (omega (arith, c.loop-cells-test.true, c.len.ensures, cells.ok.0)) pushed c.insert.ensures.rising (rw next at c.insert.ensures.inserted) c.insert.ensures.room;
-      capacity = omega (arith, i.capacity, c.push.ensures.capacity);
+      reaching = reaching_more c.args.cells.now.items c.args.free.now c.args.slot cells.items c.push_reserved.new.self.items c.loop-cells.free c.insert.new.index i.reaching (omega (arith, c.loop-cells-test.true, c.len.ensures, cells.ok.0)) c.push_reserved.ensures.items c.insert.ensures.rising (rw next at c.insert.ensures.inserted) c.insert.ensures.room;
+      capacity = omega (arith, i.capacity, c.push_reserved.ensures.capacity);
     }
 
-pub loop-cells-smaller-in-loop-cells-2 : goal.loop-cells-smaller-in-loop-cells-2
-loop-cells-smaller-in-loop-cells-2 g c =
-    let pushed = rw (c.push.ensures.succeeds (omega (arith, c.loop-cells-test.true, c.len.ensures, c.loop-cells.invariant.capacity, c.requires.room))) at c.push.ensures.len in
-    omega (arith, pushed, c.loop-cells-test.true, c.len.ensures)
+pub loop-cells-smaller : goal.loop-cells-smaller
+loop-cells-smaller g c =
+    omega (arith, c.push_reserved.ensures.len, c.loop-cells-test.true, c.len.ensures)
 
 pub returns-clause-grown : goal.returns-clause-grown
 returns-clause-grown g c =

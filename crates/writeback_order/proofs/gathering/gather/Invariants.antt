@@ -1,4 +1,4 @@
-use Rattle.std.proofs.Common.{◌-◌, ◌≤◌, length, vec_capacity}
+use Rattle.std.proofs.Common.{◌≡◌, ◌-◌, ◌≤◌, length, vec_capacity}
 use Rattle.depend_lists.specs.Pairs.{count_of, IsProper}
 use Rattle.writeback_order.specs.Gathering.{HasChildrenOf, IsGathered, IsMarked}
 use Rattle.writeback_order.proofs.GatherLemmas.{HasChildrenBefore}
@@ -13,7 +13,7 @@ invariant-loop-next l = record {
   of_root : HasChildrenOf l.depends.pairs l.root l.root l.nodes.items;
   of_nodes : HasChildrenBefore l.depends.pairs l.root l.nodes.items l.next;
   few : length l.nodes.items ≤ count_of l.depends.caps;
-  capacity : vec_capacity l.fn.nodes ≤ vec_capacity l.nodes;
+  capacity : vec_capacity l.nodes ≡ vec_capacity l.fn.nodes;
 }
 
 -- no more is gathered than the capacities allow

@@ -18,6 +18,22 @@ bounds-marks-place-then-not-marks-place c =
     let listed = comes_listed pairs c.args.parent c.into_iter-child-iterator.result (cc) c.loop-child.yielded _ c.loop-child.yielded_by _ _ c.next.ensures.steps c.in-Some.child c.in-Some.is in
     omega (arith, c.place-place.ensures.within (listed_child pairs c.args.parent c.in-Some.child listed), c.requires.places, c.loop-child.auto.marks)
 
+-- there is room for a child that wasn't marked, since with it there are no more than the capacities allow
+pub push_reserved-requires : goal.push_reserved-requires
+push_reserved-requires c =
+    let pairs = c.args.depends.now.pairs in
+    let root = c.args.root in
+    let loop = c.loop-child in
+    let nodes = loop.nodes.items in
+    let child = c.in-Some.child in
+    let place = c.place-place.result in
+    let listed = comes_listed pairs c.args.parent c.into_iter-child-iterator.result (cc) c.loop-child.yielded _ c.loop-child.yielded_by _ _ c.next.ensures.steps c.in-Some.child c.in-Some.is in
+    let has_mark : place < length loop.marks = omega (arith, c.place-place.ensures.within (listed_child pairs c.args.parent child listed), c.requires.places, loop.auto.marks) in
+    let depends = listed_depends pairs c.args.parent child listed root c.requires.under in
+    let new = come_new pairs root c.args.nodes.now.items nodes loop.marks loop.yielded loop.invariant.come child place depends (apart_from_ne child.ident root c.if-ne.ensures) c.place-place.ensures.place has_mark c.if-not-marks-place.true in
+    let few = few_gathered pairs root (nodes ++ child ∷ []) new.gathered c.args.depends.now.caps c.children-child-items.ensures.proper in
+    omega (arith, few, length_push nodes child, c.requires.room, loop.invariant.capacity, loop.nodes.ok.0)
+
 -- a child that wasn't marked was pushed
 pub loop-child-preserved-then-not-marks-place : goal.loop-child-preserved-then-not-marks-place
 loop-child-preserved-then-not-marks-place c =
@@ -31,10 +47,7 @@ loop-child-preserved-then-not-marks-place c =
     let has_mark : place < length loop.marks = omega (arith, c.place-place.ensures.within (listed_child pairs c.args.parent child listed), c.requires.places, loop.auto.marks) in
     let depends = listed_depends pairs c.args.parent child listed root c.requires.under in
     let new = come_new pairs root c.args.nodes.now.items nodes loop.marks loop.yielded loop.invariant.come child place depends (apart_from_ne child.ident root c.if-ne.ensures) c.place-place.ensures.place has_mark c.if-not-marks-place.true in
-    let few = few_gathered pairs root (nodes ++ child ∷ []) new.gathered c.args.depends.now.caps c.children-child-items.ensures.proper in
-    let room : vec_len loop.nodes < vec_capacity loop.nodes = omega (arith, few, length_push nodes child, c.requires.room, loop.invariant.capacity, loop.nodes.ok.0) in
-    let written = rw (c.push.ensures.succeeds room) at c.push.ensures.items in
-    record { come = rw written new; capacity = omega (arith, c.push.ensures.capacity, loop.invariant.capacity) }
+    record { come = rw c.push_reserved.ensures.items new; capacity = omega (arith, c.push_reserved.ensures.capacity, loop.invariant.capacity) }
 
 -- any other is the root or was gathered before
 pub loop-child-preserved : goal.loop-child-preserved

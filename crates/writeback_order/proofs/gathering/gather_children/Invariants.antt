@@ -1,4 +1,4 @@
-use Rattle.std.proofs.Common.{◌≤◌, vec_capacity}
+use Rattle.std.proofs.Common.{◌≡◌, vec_capacity}
 use Rattle.writeback_order.proofs.GatherLemmas.{HasCome}
 use Rattle.writeback_order.proofs.gathering.gather_children.Given as goal
 
@@ -6,5 +6,5 @@ use Rattle.writeback_order.proofs.gathering.gather_children.Given as goal
 abbrev pub invariant-loop-child : goal.invariant-loop-child
 invariant-loop-child l = record {
   come : HasCome l.depends.pairs l.root l.fn.nodes.items l.nodes.items l.marks l.yielded;
-  capacity : vec_capacity l.fn.nodes ≤ vec_capacity l.nodes;
+  capacity : vec_capacity l.nodes ≡ vec_capacity l.fn.nodes;
 }

@@ -13,6 +13,15 @@ remove-gone-requires g c =
     let place = rw (← c.self.view_is) at c.requires in
     rw c.deref_mut.ensures.value (s.tree, s.stands, omega (arith, place, found))
 
+pub push_reserved-requires : goal.push_reserved-requires
+push_reserved-requires g c =
+    let i = c.self.inside in
+    let s = c.self.invariant.0 in
+    let found = ap length (items_are i.nodes.items i.root s.tree s.stands) in
+    let place = rw (← c.self.view_is) at c.requires in
+    let some : 0 < length (items_of s.tree) = omega (arith, place, found) in
+    omega (arith, some, s.counted, s.few, c.self.invariant.2, i.spare.ok.0)
+
 pub invariant_of-self : goal.invariant_of-self
 invariant_of-self g c =
     let i = c.self.inside in
@@ -25,11 +34,10 @@ invariant_of-self g c =
     let was = (rw c.deref_mut.ensures.value at call.ensures.gone) s.tree s.stands in
     let shorter = length-remove (items_of s.tree) c.args.place (omega (arith, place, found)) in
     let some : 0 < length (items_of s.tree) = omega (arith, place, found) in
-    let pushed = rw (c.push.ensures.succeeds (omega (arith, some, s.counted, s.few, c.self.invariant.2, i.spare.ok.0))) at c.push.ensures.items in
-    rw (written_over i.nodes.len i.nodes.items call.new.nodes i.nodes.ok.0 (omega (arith, stays, i.nodes.ok.0)), pushed) (
+    rw (written_over i.nodes.len i.nodes.items call.new.nodes i.nodes.ok.0 (omega (arith, stays, i.nodes.ok.0)), c.push_reserved.ensures.items) (
       sound_removed i.room i.root call.result.1 i.nodes.items call.new.nodes i.spare.items call.result.0 (remove (items_of s.tree) c.args.place) s was.0 became stays (omega (arith, some, shorter)),
       c.self.invariant.1,
-      omega (arith, c.self.invariant.2, c.push.ensures.capacity),
+      omega (arith, c.self.invariant.2, c.push_reserved.ensures.capacity),
     )
 
 pub returns : goal.returns
