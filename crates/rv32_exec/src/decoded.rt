@@ -1,6 +1,6 @@
 // Instructions that were decoded before.
 
-ghost use Rattle.std.specs.Prelude.{◌≡◌, ◌<◌, length, IfSome};
+ghost use Rattle.std.specs.Prelude.{◌≡◌, ◌<◌, ◌≤◌, vec_len, vec_capacity, IfSome};
 ghost use Rattle.rv32_isa.specs.Table.{IsValid, instruction_of};
 
 use crate::outputs::NoMemory;
@@ -22,18 +22,15 @@ struct Line {
 /// It knows nothing of memory: a line is used only where its word is the word asked for, so no store makes it wrong.
 #[derive(Drop)]
 pub struct DecodedWords {
+    // The lines up to the last one that was asked for. Those behind aren't written yet, and remember no word.
     lines: Vec<Line>,
-    ghost size: { length lines.items ≡ 1024 },
+    ghost room: { 1024 ≤ vec_capacity lines },
 }
 
 impl DecodedWords {
-    /// Remembers no word yet. The one call that takes memory, some 32 KiB.
+    /// Remembers no word yet. The one call that takes memory, some 32 KiB. None of it is written before words are met.
     pub fn new(alloc: Global) -> Result<DecodedWords, NoMemory> {
-        let none = Line {
-            word: 0,
-            instr: decode(0),
-        };
-        let lines = vec![in alloc; none; LINES]?;
+        let lines = Vec::with_capacity(alloc, LINES)?;
         Ok(DecodedWords { lines })
     }
 
@@ -44,11 +41,9 @@ impl DecodedWords {
         ensures decoded { result ≡ instruction_of word }
         ensures valid { IfSome result IsValid }
     {
-        let line = self.lines[place(va)];
-        if line.word == word {
-            line.instr
-        } else {
-            self.meet(va, word)
+        match self.lines.get(place(va)) {
+            Some(line) if line.word == word => line.instr,
+            _ => self.meet(va, word),
         }
     }
 
@@ -60,8 +55,24 @@ impl DecodedWords {
         ensures valid { IfSome result IsValid }
     {
         let instr = decode(word);
-        self.lines[place(va)] = Line { word, instr };
+        let place = place(va);
+        reach(&mut self.lines, place);
+        self.lines[place] = Line { word, instr };
         instr
+    }
+}
+
+// Writes lines that remember no word, up to that of the place.
+fn reach(lines: &mut Vec<Line>, place: usize)
+    requires { place < vec_capacity lines.old }
+    ensures reached { place < vec_len lines.new }
+    ensures capacity { vec_capacity lines.new ≡ vec_capacity lines.old }
+{
+    while lines.len() <= place {
+        lines.push_reserved(Line {
+            word: 0,
+            instr: decode(0),
+        });
     }
 }
 
