@@ -1,11 +1,27 @@
 -- Memory as one list of bytes, in which numbers are little-endian.
-use Rattle.std.specs.Prelude.{◌≡◌, ℕ, ◌+◌, ◌*◌, ◌/◌, ◌%◌, ◌≤◌, List, [], ◌∷◌, ◌++◌, length, take, drop, slice_index, slice_set}
+use Rattle.std.specs.Prelude.{◌≡◌, ℕ, ◌+◌, ◌-◌, ◌*◌, ◌/◌, ◌%◌, ◌≤◌, List, [], ◌∷◌, ◌++◌, length, replicate, take, drop, slice_index, slice_set}
 use Rattle.cache_ident.specs.declared.names.Frame.{Frame}
 
--- memory is made of whole groups of 524,288 bytes, of which there are at most 16
-pub record IsWhole (bytes : List ℕ) : Type 0 where
-  pub groups : length bytes % 524288 ≡ 0
-  pub at_most : length bytes ≤ 8388608
+-- that many bytes of memory, which are zeros behind the first of them
+abbrev pub padded : ℕ → List ℕ → List ℕ
+padded size bytes = bytes ++ replicate (size - length bytes) 0
+
+-- memory is made of whole groups of 524,288 bytes, of which there are at most 16. The bytes that were written are whole
+-- pages of it, and there is room for all
+pub record IsKept (size capacity : ℕ) (bytes : List ℕ) : Type 0 where
+  pub groups : size % 524288 ≡ 0
+  pub at_most : size ≤ 8388608
+  pub pages : length bytes % 4096 ≡ 0
+  pub within : length bytes ≤ size
+  pub room : size ≤ capacity
+
+-- where the page of a place ends
+abbrev pub page_end : ℕ → ℕ
+page_end at = 4096 * (at / 4096 + 1)
+
+-- the bytes, with zeros behind them up to the end of the page of a place, where they end before it
+abbrev pub reaching : ℕ → List ℕ → List ℕ
+reaching at bytes = bytes ++ replicate (page_end at - length bytes) 0
 
 -- the number in the two bytes from a place on
 abbrev pub half_at : List ℕ → ℕ → ℕ

@@ -1,8 +1,8 @@
 //! Physical memory.
 
-ghost use Rattle.std.specs.Prelude.{◌≡◌, ◌≢◌, ℕ, [], ◌+◌, ◌*◌, ◌%◌, ◌<◌, ◌≤◌, ◌⊎◌, ◌↔◌, IsTrue, IfOk, length, replicate, slice_index, slice_set};
+ghost use Rattle.std.specs.Prelude.{◌≡◌, ◌≢◌, ℕ, [], ◌+◌, ◌*◌, ◌%◌, ◌<◌, ◌≤◌, ◌⊎◌, ◌↔◌, IsTrue, IfOk, length, replicate, slice_index, slice_set, vec_capacity};
 ghost use Rattle.cache_ident.specs.declared.names.Frame.{Frame};
-ghost use Rattle.phys_groups.specs.Memory.{HasFrame, half_at, half_bytes, page_at, with_page, word_at, word_bytes, written};
+ghost use Rattle.phys_groups.specs.Memory.{HasFrame, half_at, half_bytes, page_at, page_end, reaching, with_page, word_at, word_bytes, written};
 
 use cache_ident::{Frame, NoMemory};
 use std::alloc::Global;
@@ -12,28 +12,35 @@ const PAGE_BYTES: usize = 4_096;
 
 const GROUP_BYTES: usize = 524_288;
 
+const NO_BYTES: [u8; PAGE_BYTES] = [0; PAGE_BYTES];
+
 /// Memory of 1 to 16 groups, each of 128 frames of 4,096 bytes. Numbers in it are little-endian.
 ///
 /// A contract sees it as one list of bytes. A place is an index into that list. Every access takes
-/// constant time and no memory; the calls that copy or compare go once over a page.
+/// constant time and no memory, but for a store to a page behind all that was stored to before, which
+/// writes the zeros up to the end of that page, once. The calls that copy or compare go once over a page.
 #[derive(Drop)]
 pub struct Memory {
+    // How many bytes there are.
+    size: usize,
+    // The first of them, in whole pages. Nothing was ever stored behind them, so the rest are zeros.
     bytes: Vec<u8>,
 }
 
 impl Model for Memory {
-    ghost use Rattle.std.specs.Prelude.{List, ℕ};
-    ghost use Rattle.phys_groups.specs.Memory.{IsWhole};
+    ghost use Rattle.std.specs.Prelude.{List, ℕ, vec_capacity};
+    ghost use Rattle.phys_groups.specs.Memory.{IsKept, padded};
 
     ghost Value = { List ℕ };
 
-    ghost view = { λ memory. memory.bytes.items };
+    ghost view = { λ memory. padded memory.size memory.bytes.items };
 
-    ghost invariant = { λ memory. IsWhole memory.bytes.items };
+    ghost invariant = { λ memory. IsKept memory.size (vec_capacity memory.bytes) memory.bytes.items };
 }
 
 impl Memory {
-    /// Memory of that many groups, all zeros.
+    /// Memory of that many groups, all zeros. It takes all the memory that it will ever need and writes none of it,
+    /// so that its time doesn't grow with the groups.
     pub fn new(alloc: Global, groups: u32) -> Result<Memory, NoMemory>
         requires least { 1 ≤ groups }
         requires most { groups ≤ 16 }
@@ -41,8 +48,8 @@ impl Memory {
         ensures size { IfOk result (λ memory. length memory ≡ 524288 * groups) }
     {
         let size = groups as usize * GROUP_BYTES;
-        let bytes = vec![in alloc; 0; size]?;
-        Ok(Memory { bytes })
+        let bytes = Vec::with_capacity(alloc, size)?;
+        Ok(Memory { size, bytes })
     }
 
     /// Memory of no groups, as it is before a machine is declared. It takes no memory.
@@ -50,6 +57,7 @@ impl Memory {
         ensures { result ≡ [] }
     {
         Memory {
+            size: 0,
             bytes: Vec::new(alloc),
         }
     }
@@ -59,7 +67,12 @@ impl Memory {
         requires { at < length self.now }
         ensures { result ≡ slice_index self.now at }
     {
-        self.bytes[at as usize]
+        let at = at as usize;
+        if at < self.bytes.len() {
+            self.bytes[at]
+        } else {
+            0
+        }
     }
 
     /// The two bytes from an even place on.
@@ -69,7 +82,11 @@ impl Memory {
         ensures { result ≡ half_at self.now at }
     {
         let at = at as usize;
-        u16::from_le_bytes([self.bytes[at], self.bytes[at + 1]])
+        if at < self.bytes.len() {
+            u16::from_le_bytes([self.bytes[at], self.bytes[at + 1]])
+        } else {
+            0
+        }
     }
 
     /// The four bytes from a place on that is divisible by 4.
@@ -79,12 +96,16 @@ impl Memory {
         ensures { result ≡ word_at self.now at }
     {
         let at = at as usize;
-        u32::from_le_bytes([
-            self.bytes[at],
-            self.bytes[at + 1],
-            self.bytes[at + 2],
-            self.bytes[at + 3],
-        ])
+        if at < self.bytes.len() {
+            u32::from_le_bytes([
+                self.bytes[at],
+                self.bytes[at + 1],
+                self.bytes[at + 2],
+                self.bytes[at + 3],
+            ])
+        } else {
+            0
+        }
     }
 
     /// Writes the byte at a place.
@@ -93,7 +114,9 @@ impl Memory {
         ensures after { self.new ≡ slice_set self.old at value }
         ensures size { length self.new ≡ length self.old }
     {
-        self.bytes[at as usize] = value;
+        let at = at as usize;
+        reach(&mut self.bytes, at);
+        self.bytes[at] = value;
     }
 
     /// Writes the two bytes from an even place on.
@@ -107,6 +130,7 @@ impl Memory {
     {
         let at = at as usize;
         let [low, high] = value.to_le_bytes();
+        reach(&mut self.bytes, at);
         self.bytes[at] = low;
         self.bytes[at + 1] = high;
     }
@@ -122,6 +146,7 @@ impl Memory {
     {
         let at = at as usize;
         let [first, second, third, fourth] = value.to_le_bytes();
+        reach(&mut self.bytes, at);
         self.bytes[at] = first;
         self.bytes[at + 1] = second;
         self.bytes[at + 2] = third;
@@ -157,6 +182,7 @@ impl Memory {
         ensures others { (f : Frame) → f.0 ≢ frame.0 → page_at self.new f ≡ page_at self.old f }
     {
         let start = frame.0 as usize * PAGE_BYTES;
+        reach(&mut self.bytes, start);
         self.bytes[start..start + PAGE_BYTES].copy_from_slice(bytes);
     }
 
@@ -167,8 +193,45 @@ impl Memory {
         ensures whole_page { length result.now ≡ 4096 }
     {
         let start = frame.0 as usize * PAGE_BYTES;
-        &self.bytes[start..start + PAGE_BYTES]
+        if start < self.bytes.len() {
+            &self.bytes[start..start + PAGE_BYTES]
+        } else {
+            no_bytes()
+        }
     }
+}
+
+// What a page holds that lies behind all that was stored to.
+fn no_bytes() -> &'static [u8]
+    ensures { result.now ≡ replicate 4096 0 }
+{
+    &NO_BYTES
+}
+
+// Makes the bytes, which are whole pages, reach over the page of `at`, where they don't yet. There is room for it.
+#[inline]
+fn reach(bytes: &mut Vec<u8>, at: usize)
+    requires pages { length bytes.old.items % 4096 ≡ 0 }
+    requires room { page_end at ≤ vec_capacity bytes.old }
+    ensures items { bytes.new.items ≡ reaching at bytes.old.items }
+    ensures capacity { vec_capacity bytes.old ≤ vec_capacity bytes.new }
+{
+    if at >= bytes.len() {
+        extend(bytes, at);
+    }
+}
+
+// The part of `reach` that writes, apart so that the test is inlined.
+#[cold]
+#[inline(never)]
+fn extend(bytes: &mut Vec<u8>, at: usize)
+    requires behind { length bytes.old.items ≤ at }
+    requires room { page_end at ≤ vec_capacity bytes.old }
+    ensures items { bytes.new.items ≡ reaching at bytes.old.items }
+    ensures capacity { vec_capacity bytes.old ≤ vec_capacity bytes.new }
+{
+    // In the room that was made this always succeeds.
+    bytes.resize((at / PAGE_BYTES + 1) * PAGE_BYTES, 0).unwrap();
 }
 
 #[cfg(test)]
@@ -202,6 +265,30 @@ mod tests {
         assert_eq!(rt; memory.word(LAST_BYTE - 3), 0x0700_0000);
     }
 
+    // Of memory as it was made: it is zeros, also where it is behind all that was stored to.
+    fn test_behind(rt: &impl Abort, memory: &mut Memory, zeros: &[u8])
+        requires memory { 524288 ≤ length memory.old }
+        requires page { length zeros.now ≡ 4096 }
+        ensures { length memory.new ≡ length memory.old }
+    {
+        assert!(rt; memory.equals(Frame(0), zeros));
+        assert_eq!(rt; memory.byte(LAST_BYTE), 0);
+        memory.store_word(8_192, 0x0102_0304);
+        assert_eq!(rt; memory.word(8_192), 0x0102_0304);
+        assert_eq!(rt; memory.word(0), 0);
+        assert_eq!(rt; memory.half(12_286), 0);
+        assert_eq!(rt; memory.half(12_288), 0);
+        assert_eq!(rt; memory.word(16_384), 0);
+        assert!(rt; memory.equals(Frame(3), zeros));
+        memory.store_byte(LAST_BYTE, 9);
+        assert_eq!(rt; memory.byte(LAST_BYTE), 9);
+        assert_eq!(rt; memory.byte(LAST_BYTE - 1), 0);
+        assert_eq!(rt; memory.byte(12_288), 0);
+        assert_eq!(rt; memory.word(8_192), 0x0102_0304);
+        assert!(rt; memory.equals(Frame(126), zeros));
+        assert_eq!(rt; memory.page(Frame(127)).last().copied(), Some(9));
+    }
+
     fn test_pages(rt: &impl Abort, memory: &mut Memory, page: &mut [u8])
         requires memory { 524288 ≤ length memory.old }
         requires page { length page.old ≡ 4096 }
@@ -222,6 +309,17 @@ mod tests {
         test_words(&rt, &mut memory);
         let mut page = [0; 4_096];
         test_pages(&rt, &mut memory, &mut page);
+        Ok(())
+    }
+
+    #[test]
+    fn memory_is_zeros_where_nothing_was_stored(rt: HostRuntime) -> Result<(), Fail> {
+        let mut memory = memory_of(rt.alloc(), 1)?;
+        test_behind(&rt, &mut memory, &[0; 4_096]);
+        assert_eq!(rt;
+            memory_of(rt.alloc(), 2)?.page(Frame(255)).last().copied(),
+            Some(0)
+        );
         Ok(())
     }
 }
