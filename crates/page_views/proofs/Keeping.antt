@@ -1,30 +1,54 @@
 -- What is kept behind the views.
-use Rattle.std.proofs.Common.{◌≡◌, ℕ, zero, suc, ◌+◌, ◌<◌, ◌==◌, ◌&&◌, Bool, true, false, List, [], ◌∷◌, ◌++◌, map, length, take, drop, set, slice_get, Option, Some, None, refl, ap, ap₂, sym, ◌∙◌, arith, drop-drop, eqb-true, take-append-drop, is_some}
+use Rattle.std.proofs.Common.{◌≡◌, ℕ, zero, suc, ◌+◌, ◌<◌, ◌==◌, ◌&&◌, Bool, true, false, List, [], ◌∷◌, ◌++◌, map, length, take, drop, set, slice_get, Option, Some, None, refl, ap, ap₂, sym, ◌∙◌, arith, drop-drop, eqb-true, take-append-drop, is_some, ◌-◌, ◌≤◌, length-drop}
 use Rattle.std.specs.Prelude.{if◌then◌else◌, nat_le, replicate}
 use Rattle.std.specs.List.{find}
 use Rattle.std.specs.Option.{option_map}
 use Rattle.std.proofs.lemmas.Bool.{and_parts}
 use Rattle.std.proofs.lemmas.Grind.{replicate_next}
-use Rattle.std.proofs.lemmas.List.{drop-set-lt, map-append, take_more_set}
+use Rattle.std.proofs.lemmas.List.{append_assoc, drop_all, drop-set-lt, length_push, map-append, replicate-append-replicate, take-append-le, take_more_set}
+use Rattle.std.proofs.lemmas.Option.{slice_get_within}
+use Rattle.std.proofs.Math.ListN.{length-set}
+use Rattle.std.proofs.Math.Seq.{drop-append_seam}
 use Rattle.cache_ident.specs.declared.idents.Ident.{Ident}
 use Rattle.cache_ident.specs.declared.names.Frame.{Frame}
 use Rattle.cache_ident.specs.declared.names.Vpn.{Vpn}
 use Rattle.phys_groups.specs.declared.rows.Flags.{Flags}
-use Rattle.page_views.specs.Views.{all_dated, dated, filled, if_since, is_touched_of, kept_since, next_kept, present_in, table_of, with_filled, Dated, Table, View}
+use Rattle.page_views.specs.Views.{all_dated, dated, filled, if_since, is_touched_of, kept_since, next_kept, nothing_kept, present_in, table_of, with_filled, Dated, Table, View}
+
+-- what is kept in slots that were never used
+abbrev pub unused : List View → List (Option Dated)
+unused slots = replicate (8 - length slots) None
 
 -- what the slots keep, once none of them is a view
-pub all_slots : (count : ℕ) (slots : List View) → map dated slots ≡ all_dated (table_of count slots).views (table_of count slots).kept
-all_slots count slots = sym (ap (map dated) (take-append-drop count slots)) ∙ map-append dated (take count slots) (drop count slots)
+pub all_slots : (count : ℕ) (slots : List View) → map dated slots ++ unused slots ≡ all_dated (table_of count slots).views (table_of count slots).kept
+all_slots count slots =
+    ap (λ (ks : List (Option Dated)). ks ++ unused slots) (sym (ap (map dated) (take-append-drop count slots)) ∙ map-append dated (take count slots) (drop count slots))
+    ∙ append_assoc (map dated (take count slots)) (map dated (drop count slots)) (unused slots)
 
-behind_next : (slots : List View) → map dated (drop 1 slots) ≡ drop 1 (map dated slots)
-behind_next [] = refl
-behind_next (v ∷ slots) = refl
+behind_next : (slots : List View) (ks : List (Option Dated)) → 0 < length slots → map dated (drop 1 slots) ++ ks ≡ drop 1 (map dated slots ++ ks)
+behind_next [] ks some = absurd (omega (arith, some))
+behind_next (v ∷ slots) ks some = refl
 
 -- with a view more
 pub table_with : (count : ℕ) (slots : List View) (v : View) → count < length slots → table_of (count + 1) (set slots count v) ≡ with_filled (table_of count slots) v
 table_with count slots v below =
+    let some : 0 < length (drop count slots) = omega (arith, below, length-drop count slots) in
     ap₂ (λ (vs : List View) (ks : List (Option Dated)). let t : Table = record { views = vs; kept = ks } in t) (take_more_set slots count v below)
-    (ap (map dated) (drop-set-lt (count + 1) slots count v (omega arith) ∙ sym (drop-drop 1 count slots)) ∙ behind_next (drop count slots))
+    (ap₂ (λ (ws : List View) (n : ℕ). map dated ws ++ replicate (8 - n) None) (drop-set-lt (count + 1) slots count v (omega arith) ∙ sym (drop-drop 1 count slots)) (length-set slots count v)
+    ∙ behind_next (drop count slots) (unused slots) some)
+
+-- a slot more behind those that are all views
+pub table_reaching : (slots : List View) (v : View) → v.taken ≡ None → length slots < 8 → table_of (length slots) (slots ++ v ∷ []) ≡ table_of (length slots) slots
+table_reaching slots v none few =
+    let count = length slots in
+    let longer : length (slots ++ v ∷ []) ≡ count + 1 = length_push slots v in
+    let one : dated v ≡ None = ap (option_map (λ place. record { frame = v.frame; bytes = v.first; place = place })) none in
+    let left : 8 - count ≡ suc (8 - length (slots ++ v ∷ [])) = omega (arith, few, longer) in
+    ap₂ (λ (vs : List View) (ks : List (Option Dated)). let t : Table = record { views = vs; kept = ks } in t)
+    (take-append-le count slots (v ∷ []) (omega arith))
+    (ap (λ (ws : List View). map dated ws ++ replicate (8 - length (slots ++ v ∷ [])) None) (drop-append_seam slots (v ∷ []))
+    ∙ ap (λ (o : Option Dated). o ∷ replicate (8 - length (slots ++ v ∷ [])) None) one
+    ∙ sym (ap₂ (λ (ws : List View) (n : ℕ). map dated ws ++ replicate n None) (drop_all count slots (omega arith)) left))
 
 -- one slot more that keeps nothing
 pub none_kept : (slots : List View) (i : ℕ) (v : View) → i < length slots → v.taken ≡ None → map dated (take i slots) ≡ replicate i None → map dated (take (i + 1) (set slots i v)) ≡ replicate (i + 1) None
@@ -33,22 +57,38 @@ none_kept slots i v below none before =
     ∙ ap₂ (λ (os : List (Option Dated)) (o : Option ℕ). os ++ option_map (λ place. record { frame = v.frame; bytes = v.first; place = place }) o ∷ []) before none
     ∙ sym (replicate_next i None)
 
-pub pushed_none : (slots : List View) (i : ℕ) (v : View) → v.taken ≡ None → map dated slots ≡ replicate i None → map dated (slots ++ v ∷ []) ≡ replicate (i + 1) None
-pushed_none slots i v none before =
-    map-append dated slots (v ∷ [])
-    ∙ ap₂ (λ (os : List (Option Dated)) (o : Option ℕ). os ++ option_map (λ place. record { frame = v.frame; bytes = v.first; place = place }) o ∷ []) before none
-    ∙ sym (replicate_next i None)
+-- where no slot keeps anything, nothing is kept
+pub none_of : (slots : List View) → map dated slots ≡ replicate (length slots) None → length slots ≤ 8 → map dated slots ++ unused slots ≡ nothing_kept
+none_of slots none few =
+    let whole : length slots + (8 - length slots) ≡ 8 = omega (arith, few) in
+    ap (λ (ks : List (Option Dated)). ks ++ unused slots) none ∙ replicate-append-replicate (length slots) (8 - length slots) None
+    ∙ ap (λ (n : ℕ). replicate n None) whole
+
+next_unused : (n : ℕ) → next_kept (replicate n None) ≡ None
+next_unused zero = refl
+next_unused (suc n) = refl
+
+-- what is kept behind the views, by the slot there
+abbrev pub dated_at : Option View → Option Dated
+dated_at None = None
+dated_at (Some v) = dated v
+
+pub next_is : (count : ℕ) (slots : List View) (n : ℕ) → next_kept (map dated (drop count slots) ++ replicate n None) ≡ dated_at (slice_get slots count)
+next_is zero [] n = next_unused n
+next_is zero (v ∷ slots) n = refl
+next_is (suc count) [] n = next_unused n
+next_is (suc count) (v ∷ slots) n = next_is count slots n
 
 -- ---- a slot that becomes a view again
 
 -- the slot behind the views, of which something is kept
-pub record IsKeptThere (vs slots : List View) (frame : Frame) (since place : ℕ) : Type 0 where
+pub record IsKeptThere (vs slots : List View) (n : ℕ) (frame : Frame) (since place : ℕ) : Type 0 where
   pub slot : View
   pub rest : List View
   pub there : slots ≡ slot ∷ rest
   pub of : slot.frame ≡ frame
   pub untouched : find (is_touched_of frame) vs ≡ None
-  pub is : kept_since vs (map dated slots) frame since ≡ Some (record { frame = frame; bytes = slot.first; place = place })
+  pub is : kept_since vs (map dated slots ++ replicate n None) frame since ≡ Some (record { frame = frame; bytes = slot.first; place = place })
 
 module _ (frame : Frame) (since place : ℕ) where
   abbrev pub place_of : Option Dated → Option ℕ
@@ -73,12 +113,14 @@ module _ (frame : Frame) (since place : ℕ) where
                 ∙ ap₂ (λ (f : Frame) (n : ℕ). Some (record { frame = f; bytes = v.first; place = n })) of same,
           )
 
-  pub kept_there : (vs slots : List View) → Some place ≡ place_of (kept_since vs (map dated slots) frame since) → IsKeptThere vs slots frame since place
-  kept_there vs slots is = by (find (is_touched_of frame) vs) refl slots is
+  pub kept_there : (vs slots : List View) (n : ℕ) → Some place ≡ place_of (kept_since vs (map dated slots ++ replicate n None) frame since) → IsKeptThere vs slots n frame since place
+  kept_there vs slots n is = by (find (is_touched_of frame) vs) refl slots is
     where
-      by : (o : Option View) → find (is_touched_of frame) vs ≡ o → (slots : List View) → Some place ≡ place_of (if is_some o then None else if_since frame since (next_kept (map dated slots))) → IsKeptThere vs slots frame since place
+      by : (o : Option View) → find (is_touched_of frame) vs ≡ o → (slots : List View) → Some place ≡ place_of (if is_some o then None else if_since frame since (next_kept (map dated slots ++ replicate n None))) → IsKeptThere vs slots n frame since place
       by (Some v) found slots is = absurd (cc)
-      by None none [] is = absurd (cc)
+      by None none [] is =
+          let nothing : Some place ≡ place_of (if_since frame since None) = is ∙ ap (λ (o : Option Dated). place_of (if_since frame since o)) (next_unused n) in
+          absurd (cc)
       by None none (v ∷ rest) is =
           let parts = since_then v v.taken refl is in
           record {
@@ -91,7 +133,7 @@ module _ (frame : Frame) (since place : ℕ) where
           }
 
 -- the view that it becomes holds what it was copied from
-module _ (vs slots : List View) (vpn : Vpn) (frame : Frame) (flags : Flags) (row : Ident) (since place : ℕ) (kept : IsKeptThere vs slots frame since place) where
+module _ (vs slots : List View) (n : ℕ) (vpn : Vpn) (frame : Frame) (flags : Flags) (row : Ident) (since place : ℕ) (kept : IsKeptThere vs slots n frame since place) where
   abbrev pub again : View
   again = record { vpn = vpn; frame = frame; flags = flags; row = row; first = kept.slot.first; present = kept.slot.first; touched = false; written = false; taken = Some place }
 
@@ -107,3 +149,6 @@ at_drop n [] x rest is = absurd (ends n is)
     ends (suc n) is = cc
 at_drop zero (y ∷ xs) x rest is = let same : y ≡ x = cc in ap (λ (z : View). Some z) same
 at_drop (suc n) (y ∷ xs) x rest is = at_drop n xs x rest is
+
+pub below_drop : (n : ℕ) (xs : List View) (x : View) (rest : List View) → drop n xs ≡ x ∷ rest → n < length xs
+below_drop n xs x rest is = slice_get_within xs n x (at_drop n xs x rest is)

@@ -15,7 +15,7 @@ use Rattle.rv32_exec.specs.declared.spaces.Width.{Width}
 use Rattle.rv32_exec.specs.declared.spaces.Width.TheVariants.{Byte, Half, Word}
 use Rattle.rv32_exec.specs.Pages.{Page, allows, where_allowed, translation, translates, read_through, number_at, stored_through, stored, touched_at, put_bytes, put_in_frame, mark, mark_page, size_of}
 use Rattle.flat_state.specs.Translation.{wants}
-use Rattle.page_views.specs.Views.{View, page_of, pages_of_views, Copied, copied, copies_of, has_message, is_of_page, can_fill, put_in_view, mark_view, mark_view_of, where_flagged, view_through, HaveOneViewAPage, IsTable}
+use Rattle.page_views.specs.Views.{View, page_of, pages_of_views, Copied, copied, copies_of, has_message, is_of_page, can_fill, put_in_view, mark_view, mark_view_of, where_flagged, view_through, HaveOneViewAPage, IsReached, IsTable, Table}
 
 pub pages_mapped : (f : View → View) (g : Page → Page) → ((v : View) → page_of (f v) ≡ g (page_of v)) → (vs : List View) → pages_of_views (map f vs) ≡ map g (pages_of_views vs)
 pages_mapped f g same [] = refl
@@ -122,11 +122,11 @@ length-mapped f count xs within =
 pub table_mapped : (f : View → View) → ((v : View) → copied (f v) ≡ copied v) → (n count : ℕ) (messages : Bool) (xs ys : List View) → n ≡ length xs → IsTable xs count messages → ys ≡ map f (take count xs) ++ drop count xs
     → IsTable (take n (ys ++ drop (length ys) xs)) count messages
 table_mapped f same n count messages xs ys whole table became =
-    let within : count ≤ length xs = omega (arith, table.eight, table.within) in
+    let within = table.within in
     let size : length ys ≡ length xs = ap length became ∙ length-mapped f count xs within in
     rw (written_over n xs ys whole size) (record {
-      eight = size ∙ table.eight;
-      within = table.within;
+      few = omega (arith, size, table.few);
+      within = omega (arith, size, within);
       one_a_page = subst HaveOneViewAPage (sym (ap (take count) became ∙ first_mapped f count xs within)) (one_mapped f same (take count xs) table.one_a_page);
       flagged = table.flagged ∙ sym (ap has_message (ap (take count) became ∙ first_mapped f count xs within) ∙ messages_mapped f same (take count xs));
     })
@@ -212,21 +212,34 @@ no_view vs vpn room = is_none_where (find (is_of_page vpn) vs) (second_true _ _ 
 pub one_filled : (vs : List View) (v : View) → can_fill vs v.vpn ≡ true → HaveOneViewAPage vs → HaveOneViewAPage (vs ++ v ∷ [])
 one_filled vs v room one = all_pairs_push (λ (a b : View). a.vpn.0 ≢ b.vpn.0) vs v one (not_found v.vpn vs (no_view vs v.vpn room))
 
--- there is a free place where a page can be filled
-pub free_place : (count : ℕ) (messages : Bool) (xs : List View) (vpn : Vpn) → IsTable xs count messages → can_fill (take count xs) vpn ≡ true → count < length xs
+-- there are fewer than eight views where a page can be filled
+pub free_place : (count : ℕ) (messages : Bool) (xs : List View) (vpn : Vpn) → IsTable xs count messages → can_fill (take count xs) vpn ≡ true → count < 8
 free_place count messages xs vpn table room =
-    let taken : length (take count xs) ≡ count = length-take-le count xs (omega (arith, table.eight, table.within)) in
-    omega (arith, ltb-true (length (take count xs)) 8 (first_true _ _ room), taken, table.eight)
+    let taken : length (take count xs) ≡ count = length-take-le count xs table.within in
+    omega (arith, ltb-true (length (take count xs)) 8 (first_true _ _ room), taken)
 
-pub table_filled : (n count : ℕ) (messages now : Bool) (xs ys : List View) (v : View) → n ≡ length xs → IsTable xs count messages → now ≡ (messages || v.flags.m) → can_fill (take count xs) v.vpn ≡ true → ys ≡ set xs count v
+-- without views the count is 0
+pub cleared_count : (count : ℕ) (slots : List View) → count ≤ length slots → take count slots ≡ [] → count ≡ 0
+cleared_count count slots within none = omega (arith, length-take-le count slots within, ap length none)
+
+-- a table is still one with a slot behind its views
+pub table_reached : (count : ℕ) (messages : Bool) (old new : List View) → IsReached count old new → IsTable old count messages → IsTable new count messages
+table_reached count messages old new reached table =
+    let same : take count new ≡ take count old = ap (λ (t : Table). t.views) reached.same in
+    record {
+      few = reached.few;
+      within = omega (arith, reached.behind);
+      one_a_page = subst HaveOneViewAPage (sym same) table.one_a_page;
+      flagged = table.flagged ∙ sym (ap has_message same);
+    }
+
+pub table_filled : (n count : ℕ) (messages now : Bool) (xs ys : List View) (v : View) → n ≡ length xs → count < length xs → IsTable xs count messages → now ≡ (messages || v.flags.m) → can_fill (take count xs) v.vpn ≡ true → ys ≡ set xs count v
     → IsTable (take n (ys ++ drop (length ys) xs)) (count + 1) now
-table_filled n count messages now xs ys v whole table is room became =
+table_filled n count messages now xs ys v whole below table is room became =
     let size : length ys ≡ length xs = ap length became ∙ length-set xs count v in
-    let below : count < length xs = free_place count messages xs v.vpn table room in
-    let more : count + 1 ≤ 8 = omega (arith, below, table.eight) in
     rw (written_over n xs ys whole size) (record {
-      eight = size ∙ table.eight;
-      within = more;
+      few = omega (arith, size, table.few);
+      within = omega (arith, size, below);
       one_a_page = subst HaveOneViewAPage (sym (ap (take (count + 1)) became ∙ take_more_set xs count v below))
           (one_filled (take count xs) v room table.one_a_page);
       flagged = is ∙ (ap (λ (b : Bool). b || v.flags.m) table.flagged ∙ sym (ap has_message (ap (take (count + 1)) became ∙ take_more_set xs count v below) ∙ messages_more (take count xs) v));

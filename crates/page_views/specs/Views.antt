@@ -1,5 +1,5 @@
 -- Copied pages: what one is, and the pages that a step sees in them.
-use Rattle.std.specs.Prelude.{◌≡◌, ◌≢◌, ℕ, ◌/◌, ◌≤◌, Bool, true, false, ◌&&◌, ◌||◌, ◌==◌, if◌then◌else◌, List, [], ◌∷◌, ◌++◌, map, find, length, take, drop, replicate, Option, Some, None, is_some, nat_le, nat_lt, not}
+use Rattle.std.specs.Prelude.{◌≡◌, ◌≢◌, ℕ, ◌-◌, ◌/◌, ◌<◌, ◌≤◌, Bool, true, false, ◌&&◌, ◌||◌, ◌==◌, if◌then◌else◌, List, [], ◌∷◌, ◌++◌, map, find, length, take, drop, replicate, Option, Some, None, is_some, nat_le, nat_lt, not}
 use Rattle.std.specs.Option.{option_map}
 use Rattle.std.specs.List.{AllPairs}
 use Rattle.cache_ident.specs.declared.idents.Ident.{Ident}
@@ -107,9 +107,9 @@ pub record Table : Type 0 where
   pub views : List View
   pub kept : List (Option Dated)
 
--- of so many slots the first are views
+-- Of the slots that were ever used, so many are views. Up to eight, the others keep nothing.
 abbrev pub table_of : ℕ → List View → Table
-table_of count slots = record { views = take count slots; kept = map dated (drop count slots) }
+table_of count slots = record { views = take count slots; kept = map dated (drop count slots) ++ replicate (8 - length slots) None }
 
 -- what no access changes of a table
 abbrev pub rest_of : Table → List Copied × List (Option Dated)
@@ -168,12 +168,18 @@ abbrev pub has_message : List View → Bool
 has_message [] = false
 has_message (v ∷ vs) = v.flags.m || has_message vs
 
--- eight views, of which the first so many are present, and whether some of these has the message flag
-pub record IsTable (views : List View) (count : ℕ) (messages : Bool) : Type 0 where
-  pub eight : length views ≡ 8
-  pub within : count ≤ 8
-  pub one_a_page : HaveOneViewAPage (take count views)
-  pub flagged : messages ≡ has_message (take count views)
+-- up to eight slots, of which the first so many are views, and whether some of these has the message flag
+pub record IsTable (slots : List View) (count : ℕ) (messages : Bool) : Type 0 where
+  pub few : length slots ≤ 8
+  pub within : count ≤ length slots
+  pub one_a_page : HaveOneViewAPage (take count slots)
+  pub flagged : messages ≡ has_message (take count slots)
+
+-- there is a slot behind the first so many, and nothing else is new
+pub record IsReached (count : ℕ) (old new : List View) : Type 0 where
+  pub behind : count < length new
+  pub few : length new ≤ 8
+  pub same : table_of count new ≡ table_of count old
 
 abbrev pub where_flagged : Access → Option View → Option View
 where_flagged access None = None

@@ -1,10 +1,10 @@
 //! Up to eight copied pages.
 
-ghost use Rattle.std.specs.Prelude.{◌≡◌, ◌+◌, ◌<◌, ◌≤◌, [], ◌++◌, length, map, find, take, drop, slice_get, slice_set, Some, None, is_some, IfOk, IfSome, IsTrue};
+ghost use Rattle.std.specs.Prelude.{◌≡◌, ◌+◌, ◌<◌, ◌≤◌, [], ◌++◌, length, map, find, take, drop, replicate, slice_get, slice_set, vec_capacity, Some, None, is_some, IfOk, IfSome, IsTrue};
 ghost use Rattle.std.specs.Option.{option_copied, option_map};
 ghost use Rattle.rv32_exec.specs.Pages.{size_of};
 ghost use Rattle.page_views.specs.Origins.{viewed, viewed_beside};
-ghost use Rattle.page_views.specs.Views.{all_dated, can_fill as can_fill_def, dated, filled, has_message as has_message_def, if_since, is_of_page, is_touched_of, kept_since as kept_since_def, mark_view_of, nothing_kept, put_in_view, refilled, view_through, with_filled, HaveOneViewAPage, View};
+ghost use Rattle.page_views.specs.Views.{all_dated, can_fill as can_fill_def, dated, filled, has_message as has_message_def, if_since, is_of_page, is_touched_of, kept_since as kept_since_def, mark_view_of, nothing_kept, put_in_view, refilled, view_through, with_filled, HaveOneViewAPage, IsReached, View};
 ghost use Rattle.page_views.specs.Ways.{LeadsTo};
 
 use crate::page::{Origin, PageView};
@@ -26,7 +26,8 @@ const MOST: usize = 8;
 /// go through it. No call after `new` takes memory.
 #[derive(Drop)]
 pub struct PageViews {
-    // Eight of them, of which the first so many are views. The others keep what they were copied from.
+    // Up to eight slots, of which the first `count` are views. The others keep what they were copied from. There is room for all
+    // eight, and a slot is written when it is first used.
     views: Vec<PageView>,
     count: usize,
     // Whether one of those has the message flag.
@@ -36,7 +37,7 @@ pub struct PageViews {
 }
 
 impl Model for PageViews {
-    ghost use Rattle.std.specs.Prelude.{take};
+    ghost use Rattle.std.specs.Prelude.{◌≤◌, take, vec_capacity};
     ghost use Rattle.page_views.specs.Views.{table_of, IsTable, Table};
     ghost use Rattle.page_views.specs.Ways.{LeadRight};
 
@@ -44,20 +45,16 @@ impl Model for PageViews {
 
     ghost view = { λ table. table_of table.count table.views.items };
 
-    ghost invariant = { λ table. IsTable table.views.items table.count table.messages × LeadRight (take table.count table.views.items) table.ways };
+    ghost invariant = { λ table. IsTable table.views.items table.count table.messages × LeadRight (take table.count table.views.items) table.ways × (8 ≤ vec_capacity table.views) };
 }
 
 impl PageViews {
-    /// No view, and nothing kept. The one call that takes memory, some 100 KiB.
+    /// No view, and nothing kept. The one call that takes memory, some 100 KiB. None of it is written before it is used.
     pub fn new(alloc: Global) -> Result<PageViews, NoMemory>
         ensures { IfOk result (λ table. table ≡ record { views = []; kept = nothing_kept }) }
     {
-        let mut views = Vec::with_capacity(alloc, MOST)?;
-        for _slot in 0..MOST {
-            views.push(PageView::empty())?;
-        }
         Ok(PageViews {
-            views,
+            views: Vec::with_capacity(alloc, MOST)?,
             count: 0,
             messages: false,
             ways: Ways::none(),
@@ -154,6 +151,7 @@ impl PageViews {
         requires whole_page { length bytes.now ≡ 4096 }
         ensures { self.new ≡ with_filled self.old (viewed_beside self.old.views origin bytes.now) }
     {
+        reach(&mut self.views, self.count);
         fill_at(&mut self.views, self.count, origin, bytes);
         self.count += 1;
         self.messages |= origin.flags.m;
@@ -191,7 +189,7 @@ impl PageViews {
         if find_touched(self.as_slice(), frame).is_some() {
             return None;
         }
-        place_since(&self.views[self.count], frame, since)
+        place_since(self.views.get(self.count)?, frame, since)
     }
 
     /// The view that an access goes through: that of the page of `va`, where its flags let the access through.
@@ -269,6 +267,20 @@ fn way_in(views: &[PageView], vpn: Vpn, access: Access) -> Option<usize>
     None
 }
 
+// Writes the slot behind the first `count`, where it was never used.
+fn reach(views: &mut Vec<PageView>, count: usize)
+    requires within { count ≤ length views.old.items }
+    requires few { count < 8 }
+    requires most { length views.old.items ≤ 8 }
+    requires room { 8 ≤ vec_capacity views.old }
+    ensures reached { IsReached count views.old.items views.new.items }
+    ensures capacity { vec_capacity views.new ≡ vec_capacity views.old }
+{
+    if count == views.len() {
+        views.push_reserved(PageView::empty());
+    }
+}
+
 // Copies a page into the view behind the first `count`.
 fn fill_at(views: &mut [PageView], count: usize, origin: Origin, bytes: &[u8])
     requires room { count < length views.old }
@@ -300,8 +312,7 @@ fn place_since(view: &PageView, frame: Frame, since: u64) -> Option<u64>
 
 // Of no view do the bytes carry a place any more.
 fn forget_each(views: &mut [PageView])
-    requires { length views.old ≡ 8 }
-    ensures { map dated views.new ≡ nothing_kept }
+    ensures { map dated views.new ≡ replicate (length views.old) None }
 {
     for i in 0..views.len() {
         views[i].forget();

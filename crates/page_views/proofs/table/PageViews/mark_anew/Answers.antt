@@ -1,5 +1,5 @@
 -- The ways lead where they led, and one more to the view that was marked.
-use Rattle.std.proofs.Common.{◌+◌, ◌%◌, List, ◌++◌, length, take, drop, arith, sym, subst}
+use Rattle.std.proofs.Common.{◌+◌, ◌%◌, List, ◌++◌, length, take, drop, sym, subst}
 use Rattle.page_views.specs.declared.ways.Way.{Way}
 use Rattle.page_views.specs.declared.ways.Ways.{Ways}
 use Rattle.page_views.specs.Views.{View, mark_view_of}
@@ -22,7 +22,8 @@ invariant_of-self c =
       table_mapped f same q.views.len q.count q.messages q.views.items c.mark_each.new.views q.views.ok.0 table became,
       subst (λ (w : Ways). LeadRight vs w) (sym c.note.ensures)
           (noted_lead c.args.access vs q.ways (c.args.vpn.0 % 16) way leads
-          (ways_written f same (mark_marks c.args.vpn c.args.access) q.views.len q.count q.views.items c.mark_each.new.views q.ways q.views.ok.0 (omega (arith, table.eight, table.within)) became c.self.invariant.1)),
+          (ways_written f same (mark_marks c.args.vpn c.args.access) q.views.len q.count q.views.items c.mark_each.new.views q.ways q.views.ok.0 table.within became c.self.invariant.1)),
+      c.self.invariant.2,
     )
 
 pub invariant_of-self-in_default : goal.invariant_of-self-in_default
@@ -33,5 +34,6 @@ invariant_of-self-in_default c =
     let became = rw c.deref_mut.ensures.value at c.mark_each.ensures in
     let table = c.self.invariant.0 in (
       table_mapped f same q.views.len q.count q.messages q.views.items c.mark_each.new.views q.views.ok.0 table became,
-      ways_written f same (mark_marks c.args.vpn c.args.access) q.views.len q.count q.views.items c.mark_each.new.views q.ways q.views.ok.0 (omega (arith, table.eight, table.within)) became c.self.invariant.1,
+      ways_written f same (mark_marks c.args.vpn c.args.access) q.views.len q.count q.views.items c.mark_each.new.views q.ways q.views.ok.0 table.within became c.self.invariant.1,
+      c.self.invariant.2,
     )

@@ -12,5 +12,5 @@ returns-in-Some c =
     let vs = take q.count q.views.items in
     let way : Way = record { tag = c.args.va / 4096 + 1; place = c.in-Some.place } in
     let leads = leads_there c.args.access vs q.ways way c.self.invariant.1 (rw c.in-Some.is at c.place.ensures) (omega arith) in
-    ap (λ (v : View). Some v) (read_there c.args.access q.count q.views.items way leads c.index.result.now (omega (arith, table.eight, table.within)) c.index.ensures)
+    ap (λ (v : View). Some v) (read_there c.args.access q.count q.views.items way leads c.index.result.now table.within c.index.ensures)
     ∙ (sym (through_way c.args.access vs way table.one_a_page leads c.args.va refl) ∙ ap (λ (ws : List View). view_through ws c.args.access c.args.va) (ap (λ (t : Table). t.views) c.self.view_is))
