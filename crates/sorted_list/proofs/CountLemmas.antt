@@ -1,6 +1,8 @@
 -- How many items of a list come before a cut.
 use Rattle.std.proofs.Common.{◌≡◌, ℕ, zero, suc, ◌+◌, ◌<◌, ◌≤◌, Bool, true, false, cond, List, [], ◌∷◌, ◌++◌, length, get_or, All, AllPairs, count_by, ◌⊎◌, inl, inr, refl, sym, ◌∙◌, ap, subst, arith}
+use Rattle.std.specs.Prelude.{slice_get, Option, Some, None}
 use Rattle.std.specs.List.Sorted.{IsPartitionPoint}
+use Rattle.std.specs.Option.{option_or}
 use Rattle.std.proofs.Math.ListN.{get_or-append}
 use Rattle.std.proofs.Math.Seq.{get_or-append_seam}
 use Rattle.std.proofs.lemmas.Bool.{false≢true}
@@ -94,3 +96,28 @@ module _ {X : Type 0} (p : X → Bool) where
       all_fail : p x ≡ false → ((k : ℕ) (d : X) → k < length xs → p (get_or xs k d) ≡ false) → (k : ℕ) (d : X) → k < length (x ∷ xs) → p (get_or (x ∷ xs) k d) ≡ false
       all_fail failing none zero d high = failing
       all_fail failing none (suc k) d high = none k d (omega (arith, high))
+
+module _ {X : Type 0} where
+  -- what stands at a place up to an item
+  pub get_upto : (xs : List X) (y : X) (ys : List X) (k : ℕ) → k ≤ length xs → slice_get (xs ++ y ∷ ys) k ≡ option_or (slice_get xs k) (Some y)
+  get_upto [] y ys zero within = refl
+  get_upto [] y ys (suc k) within = absurd (omega (arith, within))
+  get_upto (x ∷ xs) y ys zero within = refl
+  get_upto (x ∷ xs) y ys (suc k) within = get_upto xs y ys k (omega (arith, within))
+
+  -- and behind it
+  pub get_behind : (xs : List X) (y : X) (ys : List X) (k n : ℕ) → n ≡ length xs + 1 + k → slice_get (xs ++ y ∷ ys) n ≡ slice_get ys k
+  get_behind [] y ys k n is =
+      let next : n ≡ suc k = omega (arith, is) in
+      ap (slice_get (y ∷ ys)) next
+  get_behind (x ∷ xs) y ys k zero is = absurd (omega (arith, is))
+  get_behind (x ∷ xs) y ys k (suc n) is = get_behind xs y ys k n (omega (arith, is))
+
+  -- where one is given in its place, no other is
+  pub given_once : (o : Option X) (y : X) (other : Option X) → option_or (option_or o (Some y)) other ≡ option_or o (Some y)
+  given_once None y other = refl
+  given_once (Some x) y other = refl
+
+  pub or_none : (o : Option X) → option_or o None ≡ o
+  or_none None = refl
+  or_none (Some x) = refl

@@ -4,17 +4,17 @@ use Rattle.std.specs.declared.cmp.Ordering.{Ordering}
 use Rattle.std.specs.declared.cmp.Ordering.TheVariants.{Less, Equal, Greater}
 use Rattle.std.specs.Cmp.{IsTotalOrder}
 use Rattle.std.specs.List.{insert, remove, slice_range}
-use Rattle.std.specs.Ordering.{eq_by_cmp, is_le, is_lt}
-use Rattle.std.specs.Prelude.{slice_get, None, Some, if◌then◌else◌}
-use Rattle.std.proofs.lemmas.List.Elements.{All-cons}
+use Rattle.std.specs.Ordering.{eq_by_cmp, is_eq, is_le, is_lt}
+use Rattle.std.specs.Prelude.{slice_get, Option, None, Some, if◌then◌else◌}
+use Rattle.std.proofs.lemmas.List.Elements.{All-cons, All-head, filter_passes}
 use Rattle.std.proofs.lemmas.Bool.{cases_lt, false≢true}
 use Rattle.std.proofs.lemmas.Cmp.{tied_itself}
 use Rattle.std.proofs.lemmas.List.{drop_more}
 use Rattle.std.proofs.lemmas.List.Edits.{length-insert, length-remove}
 use Rattle.std.proofs.lemmas.List.Quantifiers.{all_pairs_remove}
 use Rattle.std.proofs.lemmas.List.Sums.{count_by-le-length}
-use Rattle.std.proofs.lemmas.Option.{get_or_from_slice_get, slice_get_within}
-use Rattle.sorted_list.specs.Sorted.{by_parts, IsProper, IsRising}
+use Rattle.std.proofs.lemmas.Option.{get_or_from_slice_get, slice_get_cases, slice_get_within}
+use Rattle.sorted_list.specs.Sorted.{by_parts, values_under, IsProper, IsRising}
 use Rattle.sorted_list.specs.Fixed.{Fixed}
 use Rattle.sorted_list.proofs.CountLemmas.{parted, Falls}
 use Rattle.sorted_list.proofs.TreeLemmas.{some_same}
@@ -84,6 +84,60 @@ range_step xs i end x lt read =
     let within = slice_get_within xs i x read in
     let left : end - i ≡ suc (end - (i + 1)) = omega (arith, lt) in
     ap (λ l. take (end - i) l) (drop_more xs i x within ∙ ap (λ y. y ∷ drop (i + 1) xs) (get_or_from_slice_get xs i x x read)) ∙ ap (λ n. take n (x ∷ drop (i + 1) xs)) left
+
+le_where_eq : (o : Ordering) → is_eq o ≡ true → is_le o ≡ true
+le_where_eq Less ties = refl
+le_where_eq Equal ties = refl
+le_where_eq Greater ties = ties
+
+-- the value of an entry, where it has the key
+abbrev pub value_if : {K V : Type 0} → (K → K → Bool) → K → Option (K × V) → Option V
+value_if same key None = None
+value_if same key (Some entry) = if same entry.0 key then Some entry.1 else None
+
+-- the first value under a key is that of the first entry that doesn't come before the key
+module _ {K V : Type 0} (first : K → K → Ordering) (o : IsTotalOrder first) (second : V → V → Ordering) (entries : List (K × V)) (rising : IsRising (by_parts first second) entries) (key : K) (same : K → K → Bool) (ties : (a b : K) → same a b ≡ eq_by_cmp first a b) where
+  abbrev upto : K × V → Bool
+  upto entry = is_le (first entry.0 key)
+
+  abbrev begin : ℕ
+  begin = count_by (λ (entry : K × V). is_lt (first entry.0 key)) entries
+
+  abbrev end : ℕ
+  end = count_by upto entries
+
+  abbrev under : List (K × V)
+  under = filter (λ (entry : K × V). same entry.0 key) entries
+
+  run_under : slice_range entries begin end ≡ under
+  run_under = (run_is first o second entries rising key same ties).run
+
+  none_under : end ≤ begin → slice_get (map (λ (entry : K × V). entry.1) under) 0 ≡ None
+  none_under none =
+      let gone : end - begin ≡ 0 = omega (arith, none) in
+      ap (λ (l : List (K × V)). slice_get (map (λ (entry : K × V). entry.1) l) 0) (sym run_under ∙ ap (λ n. take n (drop begin entries)) gone)
+
+  first_there : (entry : K × V) → begin < length entries → slice_get entries begin ≡ Some entry → get_or entries begin entry ≡ entry → (t : Bool) → same entry.0 key ≡ t → slice_get (map (λ (entry : K × V). entry.1) under) 0 ≡ (if t then Some entry.1 else None)
+  first_there entry within read is true tied =
+      let here : is_le (first entry.0 key) ≡ true = le_where_eq (first entry.0 key) (sym (ties entry.0 key) ∙ tied) in
+      elim (cases_lt begin end) [
+        | inl below ↦ ap (λ (l : List (K × V)). slice_get (map (λ (entry : K × V). entry.1) l) 0) (sym run_under ∙ range_step entries begin end entry below read)
+        | inr past ↦ absurd (false≢true (sym ((parted upto entries (falls_upto first o second entries rising key)).1 begin entry (omega (arith, past)) within) ∙ ap upto is ∙ here))
+      ]
+  first_there entry within read is false apart =
+      elim (cases_lt begin end) [
+        | inl below ↦
+            let run = sym run_under ∙ range_step entries begin end entry below read in
+            let all = subst (All (λ (e : K × V). same e.0 key ≡ true)) run (filter_passes (λ (e : K × V). same e.0 key) entries) in
+            absurd (false≢true (sym apart ∙ All-head (λ (e : K × V). same e.0 key ≡ true) entry (slice_range entries (begin + 1) end) all))
+        | inr past ↦ none_under (omega (arith, past))
+      ]
+
+  pub first_is : slice_get (values_under same entries key) 0 ≡ value_if same key (slice_get entries begin)
+  first_is = elim ((slice_get_cases entries begin).1) [
+    | inl there ↦ first_there there.0 there.1 there.2 there.3 (same there.0.0 key) refl ∙ sym (ap (value_if same key) there.2)
+    | inr past ↦ none_under (omega (arith, past.0, (run_is first o second entries rising key same ties).within)) ∙ sym (ap (value_if same key) past.1)
+  ]
 
 module _ {K V : Type 0} (first : K → K → Ordering) (o : IsTotalOrder first) (second : V → V → Ordering) (p : IsTotalOrder second) (list : Fixed (K × V)) (proper : IsProper first second (record { room = list.room; entries = list.items })) (entry : K × V) (place : ℕ) (counted : place ≡ count_by (λ other. is_lt (by_parts first second other entry)) list.items) where
   -- the list is in order after an entry came

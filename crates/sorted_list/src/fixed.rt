@@ -1,6 +1,7 @@
 //! A list in memory that is made once, with places found in logarithmic time.
 
 ghost use Rattle.std.specs.Prelude.{◌≡◌, ◌<◌, ◌≤◌, ◌^◌, [], true, AllPairs, count_by, length, insert, remove, slice_get, vec_capacity, vec_len, IfOk};
+ghost use Rattle.std.specs.Option.{option_copied};
 ghost use Rattle.sorted_list.specs.Layout.{IsSeated};
 
 use super::nodes::{self, Branch, EMPTY, Node};
@@ -71,6 +72,14 @@ impl<T: Copy> FixedList<T> {
         ensures { result ≡ count_by (C.is_behind_of cut.now) self.now.items }
     {
         search::count_before(&self.nodes, self.root, cut)
+    }
+
+    /// The first item that the cut is not behind; `None` where it is behind all.
+    pub(crate) fn first_from<C: Cut<T>>(&self, cut: &C) -> Option<&T>
+        requires { AllPairs (λ a b. C.is_behind_of cut.now b ≡ true → C.is_behind_of cut.now a ≡ true) self.now.items }
+        ensures { option_copied result ≡ slice_get self.now.items (count_by (C.is_behind_of cut.now) self.now.items) }
+    {
+        search::first_from(&self.nodes, self.root, cut, None)
     }
 
     /// Puts an item at a place, before what is there.

@@ -1,6 +1,7 @@
 //! The way down a tree to where something comes.
 
-ghost use Rattle.std.specs.Prelude.{◌≡◌, ◌≤◌, Bool, true, AllPairs, count_by};
+ghost use Rattle.std.specs.Prelude.{◌≡◌, ◌≤◌, Bool, true, AllPairs, count_by, slice_get};
+ghost use Rattle.std.specs.Option.{option_copied, option_or};
 ghost use Rattle.std.specs.Ordering.{is_le, is_lt};
 ghost use Rattle.sorted_list.specs.Sorted.{by_parts};
 ghost use Rattle.sorted_list.specs.Trees.{Stands, Tree, items_of};
@@ -66,5 +67,26 @@ pub(crate) fn count_before<T: Copy, C: Cut<T>>(nodes: &[Node<T>], branch: Branch
         node.before.count + 1 + count_before(nodes, node.behind, cut)
     } else {
         count_before(nodes, node.before, cut)
+    }
+}
+
+/// The first item that the place is not behind; where it is behind all, what is given.
+pub(crate) fn first_from<'a, T: Copy, C: Cut<T>>(
+    nodes: &'a [Node<T>],
+    branch: Branch,
+    cut: &C,
+    other: Option<&'a T>,
+) -> Option<&'a T>
+    requires { (tree : Tree T) × Stands nodes.now branch tree }
+    ensures { (tree : Tree T) → Stands nodes.now branch tree → AllPairs (λ a b. C.is_behind_of cut.now b ≡ true → C.is_behind_of cut.now a ≡ true) (items_of tree) → option_copied result ≡ option_or (slice_get (items_of tree) (count_by (C.is_behind_of cut.now) (items_of tree))) (option_copied other.entry) }
+{
+    if branch.count == 0 {
+        return other;
+    }
+    let node = &nodes[branch.seat as usize];
+    if cut.is_behind(&node.item) {
+        first_from(nodes, node.behind, cut, other)
+    } else {
+        first_from(nodes, node.before, cut, Some(&node.item))
     }
 }

@@ -90,7 +90,10 @@ impl<K: Ord + Copy, V: Ord + Copy> SortedList<K, V> {
         ensures value { result ≡ slice_get (values_under K.eq self.now.entries key.now) 0 }
         ensures proper { IsProper K.cmp V.cmp self.now }
     {
-        self.run(key).next()
+        match self.list.first_from(&AtKey(key)) {
+            Some(entry) if entry.0 == *key => Some(entry.1),
+            _ => None,
+        }
     }
 
     /// How many entries have keys below that one.
