@@ -1,7 +1,7 @@
 -- What a change of one thread, or of the marks of one row, leaves of a machine with caches.
 use Rattle.std.proofs.Common.{◌≡◌, ℕ, ◌%◌, ◌<◌, ◌≤◌, Bool, true, false, List, length, map, Option, Some, None, IsSome, slice_get, refl, sym, ◌∙◌, ap, set, subst, subst₂, ◌⊎◌, inl, inr, arith, length-append}
 use Rattle.std.specs.Option.{option_map}
-use Rattle.std.specs.Prelude.{◌||◌, is_some, if◌then◌else◌, nat_lt}
+use Rattle.std.specs.Prelude.{◌||◌, ◌&&◌, not, is_some, if◌then◌else◌, nat_lt}
 use Rattle.std.proofs.Math.Path.{fun_ext}
 use Rattle.std.proofs.lemmas.Bool.{cases_Bool, false≢true, ltb-false}
 use Rattle.std.proofs.lemmas.Option.{same_Some, slice_get_within}
@@ -26,8 +26,11 @@ use Rattle.flat_laws.proofs.ParentLaws.{there_is}
 use Rattle.flat_thread.specs.Calls.{queue_with}
 use Rattle.thread_cache.specs.declared.ThreadRec.{ThreadRec}
 use Rattle.slot_cache.specs.Rows.{row_name as slot_row_name}
+use Rattle.owner_shelf.proofs.NameLemmas.{eq_apart, eq_itself}
+use Rattle.kind_store.specs.Changes.{is_name}
 use Rattle.kind_store.specs.Kept as stored
 use Rattle.kind_store.proofs.ContentLemmas.{cases_name}
+use Rattle.board_laws.specs.desc_stores.specs.declared.items.Item.{Item}
 use Rattle.board_laws.specs.desc_stores.specs.declared.items.Item.TheVariants as item
 use Rattle.board_laws.specs.desc_stores.specs.Changes.{HasContent}
 use Rattle.board_laws.specs.desc_stores.specs.Contents.{content_of, Contents}
@@ -44,7 +47,7 @@ use Rattle.cached_machine.specs.declared.stepping.Change.{Change}
 use Rattle.cached_machine.specs.declared.stepping.Change.TheVariants.{Put, Give, Answer}
 use Rattle.cached_machine.specs.Cached.{state_of, Cached, IsSound}
 use Rattle.cached_machine.specs.Aside.{aside_of, but_for_steps}
-use Rattle.cached_machine.specs.Stepping.{left_by, shows_left_by, IsMarked, IsStepped, MayCome, OnlyContents}
+use Rattle.cached_machine.specs.Stepping.{lacks_mark, left_by, shows_left_by, IsMarked, IsStepped, MayCome, OnlyContents}
 
 -- what no step changes of a thread
 pub record KeepsThread (was now : ThreadRec) : Type 0 where
@@ -228,6 +231,58 @@ module _ (machine : Machine) (memory : List ℕ) (h h' : Held) (sets : Sets) (sp
     sets = subst (λ (ts : List FlatThread). AreSetsOf ts sets) (sym (ap (λ (s : FlatState). s.threads) marks)) sound.sets;
     caps = ap (λ (x : Held). x.caps) only.rest ∙ sound.caps;
     sums = sound.sums ∙ ap (λ (s : FlatState). locks_granted s.kernels) (sym marks);
+  }
+
+-- ---- a row that has its marks
+
+lacking : (referenced written modified : Bool) → (not referenced || (written && not modified)) ≡ false → (referenced ≡ true) × ((modified || written) ≡ modified)
+lacking false written modified has = absurd (cc)
+lacking true false true has = (refl, refl)
+lacking true false false has = (refl, refl)
+lacking true true true has = (refl, refl)
+lacking true true false has = absurd (cc)
+
+pub lacks_of_some : (written : Bool) (o : Option Item) → lacks_mark written o ≡ true → IsSome o
+lacks_of_some written None lacks = absurd (cc)
+lacks_of_some written (Some it) lacks = refl
+
+module _ (h : Held) (space : SpaceNo) (vpn : Vpn) (written : Bool) (has : lacks_mark written (content_of h.contents (name.Mapping space vpn)) ≡ false) where
+  module _ (row : Row) (was : content_of h.contents (name.Mapping space vpn) ≡ Some (item.Mapping row)) where
+    mark_changes_nothing : marked space vpn.0 written row ≡ row
+    mark_changes_nothing = by (is_row_of space vpn.0 row)
+      where
+        its : (row.referenced ≡ true) × ((row.modified || written) ≡ row.modified)
+        its = lacking row.referenced written row.modified (subst (λ (o : Option Item). lacks_mark written o ≡ false) was has)
+
+        by : (b : Bool) → (if b then record row { referenced = true; modified = row.modified || written } else row) ≡ row
+        by false = refl
+        by true =
+            ap (λ (x : Bool). let r : Row = record row { referenced = x; modified = row.modified || written } in r) (sym its.0)
+            ∙ ap (λ (x : Bool). let r : Row = record row { modified = x } in r) its.1
+
+    content_stays : HasContent h.contents h.contents (item.Mapping row)
+    content_stays other = elim (cases_name (row_name row) other) [
+      | inl same ↦ subst (λ (n : Name). content_of h.contents n ≡ (if is_name (row_name row) n then Some (item.Mapping row) else content_of h.contents n)) same (
+          ap (content_of h.contents) (item_has_name h.contents (name.Mapping space vpn) (item.Mapping row) was) ∙ was
+          ∙ sym (ap (λ (b : Bool). if b then Some (item.Mapping row) else content_of h.contents (row_name row)) (eq_itself (row_name row))))
+      | inr apart ↦ sym (ap (λ (b : Bool). if b then Some (item.Mapping row) else content_of h.contents other) (eq_apart (row_name row) other apart))
+    ]
+
+  -- stays as it is
+  pub marks_stay : IsMarked h h space vpn written
+  marks_stay = record {
+    some = λ row was. (
+      subst (λ (r : Row). HasContent h.contents h.contents (item.Mapping r)) (sym (mark_changes_nothing row was)) (content_stays row was),
+      record {
+        rest = refl;
+        names = record { kernels = refl; spaces = refl; threads = refl; rows = refl };
+        residents = refl;
+        issued = refl;
+        spare = refl;
+        room = refl;
+      },
+    );
+    none = λ absent. refl;
   }
 
 -- a page with no row has no mark

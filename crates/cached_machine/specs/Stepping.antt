@@ -1,5 +1,5 @@
 -- What a step makes of a thread, and what else that changes.
-use Rattle.std.specs.Prelude.{◌≡◌, ◌%◌, ◌<◌, false, if◌then◌else◌, nat_lt, length, Bool, Option, Some, None}
+use Rattle.std.specs.Prelude.{◌≡◌, ◌%◌, ◌<◌, ◌||◌, ◌&&◌, not, false, if◌then◌else◌, nat_lt, length, Bool, Option, Some, None}
 use Rattle.cache_ident.specs.declared.names.Name.TheVariants as name
 use Rattle.cache_ident.specs.declared.names.ThreadNo.{ThreadNo}
 use Rattle.cache_ident.specs.declared.names.SpaceNo.{SpaceNo}
@@ -59,6 +59,11 @@ pub record IsStepped (change : Change) (old new : Held) (was are : Sets) (no : T
   pub contents : HasContent old.contents new.contents (item.Thread (left_by change value))
   pub only : OnlyContents old new
   pub sets : are ≡ noted was (left_by change value)
+
+-- it is a row that isn't marked as used, or, where it is to be, as stored to
+abbrev pub lacks_mark : Bool → Option Item → Bool
+lacks_mark written (Some (item.Mapping row)) = not row.referenced || (written && not row.modified)
+lacks_mark written _ = false
 
 -- the row of that page, if there is one, is marked, and nothing else changed
 pub record IsMarked (old new : Held) (space : SpaceNo) (vpn : Vpn) (written : Bool) : Type 0 where

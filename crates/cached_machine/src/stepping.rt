@@ -2,7 +2,7 @@
 
 ghost use Rattle.std.specs.Prelude.{◌≡◌, ◌<◌, ◌||◌, true, length, IsSome};
 ghost use Rattle.board_laws.specs.desc_stores.specs.Contents.{content_of};
-ghost use Rattle.cached_machine.specs.Stepping.{left_by, IfThread, IsMarked, IsStepped};
+ghost use Rattle.cached_machine.specs.Stepping.{lacks_mark as lacks_mark_def, left_by, IfThread, IsMarked, IsStepped};
 ghost use Rattle.thread_sets.specs.Sets.{noted};
 
 use board_laws::{ItemRef, Tables};
@@ -71,12 +71,22 @@ pub(crate) fn note(tables: &Tables, sets: &mut ThreadSets, no: ThreadNo)
     }
 }
 
-// Marks the row of a page where it stands, if there is one.
+// Marks the row of a page where it stands, if there is one. One that has its marks is left alone, which saves a search.
 pub(crate) fn mark_named(tables: &mut Tables, space: SpaceNo, vpn: Vpn, written: bool)
     ensures { IsMarked tables.old tables.new space vpn written }
 {
     let name = Name::Mapping(space, vpn);
-    if tables.item(name).is_some() {
+    if lacks_mark(tables, name, written) {
         tables.update_row_named(name, |row| mark_row(row, written));
+    }
+}
+
+// Whether there is a row of that name which isn't marked as used, or, where `written`, as stored to.
+fn lacks_mark(tables: &Tables, name: Name, written: bool) -> bool
+    ensures { result ≡ lacks_mark_def written (content_of tables.now.contents name) }
+{
+    match tables.item(name) {
+        Some(ItemRef::Mapping(row)) => !row.referenced || written && !row.modified,
+        _ => false,
     }
 }
