@@ -1,14 +1,16 @@
 //! Threads go to processors, and come back.
 
-ghost use Rattle.std.specs.Prelude.{◌≡◌, ◌<◌, ◌≤◌, ◌↔◌, false, length, Contains, IfNone, IfSome};
+ghost use Rattle.std.specs.Prelude.{◌≡◌, ◌<◌, ◌≤◌, ◌↔◌, false, length, slice_get, Contains, IfNone, IfSome, Some};
 ghost use Rattle.std.specs.List.Sorted.{IsSortedBy};
 ghost use Rattle.std.specs.Ordering.{is_lt};
 ghost use Rattle.cache_ident.specs.declared.names.ThreadNo.{ThreadNo};
-ghost use Rattle.cache_ident.specs.Residents.{IsNameResident};
+ghost use Rattle.cache_ident.specs.Residents.{IsNameResident, IsResident};
 ghost use Rattle.board_core.specs.desc_stores.specs.Contents.{residents_of};
+ghost use Rattle.board_core.specs.shown_state.specs.Shown.{flat_thread};
 ghost use Rattle.board_core.specs.thread_sets.specs.SetsOf.{takes_steps};
 ghost use Rattle.ready_queue.specs.declared.Candidate.{Candidate};
 ghost use Rattle.ready_queue.specs.Choice.{is_before};
+ghost use Rattle.board_core.specs.cached_machine.specs.Cached.{state_of};
 ghost use Rattle.board_core.specs.cached_machine.specs.Posts.{mark_of};
 ghost use Rattle.board_core.specs.Core.{contents_of};
 ghost use Rattle.board_threads.specs.Posts.{HasComeBack, IsCheckedOut, IsOutWith, IsTicketFor, OnlyMarks};
@@ -19,9 +21,9 @@ use crate::known::{is_runnable, known};
 use crate::tickets::Ticket;
 use arrayvec::ArrayVec;
 use board_checks::thread_as;
-use board_core::{CachedMachine, Core};
-use cache_ident::{Name, ThreadNo};
-use flat_rules::{Records, is_ready};
+use board_core::{CachedMachine, Core, ItemRef};
+use cache_ident::{Ident, Name, ThreadNo};
+use flat_rules::is_ready;
 use ready_queue::Candidate;
 use std::cmp::Ordering;
 use thread_cache::ThreadRec;
@@ -161,15 +163,28 @@ fn ticket_of(core: &Core, cpu: u32, no: ThreadNo) -> Ticket
     let Some(ident) = core.machine().tables().resident(Name::Thread(no)) else {
         unreachable!()
     };
-    let Some(thread) = core.machine().thread(no) else {
-        unreachable!()
-    };
+    let thread = thread_loaded(core, no, ident);
     Ticket {
         thread: ident,
         no,
         cpu,
         context: thread.context,
     }
+}
+
+// The thread that is loaded with that identifier. Constant time.
+fn thread_loaded(core: &Core, no: ThreadNo, ident: Ident) -> &ThreadRec
+    requires loaded { IsResident (residents_of (contents_of core.now)) ident (Name.Thread no) }
+    ensures { Some (flat_thread result.now) ≡ slice_get (state_of core.now.machine).threads no.0 }
+{
+    known(core);
+    let Some(item) = core.machine().tables().get(ident) else {
+        unreachable!()
+    };
+    let ItemRef::Thread(thread) = item else {
+        unreachable!()
+    };
+    thread
 }
 
 /// Gives a thread back, where it is still loaded under the ticket's identifier and on the ticket's processor; else it does

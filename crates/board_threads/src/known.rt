@@ -2,7 +2,9 @@
 
 ghost use Rattle.std.specs.Prelude.{◌≡◌, None, Some, IfNone, IfSome, slice_get};
 ghost use Rattle.std.specs.Option.{option_copied, option_map};
+ghost use Rattle.flat_state.specs.Signals.{is_runnable as is_runnable_def};
 ghost use Rattle.flat_state.specs.WellFormed.{IsWellFormed};
+ghost use Rattle.flat_rules.specs.Readings.{IsThreadOf};
 ghost use Rattle.board_core.specs.desc_stores.specs.declared.items.Item.{Item};
 ghost use Rattle.board_core.specs.desc_stores.specs.Contents.{content_of};
 ghost use Rattle.board_core.specs.desc_stores.specs.Sound.{IsExactlyOne};
@@ -13,9 +15,9 @@ ghost use Rattle.board_core.specs.cached_machine.specs.Cached.{is_loaded as is_l
 ghost use Rattle.board_core.specs.Core.{contents_of, IsSound};
 ghost use Rattle.board_threads.specs.Tests.{goes_on};
 
-use board_core::{Core, ItemRef};
+use board_core::{CachedMachine, Core, ItemRef};
 use cache_ident::{Name, ThreadNo};
-use flat_rules::Records;
+use flat_rules::{Records, full_receiver, is_ready};
 use thread_cache::ThreadRec;
 
 // Does nothing. A proof has from it what holds of every core.
@@ -36,9 +38,22 @@ pub(crate) fn known(core: &Core)
 pub(crate) fn is_runnable(core: &Core, no: ThreadNo) -> bool
     ensures { result ≡ goes_on core.now no.0 }
 {
-    match core.next_step(no) {
-        Some(next) => next.runnable,
+    known(core);
+    match core.machine().thread(no) {
+        Some(thread) => can_step(core.machine(), thread),
         None => false,
+    }
+}
+
+// Whether the next step of a thread can be taken. It costs less than all that can be said of that step.
+fn can_step(machine: &CachedMachine, thread: &ThreadRec) -> bool
+    requires { IsThreadOf (state_of machine.now) (flat_thread thread.now) }
+    ensures { result ≡ is_runnable_def (state_of machine.now) (flat_thread thread.now) }
+{
+    if is_ready::<CachedMachine>(thread) {
+        full_receiver(machine, thread).is_none()
+    } else {
+        false
     }
 }
 

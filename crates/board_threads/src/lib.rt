@@ -9,7 +9,8 @@ mod tickets;
 
 pub use board_checks::{live, thread_as};
 pub use board_core::{
-    Answer, Core, Names, Op, PageView, Quantum, Refused, Tables, check_steps, check_waiting,
+    Answer, Core, ItemRef, Names, Op, PageView, Quantum, Refused, Tables, check_steps,
+    check_waiting,
 };
 pub use checkouts::{checkout, clear_marks, leave};
 pub use faults::confirm_fault;
