@@ -1,19 +1,24 @@
 -- The thread that is loaded with a ticket's identifier, and why a page of it isn't copied.
-use Rattle.std.proofs.Common.{◌≡◌, ℕ, Bool, Bor, Option, Some, None, Result, Ok, Err, slice_get, refl, sym, ◌∙◌, ap}
+use Rattle.std.proofs.Common.{◌≡◌, ℕ, Bool, true, false, not, Bor, Option, Some, None, Result, Ok, Err, slice_get, refl, sym, ◌∙◌, ap}
 use Rattle.std.specs.Prelude.{if◌then◌else◌, IfOk}
-use Rattle.std.specs.Option.{option_and_then, option_or}
+use Rattle.std.specs.Option.{is_some, option_and_then, option_map, option_or}
 use Rattle.cache_ident.specs.declared.idents.Ident.{Ident}
 use Rattle.cache_ident.specs.declared.idents.Kind.{Kind}
 use Rattle.cache_ident.specs.declared.idents.Kind.TheVariants as kind
+use Rattle.cache_ident.specs.declared.idents.Standing.{Standing}
+use Rattle.cache_ident.specs.declared.idents.Standing.TheVariants.{Live, Left, Never}
 use Rattle.cache_ident.specs.declared.names.Name.TheVariants as name
 use Rattle.cache_ident.specs.declared.names.Vpn.{Vpn}
+use Rattle.cache_ident.specs.Rolls.{standing_in}
 use Rattle.cache_ident.specs.Residents.{IsIdentResident, IsNameResident, IsResident}
 use Rattle.rv32_exec.specs.declared.contexts.Context.{Context}
 use Rattle.flat_state.specs.declared.records.FlatThread.{FlatThread}
 use Rattle.run_journal.specs.Legal.{is_kind}
 use Rattle.thread_cache.specs.declared.ThreadRec.{ThreadRec}
+use Rattle.board_threads.specs.desc_stores.specs.declared.items.ItemRef.{ItemRef}
 use Rattle.board_threads.specs.desc_stores.specs.declared.items.Item.TheVariants as item
 use Rattle.board_threads.specs.desc_stores.specs.Contents.{content_of, item_as, residents_of, Contents}
+use Rattle.board_threads.specs.desc_stores.specs.Items.{shown}
 use Rattle.board_threads.specs.desc_stores.specs.Sound.{IsExactlyOne}
 use Rattle.board_threads.specs.shown_state.specs.Shown.{flat_thread, thread_of}
 use Rattle.board_threads.specs.shown_state.proofs.LookupLemmas.{found_thread}
@@ -21,9 +26,9 @@ use Rattle.board_threads.specs.store_residents.proofs.ContentLemmas.{resident_it
 use Rattle.board_threads.specs.store_residents.proofs.ResidentLemmas.{live_iff}
 use Rattle.board_threads.specs.board_ops.specs.declared.refusals.Refused.{Refused}
 use Rattle.board_threads.specs.board_ops.specs.declared.refusals.Refused.TheVariants as why
-use Rattle.board_threads.specs.board_checks.specs.Identifiers.{not_a, not_live, thread_as, wrong_kind}
+use Rattle.board_threads.specs.board_checks.specs.Identifiers.{gone_by, not_a, not_live, thread_as, wrong_kind}
 use Rattle.board_threads.specs.board_checks.proofs.FirstLemmas.{first_fails, first_passes}
-use Rattle.board_threads.specs.board_checks.proofs.IdentifierLemmas.{item_resident, thread_is}
+use Rattle.board_threads.specs.board_checks.proofs.IdentifierLemmas.{item_live, item_resident, live_there, thread_is}
 use Rattle.board_threads.specs.board_checks.proofs.WhyLaws.{is_live}
 use Rattle.board_threads.specs.cached_machine.specs.Cached.{state_of}
 use Rattle.board_threads.specs.cached_machine.specs.Posts.{mark_in, mark_of}
@@ -76,6 +81,19 @@ module _ (c : Contents) (one : IsExactlyOne c) (ident : Ident) where
   content_as found is =
       let r = item_resident c ident one (item.Thread found) is in
       ap (content_of c) (sym r.3) ∙ sym (resident_item c one r.0 r.1) ∙ ap (item_as c) r.2 ∙ is
+
+  -- nothing is loaded with one that isn't live
+  pub gone_if : (o : Option ItemRef) → option_map shown o ≡ item_as c ident → (gone : Bool) → is_some o ≡ not gone → gone ≡ is_some (not_live c ident)
+  unfolding not_live
+  gone_if (Some it) is true some = absurd (cc)
+  gone_if (Some it) is false some = sym (ap (λ (s : Standing). is_some (gone_by ident s)) (item_live c ident one (shown it) (sym is)))
+  gone_if None none false some = absurd (cc)
+  gone_if None none true some = by (standing_in c.issued ident) refl
+    where
+      by : (s : Standing) → standing_in c.issued ident ≡ s → true ≡ is_some (gone_by ident s)
+      by Live live = absurd (live_there c ident one live none)
+      by (Left at) left = refl
+      by Never never = refl
 
 -- ---- what is known of the thread that is found
 

@@ -14,7 +14,7 @@ ghost use Rattle.board_commits.specs.Refusals.{changed, is_changed as is_changed
 ghost use Rattle.board_commits.specs.Tickets.{AreAsOf, AreOfTicket, IsAsOf};
 
 use crate::pages::thread_of;
-use board_threads::{Core, PageView, Quantum, Refused, Tables, Ticket, check_steps, live};
+use board_threads::{Core, PageView, Quantum, Refused, Tables, Ticket, check_steps};
 use cache_ident::ThreadNo;
 use flat_rules::Records;
 use thread_cache::ThreadRec;
@@ -87,7 +87,9 @@ fn check_rows(tables: &Tables, views: &[PageView]) -> Result<(), Refused>
 fn is_gone(tables: &Tables, view: &PageView) -> bool
     ensures { result ≡ is_gone_def tables.now.contents view.now }
 {
-    live(tables, view.row()).is_err()
+    // Whoever asks the tables for their room learns what holds of them.
+    let _ = tables.room();
+    tables.get(view.row()).is_none()
 }
 
 // Refuses a touched view whose frame isn't any more what was copied of it (`Changed`).

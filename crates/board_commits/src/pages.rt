@@ -8,24 +8,26 @@ ghost use Rattle.board_threads.specs.desc_stores.specs.declared.items.Item.{Item
 ghost use Rattle.board_threads.specs.desc_stores.specs.Contents.{content_of, residents_of};
 ghost use Rattle.board_threads.specs.shown_state.specs.Shown.{flat_thread};
 ghost use Rattle.phys_groups.specs.Memory.{HasFrame};
+ghost use Rattle.phys_groups.specs.Translation.{row_of};
 ghost use Rattle.page_views.specs.Views.{can_fill};
 ghost use Rattle.board_threads.specs.board_checks.specs.Identifiers.{not_live, thread_as};
+ghost use Rattle.board_threads.specs.cached_machine.specs.Cached.{state_of};
 ghost use Rattle.board_threads.specs.board_core.specs.Core.{contents_of};
 ghost use Rattle.board_commits.specs.Commits.{HasPage, IsPaged};
 ghost use Rattle.board_commits.specs.Refusals.{refusal_of_page};
 ghost use Rattle.board_commits.specs.Tickets.{AreKept, AreOfTicket};
 
-use board_threads::{Core, Quantum, Refused, Ticket, thread_as};
-use cache_ident::{Frame, Ident, Name, Vpn};
+use board_threads::{Core, ItemRef, Quantum, Refused, Ticket, thread_as};
+use cache_ident::{Frame, Ident, Name, SpaceNo, Vpn};
 use flat_rules::Records;
-use phys_groups::Flags;
+use phys_groups::{Flags, Row};
 use thread_cache::ThreadRec;
 
 /// Copies the page of a loaded row of the ticket's thread into a quantum that has room for it, whatever the row's flags. What
 /// carries a place in the quantum must be of this board's journal.
 ///
 /// It is refused where the ticket's identifier isn't live any more (`Unknown`, `Stale`), and where no row of that page is loaded
-/// (`NotLoaded`). It costs two searches, and a copy of the page where the quantum doesn't keep it since its frame changed last. It
+/// (`NotLoaded`). It costs a search, and a copy of the page where the quantum doesn't keep it since its frame changed last. It
 /// takes no memory.
 pub fn page(core: &Core, ticket: &Ticket, vpn: Vpn, quantum: &mut Quantum) -> Result<(), Refused>
     requires room { IsTrue (can_fill quantum.old.views vpn) }
@@ -40,11 +42,23 @@ pub fn page(core: &Core, ticket: &Ticket, vpn: Vpn, quantum: &mut Quantum) -> Re
     let Some(ident) = core.tables().resident(Name::Mapping(space, vpn)) else {
         return Err(Refused::NotLoaded { vpn });
     };
-    let Some(row) = core.machine().row(space, vpn) else {
-        unreachable!()
-    };
+    let row = row_loaded(core, space, vpn, ident);
     add_page(core, vpn, row.frame, row.flags, ident, quantum);
     Ok(())
+}
+
+// The row of a page that is loaded with that identifier. Constant time.
+fn row_loaded(core: &Core, space: SpaceNo, vpn: Vpn, ident: Ident) -> &Row
+    requires loaded { IsResident (residents_of (contents_of core.now)) ident (Name.Mapping space vpn) }
+    ensures { Some result.now ≡ row_of (state_of core.now.machine).rows space vpn.0 }
+{
+    let Some(item) = core.tables().get(ident) else {
+        unreachable!()
+    };
+    let ItemRef::Mapping(row) = item else {
+        unreachable!()
+    };
+    row
 }
 
 // Adds the view of a page to a quantum: of what it keeps, where the page's frame hasn't changed since, and else copied from memory.

@@ -1,13 +1,11 @@
-use Rattle.std.proofs.Common.{sym, ap, subst, ◌∙◌}
+use Rattle.std.proofs.Common.{sym, subst}
 use Rattle.cache_ident.specs.declared.names.Name.TheVariants as name
 use Rattle.cache_ident.specs.Residents.{IsNameResident, IsResident}
-use Rattle.phys_groups.specs.Translation.{row_of}
 use Rattle.board_threads.specs.desc_stores.specs.Contents.{residents_of}
 use Rattle.board_threads.specs.desc_tables.specs.Tables.{Held}
 use Rattle.board_threads.specs.shown_state.specs.Shown.{flat_thread}
-use Rattle.board_threads.specs.cached_machine.specs.Cached.{state_of, Cached}
 use Rattle.board_threads.specs.board_core.specs.Core.{contents_of}
-use Rattle.board_commits.proofs.PageLaws.{all_kept, all_of_ticket, paged, row_there}
+use Rattle.board_commits.proofs.PageLaws.{all_kept, all_of_ticket, paged}
 use Rattle.board_commits.proofs.ThreadLaws.{page_passes, page_refused}
 use Rattle.board_commits.proofs.TicketLaws.{framed_now}
 use Rattle.board_commits.proofs.pages.page.Goals as goal
@@ -18,18 +16,16 @@ returns-in_default-clause-exact c =
     page_refused (contents_of c.args.core.now) c.args.vpn (flat_thread found) c.args.ticket.now.thread c.in_ok-space.ensures.exact c.in_ok-space.ensures.shown
     (subst (λ (h : Held). IsNameResident (residents_of h.contents) (name.Mapping found.space c.args.vpn) → ⊥) c.tables.ensures.tables c.in_default.ensures.absent)
 
-pub unreachable-requires : goal.unreachable-requires
-unreachable-requires c =
+pub row_loaded-row-requires : goal.row_loaded-row-requires
+row_loaded-row-requires c =
     let found = c.in_ok-space.field-0.now in
-    let r = subst (λ (h : Held). IsResident (residents_of h.contents) c.in-Some.ident (name.Mapping found.space c.args.vpn)) c.tables.ensures.tables c.in-Some.ensures.found in
-    row_there c.args.core.now c.tables.ensures.known c.tables.ensures.sound.1.whole.one c.args.ticket.now c.args.vpn found c.in_ok-space.ensures.named c.in_ok-space.ensures.found c.in-Some.ident r
-    (c.in_default-row.ensures ∙ ap (λ (m : Cached). row_of (state_of m).rows found.space c.args.vpn.0) c.machine.ensures)
+    record { loaded = subst (λ (h : Held). IsResident (residents_of h.contents) c.in-Some.ident (name.Mapping found.space c.args.vpn)) c.tables.ensures.tables c.in-Some.ensures.found }
 
 pub add_page-requires-clause-frame : goal.add_page-requires-clause-frame
 add_page-requires-clause-frame c =
     let found = c.in_ok-space.field-0.now in
-    let there = c.in-Some-row.ensures ∙ ap (λ (m : Cached). row_of (state_of m).rows found.space c.args.vpn.0) c.machine.ensures in
-    framed_now c.args.core.now c.tables.ensures.known found.space c.args.vpn.0 c.in-Some-row.row.now (sym there)
+    let there = c.row_loaded-row.ensures in
+    framed_now c.args.core.now c.tables.ensures.known found.space c.args.vpn.0 c.row_loaded-row.result.now (sym there)
 
 pub returns-clause-exact : goal.returns-clause-exact
 returns-clause-exact c =
@@ -41,22 +37,22 @@ pub returns-clause-filled : goal.returns-clause-filled
 returns-clause-filled c =
     let found = c.in_ok-space.field-0.now in
     let r = subst (λ (h : Held). IsResident (residents_of h.contents) c.in-Some.ident (name.Mapping found.space c.args.vpn)) c.tables.ensures.tables c.in-Some.ensures.found in
-    let there = c.in-Some-row.ensures ∙ ap (λ (m : Cached). row_of (state_of m).rows found.space c.args.vpn.0) c.machine.ensures in
+    let there = c.row_loaded-row.ensures in
     paged c.args.core.now c.tables.ensures.known c.tables.ensures.sound.1.whole.one c.args.ticket.now c.args.vpn found c.in_ok-space.ensures.named c.in_ok-space.ensures.found c.in-Some.ident r
-    c.in-Some-row.row.now there c.args.quantum.now c.add_page.new.quantum c.add_page.ensures c.in_ok-space.ensures.shown
+    c.row_loaded-row.result.now there c.args.quantum.now c.add_page.new.quantum c.add_page.ensures c.in_ok-space.ensures.shown
 
 pub returns-clause-views : goal.returns-clause-views
 returns-clause-views c =
     let found = c.in_ok-space.field-0.now in
     let r = subst (λ (h : Held). IsResident (residents_of h.contents) c.in-Some.ident (name.Mapping found.space c.args.vpn)) c.tables.ensures.tables c.in-Some.ensures.found in
-    let there = c.in-Some-row.ensures ∙ ap (λ (m : Cached). row_of (state_of m).rows found.space c.args.vpn.0) c.machine.ensures in
+    let there = c.row_loaded-row.ensures in
     all_of_ticket c.args.core.now c.tables.ensures.known c.tables.ensures.sound.1.whole.one c.args.ticket.now c.args.vpn found c.in_ok-space.ensures.named c.in_ok-space.ensures.found c.in-Some.ident r
-    c.in-Some-row.row.now there c.args.quantum.now c.add_page.new.quantum c.add_page.ensures
+    c.row_loaded-row.result.now there c.args.quantum.now c.add_page.new.quantum c.add_page.ensures
 
 pub returns-clause-kept : goal.returns-clause-kept
 returns-clause-kept c =
     let found = c.in_ok-space.field-0.now in
     let r = subst (λ (h : Held). IsResident (residents_of h.contents) c.in-Some.ident (name.Mapping found.space c.args.vpn)) c.tables.ensures.tables c.in-Some.ensures.found in
-    let there = c.in-Some-row.ensures ∙ ap (λ (m : Cached). row_of (state_of m).rows found.space c.args.vpn.0) c.machine.ensures in
+    let there = c.row_loaded-row.ensures in
     all_kept c.args.core.now c.tables.ensures.known c.tables.ensures.sound.1.whole.one c.args.ticket.now c.args.vpn found c.in_ok-space.ensures.named c.in_ok-space.ensures.found c.in-Some.ident r
-    c.in-Some-row.row.now there c.args.quantum.now c.add_page.new.quantum c.add_page.ensures c.requires.kept
+    c.row_loaded-row.result.now there c.args.quantum.now c.add_page.new.quantum c.add_page.ensures c.requires.kept
