@@ -49,13 +49,13 @@ impl Place {
         requires kept { AreKept board.now.journal.entries self.old.quantum }
         ensures { IsView board.now vpn self.old result self.new }
     {
-        let Some(ticket) = self.ticket else {
+        let Some(ticket) = &self.ticket else {
             return Answer::NoTicket;
         };
         if !self.quantum.can_fill(vpn) {
             return Answer::NoView;
         }
-        did(board.page(&ticket, vpn, &mut self.quantum))
+        did(board.page(ticket, vpn, &mut self.quantum))
     }
 
     /// Runs the quantum ahead.
@@ -73,10 +73,10 @@ impl Place {
         requires views { (ticket : Ticket) → self.old.ticket ≡ Some ticket → AreOfTicket board.old.journal.entries ticket.thread self.old.quantum }
         ensures { IsCommit board.old self.old result board.new self.new }
     {
-        let Some(ticket) = self.ticket else {
+        let Some(ticket) = &self.ticket else {
             return Answer::NoTicket;
         };
-        match board.commit(&ticket, &self.quantum) {
+        match board.commit(ticket, &self.quantum) {
             Ok(steps) => {
                 self.ticket = None;
                 Answer::Stepped(steps)
@@ -89,10 +89,10 @@ impl Place {
     pub(crate) fn leave(&mut self, board: &mut Board) -> Answer
         ensures { IsLeave board.old self.old result board.new self.new }
     {
-        let Some(ticket) = self.ticket else {
+        let Some(ticket) = &self.ticket else {
             return Answer::NoTicket;
         };
-        board.leave(&ticket);
+        board.leave(ticket);
         self.ticket = None;
         Answer::Did
     }
