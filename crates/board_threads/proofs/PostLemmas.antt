@@ -1,37 +1,21 @@
 -- Whether a ticket's thread is still out, and what is known of who is loaded.
-use Rattle.std.proofs.Common.{◌≡◌, ℕ, Option, Some, None, ap, ◌∙◌, slice_get}
+use Rattle.std.proofs.Common.{◌≡◌, ℕ, Option, Some, None, ap, ◌∙◌}
 use Rattle.cache_ident.specs.declared.idents.Kind.TheVariants as kind
-use Rattle.cache_ident.specs.declared.names.Name.TheVariants as name
 use Rattle.cache_ident.specs.declared.names.ThreadNo.{ThreadNo}
-use Rattle.cache_ident.specs.Residents.{IsNameResident}
-use Rattle.flat_state.specs.declared.records.FlatThread.{FlatThread}
 use Rattle.thread_cache.specs.declared.ThreadRec.{ThreadRec}
 use Rattle.board_core.specs.desc_stores.specs.declared.items.Item.TheVariants as item
-use Rattle.board_core.specs.desc_stores.specs.Contents.{item_as, residents_of}
+use Rattle.board_core.specs.desc_stores.specs.Contents.{item_as}
 use Rattle.board_core.specs.desc_stores.specs.Sound.{IsExactlyOne}
-use Rattle.board_core.specs.shown_state.specs.Found.{AreFound}
-use Rattle.board_core.specs.shown_state.specs.Shown.{flat_thread, thread_of}
 use Rattle.board_core.specs.board_ops.specs.declared.refusals.Refused.{Refused}
 use Rattle.board_checks.specs.Identifiers.{not_a}
 use Rattle.board_checks.proofs.IdentifierLemmas.{item_resident}
-use Rattle.board_core.specs.cached_machine.specs.Cached.{state_of}
 use Rattle.board_core.specs.cached_machine.specs.Posts.{mark_of}
 use Rattle.board_core.specs.Core.{contents_of, Recorded}
 use Rattle.board_threads.specs.declared.tickets.Ticket.{Ticket}
 use Rattle.board_threads.specs.Posts.{IsOutWith}
-use Rattle.board_threads.proofs.IdentLemmas.{loaded_record, one_thread, thread_passes}
+use Rattle.board_threads.proofs.IdentLemmas.{one_thread, thread_passes}
 
 module _ (b : Recorded) (one : IsExactlyOne (contents_of b)) where
-  module _ (found : AreFound (state_of b.machine) (contents_of b)) (whom : ThreadNo) (loaded : IsNameResident (residents_of (contents_of b)) (name.Thread whom)) where
-    -- a loaded thread stands
-    pub loaded_stands : (t : FlatThread) × (slice_get (state_of b.machine).threads whom.0 ≡ Some t)
-    loaded_stands =
-        let t = loaded_record (contents_of b) one whom loaded in
-        (flat_thread t.0, found.threads whom.0 ∙ ap thread_of t.1)
-
-    pub not_gone : None ≡ slice_get (state_of b.machine).threads whom.0 → ⊥
-    not_gone none = let t = loaded_stands in let both : None ≡ Some t.0 = none ∙ t.1 in cc
-
   module _ (ticket : Ticket) where
     -- what is refused as a thread isn't out
     pub none_out : (e : Refused) → Some e ≡ not_a kind.Thread (contents_of b) ticket.thread → (whom : ThreadNo) → IsOutWith b ticket whom → ⊥

@@ -1,13 +1,11 @@
 -- What is tested of threads by their numbers, and what the sets of threads say of that.
-use Rattle.std.proofs.Common.{◌≡◌, ℕ, zero, suc, ◌+◌, ◌<◌, ◌≤◌, Bool, true, false, not, ◌&&◌, List, [], ◌∷◌, map, get_or, Option, Some, None, IsTrue, refl, sym, ap, ◌∙◌, subst, inl, inr, arith, slice_get}
-use Rattle.std.specs.Option.{is_some, option_map}
+use Rattle.std.proofs.Common.{◌≡◌, ℕ, zero, suc, ◌+◌, ◌<◌, ◌≤◌, Bool, false, not, ◌&&◌, List, [], ◌∷◌, map, get_or, Option, Some, None, IsTrue, refl, sym, ap, ◌∙◌, subst, inl, inr, arith, slice_get}
+use Rattle.std.specs.Option.{is_some}
 use Rattle.std.proofs.lemmas.Bool.{cases_lt}
 use Rattle.flat_state.specs.declared.records.FlatThread.{FlatThread}
-use Rattle.flat_state.specs.declared.records.NextStep.{NextStep}
 use Rattle.flat_state.specs.Call.{is_completable}
-use Rattle.flat_state.specs.NextSteps.{next_step, next_step_if, next_step_of}
 use Rattle.flat_state.specs.Signals.{full_receiver, is_runnable}
-use Rattle.flat_state.specs.State.{FlatState, is_ready}
+use Rattle.flat_state.specs.State.{FlatState}
 use Rattle.number_set.specs.First.{IsFirstFrom}
 use Rattle.number_set.specs.Members.{is_in}
 use Rattle.board_core.specs.thread_sets.specs.Sets.{Sets}
@@ -42,33 +40,6 @@ module _ (b : Recorded) (m : Cached) (sets given : Sets) (machine : m ≡ b.mach
 
   pub first_ready : (from : ℕ) (o : Option ℕ) → IsFirstFrom (is_in given.ready) from o → IsFirstFrom (is_ready_at b) from o
   first_ready from o first = first_alike (is_in given.ready) (is_ready_at b) (flag takes_steps (λ (s : Sets). s.ready) of.ready) from o first
-
--- ---- next steps
-
-runnable_of : (s : FlatState) (t : FlatThread) → (next_step_of s t).runnable ≡ is_runnable s t
-runnable_of s t = by (is_ready t.status) refl
-  where
-    by : (b : Bool) → is_ready t.status ≡ b → (next_step_if b s t).runnable ≡ is_runnable s t
-    by true ready = refl
-    by false idle = sym (ap (λ (x : Bool). x && not (is_some (full_receiver s t))) idle)
-
-pub runs_if : (s : FlatState) (n : ℕ) (next : NextStep) → Some next ≡ next_step s n → next.runnable ≡ passes (is_runnable s) (slice_get s.threads n)
-unfolding next_step
-runs_if s n next is = by (slice_get s.threads n) is
-  where
-    by : (o : Option FlatThread) → Some next ≡ option_map (next_step_of s) o → next.runnable ≡ passes (is_runnable s) o
-    by None none = absurd (cc)
-    by (Some t) some =
-        let same : next ≡ next_step_of s t = cc in
-        ap (λ (x : NextStep). x.runnable) same ∙ runnable_of s t
-
-pub none_runs : (s : FlatState) (n : ℕ) → None ≡ next_step s n → false ≡ passes (is_runnable s) (slice_get s.threads n)
-unfolding next_step
-none_runs s n is = by (slice_get s.threads n) is
-  where
-    by : (o : Option FlatThread) → None ≡ option_map (next_step_of s) o → false ≡ passes (is_runnable s) o
-    by None none = refl
-    by (Some t) some = absurd (cc)
 
 -- ---- one number after another
 
