@@ -8,9 +8,10 @@
 #   runs ahead, and its steps are committed. Beside it stands the share of the time that the calls took which would be
 #   under a lock: all but the run ahead. It is taken of as many steps again, in which the clock is read four times a
 #   quantum, so it is a little more than the calls' own.
-# The board should reach 0.85 of the peer, and its calls take under 20 %. On 2026-11-29, on a busy machine, it took 250 million
-# steps a second alone, 184 as quanta and 143 on the board, the peer took 196, and the calls 35 %: what is left of them are mostly
-# searches by name.
+# The board should reach 0.85 of the peer, and its calls take under 20 %. They don't yet: on 2026-11-29, on a machine that others used
+# as well, the board reached 0.71 to 0.85 of the peer from run to run, and the calls took 23 to 28 %. By instructions, which that doesn't
+# change, the calls are some 6,000 of the 27,600 of a quantum. What is left of them are mostly some ten searches by name, copies of the
+# page that was written and of the registers, and what is asked of a thread's next step when it is checked out.
 # PEERS is a folder with a plain interpreter in C and loops that it reads. Where it is given, its loop mix is taken, and
 # the interpreter runs in turn with the program; the ratios are of the best times of each. Else there are no ratios, and
 # the loop is one that adds the words of a page and stores the sum.
