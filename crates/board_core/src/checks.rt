@@ -31,7 +31,7 @@ pub fn check_ready(thread: &ThreadRec) -> Result<(), Refused>
 pub fn check_away(machine: &CachedMachine, no: ThreadNo) -> Result<(), Refused>
     ensures { result_err result ≡ option_map why.OnCpu (mark_of machine.now.held.contents no) }
 {
-    match machine.processor_of(no) {
+    match machine.processor_of(no, None) {
         Some(cpu) => Err(Refused::OnCpu { cpu }),
         None => Ok(()),
     }

@@ -11,11 +11,12 @@ ghost use Rattle.board_core.specs.Core.{contents_of};
 ghost use Rattle.board_core.specs.Growth.{one_more};
 
 use crate::core_record::Core;
-use cache_ident::{Name, ThreadNo};
+use cache_ident::{Ident, Name, ThreadNo};
 
 impl Core {
-    /// A loaded thread, which is ready, goes to a processor. The count of checkouts rises, and is the thread's last one.
-    pub fn check_out(&mut self, cpu: u32, no: ThreadNo)
+    /// A loaded thread, which is ready, goes to a processor. The count of checkouts rises, and is the thread's last one. Where the
+    /// thread is loaded with the identifier `near`, that takes constant time.
+    pub fn check_out(&mut self, cpu: u32, no: ThreadNo, near: Option<Ident>)
         requires processor { cpu < 8 }
         requires loaded { is_loaded (contents_of self.old) (Name.Thread no) ≡ true }
         requires ready { OfThread (state_of self.old.machine) no.0 (λ t. t.status ≡ Ready) }
@@ -25,18 +26,19 @@ impl Core {
         ensures lasts { (other : ThreadNo) → last_of (contents_of self.new) other ≡ but_at no (one_more self.old.checkouts) (last_of (contents_of self.old)) other }
     {
         self.checkouts = self.checkouts.saturating_add(1);
-        self.machine.check_out(no, cpu, self.checkouts);
+        self.machine.check_out(no, near, cpu, self.checkouts);
     }
 
-    /// A thread that there is comes away from its processor, if one has it.
-    pub fn check_in(&mut self, no: ThreadNo)
+    /// A thread that there is comes away from its processor, if one has it. Where it is loaded with the identifier `near`, that
+    /// takes constant time.
+    pub fn check_in(&mut self, no: ThreadNo, near: Option<Ident>)
         requires there { IsSome (content_of (contents_of self.old) (Name.Thread no)) }
         ensures only { OnlyPosts self.old.machine.held self.new.machine.held }
         ensures rest { self.new ≡ record self.old { machine = record self.old.machine { held = self.new.machine.held } } }
         ensures marks { (other : ThreadNo) → mark_of (contents_of self.new) other ≡ but_at no None (mark_of (contents_of self.old)) other }
         ensures lasts { (other : ThreadNo) → last_of (contents_of self.new) other ≡ last_of (contents_of self.old) other }
     {
-        self.machine.check_in(no);
+        self.machine.check_in(no, near);
     }
 
     /// No thread is on a processor any more.

@@ -24,7 +24,7 @@ ghost use Rattle.board_core.specs.Stamps.{frame_stored as frame_stored_def};
 
 use crate::core_record::{Core, known, note, put_stamp};
 use crate::taking_over::take_over;
-use cache_ident::{Frame, Name, NoMemory, ThreadNo};
+use cache_ident::{Frame, Ident, Name, NoMemory, ThreadNo};
 use cached_machine::{CachedMachine, Quantum};
 use flat_rules::{Records, next_step};
 use flat_state::NextStep;
@@ -59,8 +59,9 @@ impl Core {
     }
 
     /// Makes the steps of a quantum happen to a loaded thread, which could have taken them, and of whose touched views the rows
-    /// are loaded. The thread comes away from its processor. Without steps there is no entry.
-    pub fn run(&mut self, cpu: u32, no: ThreadNo, quantum: &Quantum)
+    /// are loaded. The thread comes away from its processor. Without steps there is no entry. Where the thread is loaded with the
+    /// identifier `near`, and the rows with those that the views name, no search is made.
+    pub fn run(&mut self, cpu: u32, no: ThreadNo, near: Option<Ident>, quantum: &Quantum)
         requires loaded { IsNameResident (residents_of (contents_of self.old)) (Name.Thread no) }
         requires could { OfThread (state_of self.old.machine) no.0 (λ t. CouldRun (state_of self.old.machine) t quantum.now) }
         requires views { OfThread (state_of self.old.machine) no.0 (λ t. AreOfLoaded self.old t (touched_views quantum.now.views)) }
@@ -75,14 +76,14 @@ impl Core {
         ensures sealed { self.new.sealed ≡ self.old.sealed }
     {
         known(&self.machine);
-        self.check_in(no);
+        self.check_in(no, near);
         if quantum.steps() != 0 {
-            self.run_ahead(cpu, no, quantum);
+            self.run_ahead(cpu, no, near, quantum);
         }
     }
 
     // The same of a thread that no processor has, where there are steps.
-    fn run_ahead(&mut self, cpu: u32, no: ThreadNo, quantum: &Quantum)
+    fn run_ahead(&mut self, cpu: u32, no: ThreadNo, near: Option<Ident>, quantum: &Quantum)
         requires loaded { IsNameResident (residents_of (contents_of self.old)) (Name.Thread no) }
         requires unmarked { mark_of (contents_of self.old) no ≡ None }
         requires could { OfThread (state_of self.old.machine) no.0 (λ t. CouldRun (state_of self.old.machine) t quantum.now) }
@@ -109,6 +110,7 @@ impl Core {
             &mut self.machine,
             &mut self.stamps,
             no,
+            near,
             quantum,
             self.journal.len(),
         );

@@ -1,25 +1,29 @@
 //! What steps that were taken ahead leave of a machine.
 
-ghost use Rattle.std.specs.Prelude.{◌≡◌, ◌<◌, length, true};
+ghost use Rattle.std.specs.Prelude.{◌≡◌, ◌<◌, length, slice_get, true, Some};
 ghost use Rattle.phys_groups.specs.Memory.{HasFrame};
 ghost use Rattle.flat_rules.specs.Readings.{OfThread};
 ghost use Rattle.cached_machine.specs.quantum.specs.LocalRun.{committed, status_by as status_by_def, touched_views, CouldRun, IsLocalRun};
+ghost use Rattle.cached_machine.specs.shown_state.specs.Shown.{flat_thread};
 ghost use Rattle.cached_machine.specs.Aside.{aside_of};
 ghost use Rattle.cached_machine.specs.Cached.{state_of};
 ghost use Rattle.board_core.specs.Growth.{with_all_views, with_view, AreAsCopied, AreInMemory, HoldAlike, IsAsCopiedOrNow, IsPutIn};
 ghost use Rattle.board_core.specs.Stamps.{AreStamped, HaveStamps};
 
 use crate::core_record::put_stamp;
-use cache_ident::{SpaceNo, ThreadNo};
+use cache_ident::{Ident, SpaceNo, ThreadNo};
 use cached_machine::{CachedMachine, PageView, Paused, Quantum};
-use flat_rules::{Records, Steps, thread_at};
+use flat_rules::Records;
 use rv32_exec::Status;
+use thread_cache::ThreadRec;
 
-// The thread, its rows and memory are as the quantum left them. Each frame that changed has a new stamp.
+// The thread, its rows and memory are as the quantum left them. Each frame that changed has a new stamp. `near` may be the
+// identifier that the thread is loaded with.
 pub(crate) fn take_over(
     machine: &mut CachedMachine,
     stamps: &mut Vec<u64>,
     no: ThreadNo,
+    near: Option<Ident>,
     quantum: &Quantum,
     at: u64,
 )
@@ -32,9 +36,20 @@ pub(crate) fn take_over(
     ensures stamps { AreStamped at machine.old.memory stamps.old.items machine.new.memory stamps.new.items }
 {
     machine.holds();
-    let space = CachedMachine::space_of(thread_at(machine, no));
+    let space = CachedMachine::space_of(thread_at(machine, no, near));
     take_views(machine, stamps, space, quantum.views(), at);
-    machine.put(no, quantum.context(), status_by(quantum.paused()));
+    machine.put_near(no, near, quantum.context(), status_by(quantum.paused()));
+}
+
+// The thread of a number that there is. `near` may be the identifier that it is loaded with.
+fn thread_at(machine: &CachedMachine, no: ThreadNo, near: Option<Ident>) -> &ThreadRec
+    requires { no.0 < length (state_of machine.now).threads }
+    ensures thread { slice_get (state_of machine.now).threads no.0 ≡ Some (flat_thread result.now) }
+{
+    match machine.thread_near(no, near) {
+        Some(thread) => thread,
+        None => unreachable!(),
+    }
 }
 
 // The rows and frames of views are as these are.
@@ -78,7 +93,7 @@ fn take_view(
     ensures rest { aside_of machine.new ≡ aside_of machine.old }
     ensures stamps { AreStamped at machine.old.memory stamps.old.items machine.new.memory stamps.new.items }
 {
-    machine.mark(space, view.vpn(), view.written());
+    machine.mark_near(space, view.vpn(), Some(view.row()), view.written());
     if !view.is_as_copied() {
         machine.copy_in(view.frame(), view.present());
         put_stamp(stamps, Some(view.frame()), at);

@@ -5,3 +5,4 @@ pub mod FaultLemmas
 pub mod CandidateLemmas
 pub mod PostLemmas
 pub mod NeverLemmas
+pub mod SignalLemmas

@@ -1,6 +1,6 @@
 //! Threads go to processors, and come back.
 
-ghost use Rattle.std.specs.Prelude.{◌≡◌, ◌<◌, ◌≤◌, ◌↔◌, false, length, slice_get, Contains, IfNone, IfSome, Some};
+ghost use Rattle.std.specs.Prelude.{◌≡◌, ◌<◌, ◌≤◌, ◌↔◌, ◌==◌, if◌then◌else◌, false, length, slice_get, Contains, IfNone, IfSome, None, Some};
 ghost use Rattle.std.specs.List.Sorted.{IsSortedBy};
 ghost use Rattle.std.specs.Ordering.{is_lt};
 ghost use Rattle.cache_ident.specs.declared.names.ThreadNo.{ThreadNo};
@@ -25,6 +25,7 @@ use board_core::{CachedMachine, Core, ItemRef};
 use cache_ident::{Ident, Name, ThreadNo};
 use flat_rules::is_ready;
 use ready_queue::Candidate;
+use slot_cache::Loaded;
 use std::cmp::Ordering;
 use thread_cache::ThreadRec;
 
@@ -34,8 +35,8 @@ const MOST_LOADED: usize = 256;
 /// Takes the next thread to a processor: of the loaded runnable ones that are on none, the one of the highest priority; among
 /// those the one that was checked out the longest ago; among those the one with the lowest number. None where there is none.
 ///
-/// It goes over the loaded threads, and looks at the next step of the first that is ready. Only where that isn't runnable, it
-/// sorts all that are ready, and looks at one after another until one is. It takes no memory.
+/// It goes over the loaded threads, and looks at the next step of the first that is ready, unless no row has a receiver. Only where
+/// that isn't runnable, it sorts all that are ready, and looks at one after another until one is. It takes no memory.
 pub fn checkout(core: &mut Core, cpu: u32) -> Option<Ticket>
     requires processor { cpu < 8 }
     ensures nobody { IfNone result ((candidate : Candidate) → IsWaiting core.old candidate → ⊥) }
@@ -44,23 +45,33 @@ pub fn checkout(core: &mut Core, cpu: u32) -> Option<Ticket>
     ensures ticket { IfSome result (IsTicketFor core.old cpu) }
     ensures out { IfSome result (λ ticket. IsCheckedOut ticket.no cpu core.old core.new) }
 {
-    let no = next_waiting(core)?;
-    let ticket = ticket_of(core, cpu, no);
-    core.check_out(cpu, no);
+    let next = next_waiting(core)?;
+    let ticket = ticket_of(core, cpu, next.no, next.near);
+    core.check_out(cpu, next.no, Some(ticket.thread));
     Some(ticket)
 }
 
+// A thread, and the identifier that it was seen with, if it was.
+#[derive(Clone, Copy)]
+struct Next {
+    no: ThreadNo,
+    near: Option<Ident>,
+}
+
 // The thread that goes next.
-fn next_waiting(core: &Core) -> Option<ThreadNo>
-    ensures chosen { IfSome result (IsChosenOf core.now) }
+fn next_waiting(core: &Core) -> Option<Next>
+    ensures chosen { IfSome result (λ next. IsChosenOf core.now next.no) }
     ensures nobody { IfNone result ((candidate : Candidate) → IsWaiting core.now candidate → ⊥) }
 {
-    let first = first_free(core)?;
-    if is_runnable(core, first.no) {
-        return Some(first.no);
+    let (found, near) = first_free(core);
+    let first = found?;
+    let no = first.no;
+    if is_runnable(core, no, near) {
+        return Some(Next { no, near });
     }
     // Its step would signal a thread without room.
-    next_in_order(core)
+    let no = next_in_order(core)?;
+    Some(Next { no, near: None })
 }
 
 // The same, whatever the first is.
@@ -73,18 +84,33 @@ fn next_in_order(core: &Core) -> Option<ThreadNo>
     first_runnable(core, &waiting)
 }
 
-// Of the loaded threads that are ready and on no processor, the first in the order of choice.
-fn first_free(core: &Core) -> Option<Candidate>
-    ensures { IsFirstFree core.now result }
+// Of the loaded threads that are ready and on no processor, the first in the order of choice, and the identifier that it is
+// loaded with.
+fn first_free(core: &Core) -> (Option<Candidate>, Option<Ident>)
+    ensures { IsFirstFree core.now result.0 }
 {
     known(core);
     let mut first = None;
+    let mut near = None;
     for loaded in core.machine().tables().loaded_threads() {
         if is_free(&loaded.value) {
-            first = Some(earlier(first, candidate_of(&loaded.value)));
+            let sooner = earlier(first, candidate_of(&loaded.value));
+            near = seen_as(sooner.no, loaded).or(near);
+            first = Some(sooner);
         }
     }
-    first
+    (first, near)
+}
+
+// The identifier of a loaded thread, where it is the thread of that number.
+fn seen_as(no: ThreadNo, loaded: &Loaded<ThreadRec>) -> Option<Ident>
+    ensures { result ≡ (if loaded.now.value.no.0 == no.0 then Some loaded.now.ident else None) }
+{
+    if loaded.value.no == no {
+        Some(loaded.ident)
+    } else {
+        None
+    }
 }
 
 // The loaded threads that are ready and on no processor.
@@ -145,22 +171,23 @@ fn first_runnable(core: &Core, waiting: &[Candidate]) -> Option<ThreadNo>
     ensures none { IfNone result ((c : Candidate) → Contains waiting.now c → goes_on core.now c.no.0 ≡ false) }
 {
     for candidate in waiting {
-        if is_runnable(core, candidate.no) {
+        if is_runnable(core, candidate.no, None) {
             return Some(candidate.no);
         }
     }
     None
 }
 
-// The ticket of a thread that is loaded.
-fn ticket_of(core: &Core, cpu: u32, no: ThreadNo) -> Ticket
+// The ticket of a thread that is loaded. `near` may be the identifier that it is loaded with.
+fn ticket_of(core: &Core, cpu: u32, no: ThreadNo, near: Option<Ident>) -> Ticket
     requires processor { cpu < 8 }
     requires loaded { IsNameResident (residents_of (contents_of core.now)) (Name.Thread no) }
     ensures ticket { IsTicketFor core.now cpu result }
     ensures no { result.no ≡ no }
 {
     known(core);
-    let Some(ident) = core.machine().tables().resident(Name::Thread(no)) else {
+    let name = Name::Thread(no);
+    let Some(ident) = core.machine().tables().resident_near(name, near) else {
         unreachable!()
     };
     let thread = thread_loaded(core, no, ident);
@@ -188,14 +215,14 @@ fn thread_loaded(core: &Core, no: ThreadNo, ident: Ident) -> &ThreadRec
 }
 
 /// Gives a thread back, where it is still loaded under the ticket's identifier and on the ticket's processor; else it does
-/// nothing. One search.
+/// nothing. It takes constant time.
 pub fn leave(core: &mut Core, ticket: &Ticket)
     ensures only { OnlyMarks core.old core.new }
     ensures back { (whom : ThreadNo) → IsOutWith core.old ticket.now whom → HasComeBack whom core.old core.new }
     ensures stays { ((whom : ThreadNo) → IsOutWith core.old ticket.now whom → ⊥) → core.new ≡ core.old }
 {
     if let Some(no) = out_with(core, ticket) {
-        core.check_in(no);
+        core.check_in(no, Some(ticket.thread));
     }
 }
 
@@ -210,7 +237,7 @@ fn out_with(core: &Core, ticket: &Ticket) -> Option<ThreadNo>
         return None;
     };
     let no = thread.no;
-    let cpu = core.machine().processor_of(no)?;
+    let cpu = core.machine().processor_of(no, Some(ticket.thread))?;
     if cpu == ticket.cpu { Some(no) } else { None }
 }
 

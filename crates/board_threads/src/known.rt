@@ -1,8 +1,8 @@
 //! What holds of every core, and what is read of it.
 
-ghost use Rattle.std.specs.Prelude.{◌≡◌, None, Some, IfNone, IfSome, slice_get};
+ghost use Rattle.std.specs.Prelude.{◌≡◌, None, Some, IfNone, IfSome, is_some, slice_get};
 ghost use Rattle.std.specs.Option.{option_copied, option_map};
-ghost use Rattle.flat_state.specs.Signals.{is_runnable as is_runnable_def};
+ghost use Rattle.flat_state.specs.Signals.{full_receiver as full_receiver_def, is_runnable as is_runnable_def};
 ghost use Rattle.flat_state.specs.WellFormed.{IsWellFormed};
 ghost use Rattle.flat_rules.specs.Readings.{IsThreadOf};
 ghost use Rattle.board_core.specs.desc_stores.specs.declared.items.Item.{Item};
@@ -16,7 +16,7 @@ ghost use Rattle.board_core.specs.Core.{contents_of, IsSound};
 ghost use Rattle.board_threads.specs.Tests.{goes_on};
 
 use board_core::{CachedMachine, Core, ItemRef};
-use cache_ident::{Name, ThreadNo};
+use cache_ident::{Ident, Name, ThreadNo};
 use flat_rules::{Records, full_receiver, is_ready};
 use thread_cache::ThreadRec;
 
@@ -34,12 +34,12 @@ pub(crate) fn known(core: &Core)
     let _ = core.machine().room();
 }
 
-// Whether there is such a thread and its next step can be taken.
-pub(crate) fn is_runnable(core: &Core, no: ThreadNo) -> bool
+// Whether there is such a thread and its next step can be taken. `near` may be the identifier that it is loaded with.
+pub(crate) fn is_runnable(core: &Core, no: ThreadNo, near: Option<Ident>) -> bool
     ensures { result ≡ goes_on core.now no.0 }
 {
     known(core);
-    match core.machine().thread(no) {
+    match core.machine().thread_near(no, near) {
         Some(thread) => can_step(core.machine(), thread),
         None => false,
     }
@@ -51,10 +51,22 @@ fn can_step(machine: &CachedMachine, thread: &ThreadRec) -> bool
     ensures { result ≡ is_runnable_def (state_of machine.now) (flat_thread thread.now) }
 {
     if is_ready::<CachedMachine>(thread) {
-        full_receiver(machine, thread).is_none()
+        !has_full_receiver(machine, thread)
     } else {
         false
     }
+}
+
+// Whether some receiver has no room for what the thread's next step sends. Where no row has a receiver none can, and
+// nothing of that step is looked at.
+fn has_full_receiver(machine: &CachedMachine, thread: &ThreadRec) -> bool
+    requires { IsThreadOf (state_of machine.now) (flat_thread thread.now) }
+    ensures { result ≡ is_some (full_receiver_def (state_of machine.now) (flat_thread thread.now)) }
+{
+    if !machine.tables().has_signal_rows() {
+        return false;
+    }
+    full_receiver(machine, thread).is_some()
 }
 
 // Whether a name is loaded.

@@ -91,7 +91,7 @@ fn first_absent(core: &Core) -> Option<ThreadNo>
 fn wants_load(core: &Core, no: ThreadNo) -> bool
     ensures { result ≡ wants_load_def core.now no.0 }
 {
-    !is_loaded(core, Name::Thread(no)) && is_runnable(core, no)
+    !is_loaded(core, Name::Thread(no)) && is_runnable(core, no, None)
 }
 
 // Whether some thread is runnable.
@@ -100,7 +100,7 @@ fn is_one_runnable(core: &Core) -> bool
 {
     let mut from = 0;
     while let Some(no) = next_ready(core, from) {
-        if is_runnable(core, no) {
+        if is_runnable(core, no, None) {
             return true;
         }
         from = no.0 + 1;

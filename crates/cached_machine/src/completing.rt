@@ -64,8 +64,8 @@ impl CachedMachine {
         known(&self.tables);
         let done = self
             .tables
-            .update_thread_named(Name::Thread(no), |thread| own_part_of(thread));
-        note(&self.tables, &mut self.sets, no);
+            .update_thread_named(Name::Thread(no), None, |thread| own_part_of(thread));
+        note(&self.tables, &mut self.sets, no, None);
         done
     }
 

@@ -31,12 +31,12 @@ fn post_thread(thread: &mut ThreadRec, post: Post)
     }
 }
 
-// Sends a thread where it goes. What it can do then is what it could do.
-pub(crate) fn send(tables: &mut Tables, no: ThreadNo, post: Post)
+// Sends a thread where it goes. What it can do then is what it could do. `near` may be the identifier that it is loaded with.
+pub(crate) fn send(tables: &mut Tables, no: ThreadNo, near: Option<Ident>, post: Post)
     requires { IsSome (content_of tables.old.contents (Name.Thread no)) }
     ensures { IsPosted post tables.old tables.new no }
 {
-    tables.update_thread_named(Name::Thread(no), |thread| post_thread(thread, post));
+    tables.update_thread_named(Name::Thread(no), near, |thread| post_thread(thread, post));
 }
 
 // The threads that have just left are on no processor any more. `seats` has the thread that was loaded in each slot.
@@ -56,7 +56,7 @@ fn take_back_one(tables: &mut Tables, seats: &[ThreadNo], left: Gone)
     ensures { AreBackFrom seats.now (left ∷ []) tables.old tables.new }
 {
     if let Kind::Thread = left.ident.kind {
-        send(tables, seats[left.ident.slot as usize], Post::In);
+        send(tables, seats[left.ident.slot as usize], None, Post::In);
     }
 }
 

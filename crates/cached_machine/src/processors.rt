@@ -12,11 +12,12 @@ use crate::machine::CachedMachine;
 use crate::posts::{Post, send};
 use crate::reading::known;
 use board_laws::ItemRef;
-use cache_ident::{Name, ThreadNo};
+use cache_ident::{Ident, Name, ThreadNo};
 
 impl CachedMachine {
-    /// A loaded thread goes to a processor, by the checkout of that number.
-    pub fn check_out(&mut self, no: ThreadNo, cpu: u32, number: u64)
+    /// A loaded thread goes to a processor, by the checkout of that number. Where it is loaded with the identifier `near`, that
+    /// takes constant time.
+    pub fn check_out(&mut self, no: ThreadNo, near: Option<Ident>, cpu: u32, number: u64)
         requires loaded { is_loaded self.old.held.contents (Name.Thread no) ≡ true }
         ensures rest { self.new ≡ record self.old { held = self.new.held } }
         ensures only { OnlyPosts self.old.held self.new.held }
@@ -24,11 +25,12 @@ impl CachedMachine {
         ensures lasts { (other : ThreadNo) → last_of self.new.held.contents other ≡ but_at no number (last_of self.old.held.contents) other }
     {
         known(&self.tables);
-        send(&mut self.tables, no, Post::Out { cpu, number });
+        send(&mut self.tables, no, near, Post::Out { cpu, number });
     }
 
-    /// A thread that there is comes away from its processor, if one has it.
-    pub fn check_in(&mut self, no: ThreadNo)
+    /// A thread that there is comes away from its processor, if one has it. Where it is loaded with the identifier `near`, that
+    /// takes constant time.
+    pub fn check_in(&mut self, no: ThreadNo, near: Option<Ident>)
         requires there { IsSome (content_of self.old.held.contents (Name.Thread no)) }
         ensures rest { self.new ≡ record self.old { held = self.new.held } }
         ensures only { OnlyPosts self.old.held self.new.held }
@@ -36,7 +38,7 @@ impl CachedMachine {
         ensures lasts { (other : ThreadNo) → last_of self.new.held.contents other ≡ last_of self.old.held.contents other }
     {
         known(&self.tables);
-        send(&mut self.tables, no, Post::In);
+        send(&mut self.tables, no, near, Post::In);
     }
 
     /// No thread is on a processor any more. It takes a time for each slot of the cache of threads.
@@ -59,16 +61,17 @@ impl CachedMachine {
     {
         known(&self.tables);
         if let Some(no) = self.thread_at(slot) {
-            self.check_in(no);
+            self.check_in(no, None);
         }
     }
 
-    /// The processor that has a thread: only a loaded one is on any.
-    pub fn processor_of(&self, no: ThreadNo) -> Option<u32>
+    /// The processor that has a thread: only a loaded one is on any. Where it is loaded with the identifier `near`, that takes
+    /// constant time.
+    pub fn processor_of(&self, no: ThreadNo, near: Option<Ident>) -> Option<u32>
         ensures mark { result ≡ mark_of self.now.held.contents no }
         ensures loaded { IsSome result → is_loaded self.now.held.contents (Name.Thread no) ≡ true }
     {
-        match self.tables.item(Name::Thread(no)) {
+        match self.tables.item_near(Name::Thread(no), near) {
             Some(ItemRef::Thread(thread)) => thread.on_cpu,
             _ => None,
         }

@@ -12,7 +12,7 @@ ghost use Rattle.board_laws.specs.shown_state.specs.Shown.{flat_kernel, flat_thr
 
 use arrayvec::ArrayVec;
 use board_laws::{ItemRef, Tables};
-use cache_ident::{Frame, KernelNo, Name, SpaceNo, ThreadNo, Vpn};
+use cache_ident::{Frame, Ident, KernelNo, Name, SpaceNo, ThreadNo, Vpn};
 use kernel_cache::KernelRec;
 use phys_groups::{Rights, Row};
 use space_cache::SpaceRec;
@@ -55,11 +55,11 @@ fn space_named(tables: &Tables, name: Name) -> Option<&SpaceRec>
     }
 }
 
-// The thread of a name, if it is that of one.
-fn thread_named(tables: &Tables, name: Name) -> Option<&ThreadRec>
+// The thread of a name, if it is that of one. `near` may be the identifier that it is loaded with.
+fn thread_named(tables: &Tables, name: Name, near: Option<Ident>) -> Option<&ThreadRec>
     ensures { option_map flat_thread (option_copied result) ≡ thread_of (content_of tables.now.contents name) }
 {
-    match tables.item(name) {
+    match tables.item_near(name, near) {
         Some(ItemRef::Thread(thread)) => Some(thread),
         _ => None,
     }
@@ -101,12 +101,12 @@ pub(crate) fn row(tables: &Tables, space: SpaceNo, vpn: Vpn) -> Option<&Row>
     row_named(tables, Name::Mapping(space, vpn))
 }
 
-// The thread of a number.
-pub(crate) fn thread(tables: &Tables, no: ThreadNo) -> Option<&ThreadRec>
+// The thread of a number. `near` may be the identifier that it is loaded with.
+pub(crate) fn thread(tables: &Tables, no: ThreadNo, near: Option<Ident>) -> Option<&ThreadRec>
     ensures { (machine : Option Machine) (memory : List ℕ) → option_map flat_thread (option_copied result) ≡ slice_get (shown machine memory tables.now.contents).threads no.0 }
 {
     known(tables);
-    thread_named(tables, Name::Thread(no))
+    thread_named(tables, Name::Thread(no), near)
 }
 
 // The rows of a frame that have a receiver, of which there are at most four, in declared order.

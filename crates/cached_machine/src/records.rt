@@ -1,19 +1,30 @@
 //! What the rules read of the machine.
 
+ghost use Rattle.std.specs.Prelude.{◌≡◌, slice_get};
+ghost use Rattle.std.specs.Option.{option_copied, option_map};
+ghost use Rattle.board_laws.specs.shown_state.specs.Shown.{flat_thread};
+ghost use Rattle.cached_machine.specs.Cached.{state_of};
+
 use crate::machine::CachedMachine;
 use crate::reading;
 use arrayvec::ArrayVec;
-use cache_ident::{Caps, Frame, KernelNo, SpaceNo, ThreadNo, Vpn};
+use cache_ident::{Caps, Frame, Ident, KernelNo, SpaceNo, ThreadNo, Vpn};
 use flat_rules::Records;
 use flat_state::Machine;
 use phys_groups::{Memory, Rights, Row};
 use rv32_exec::{Context, Status};
 use thread_cache::ThreadRec;
 
-impl Records for CachedMachine {
-    ghost use Rattle.board_laws.specs.shown_state.specs.Shown.{flat_thread};
-    ghost use Rattle.cached_machine.specs.Cached.{state_of};
+impl CachedMachine {
+    /// The record of a thread, as `thread` gives it. Where it is loaded with the identifier `near`, that takes constant time.
+    pub fn thread_near(&self, no: ThreadNo, near: Option<Ident>) -> Option<&ThreadRec>
+        ensures { option_map flat_thread (option_copied result) ≡ slice_get (state_of self.now).threads no.0 }
+    {
+        reading::thread(&self.tables, no, near)
+    }
+}
 
+impl Records for CachedMachine {
     type Thread = ThreadRec;
 
     ghost state = { state_of };
@@ -73,7 +84,7 @@ impl Records for CachedMachine {
     }
 
     fn thread(&self, no: ThreadNo) -> Option<&ThreadRec> {
-        reading::thread(&self.tables, no)
+        self.thread_near(no, None)
     }
 
     fn space_of(thread: &ThreadRec) -> SpaceNo {

@@ -6,7 +6,7 @@ ghost use Rattle.cached_machine.specs.Stepping.{lacks_mark as lacks_mark_def, le
 ghost use Rattle.thread_sets.specs.Sets.{noted};
 
 use board_laws::{ItemRef, Tables};
-use cache_ident::{Name, SpaceNo, ThreadNo, Vpn};
+use cache_ident::{Ident, Name, SpaceNo, ThreadNo, Vpn};
 use phys_groups::Row;
 use rv32_exec::{Context, Status};
 use thread_cache::ThreadRec;
@@ -51,41 +51,58 @@ fn change_thread(thread: &mut ThreadRec, change: Change)
     }
 }
 
-// Changes a thread where it stands, and notes what it can do then.
-pub(crate) fn update(tables: &mut Tables, sets: &mut ThreadSets, no: ThreadNo, change: Change)
+// Changes a thread where it stands, and notes what it can do then. `near` may be the identifier that it is loaded with.
+pub(crate) fn update(
+    tables: &mut Tables,
+    sets: &mut ThreadSets,
+    no: ThreadNo,
+    near: Option<Ident>,
+    change: Change,
+)
     requires there { IsSome (content_of tables.old.contents (Name.Thread no)) }
     requires numbered { no.0 < length sets.old.completable }
     ensures { IsStepped change tables.old tables.new sets.old sets.new no }
 {
-    tables.update_thread_named(Name::Thread(no), |thread| change_thread(thread, change));
-    note(tables, sets, no);
+    tables.update_thread_named(
+        Name::Thread(no),
+        near,
+        |thread| change_thread(thread, change),
+    );
+    note(tables, sets, no, near);
 }
 
 // The sets have a thread as it is now.
-pub(crate) fn note(tables: &Tables, sets: &mut ThreadSets, no: ThreadNo)
+pub(crate) fn note(tables: &Tables, sets: &mut ThreadSets, no: ThreadNo, near: Option<Ident>)
     requires { no.0 < length sets.old.completable }
     ensures { IfThread (content_of tables.now.contents (Name.Thread no)) (λ thread. sets.new ≡ noted sets.old thread) }
 {
-    if let Some(ItemRef::Thread(thread)) = tables.item(Name::Thread(no)) {
+    if let Some(ItemRef::Thread(thread)) = tables.item_near(Name::Thread(no), near) {
         sets.note(thread);
     }
 }
 
-// Marks the row of a page where it stands, if there is one. One that has its marks is left alone, which saves a search.
-pub(crate) fn mark_named(tables: &mut Tables, space: SpaceNo, vpn: Vpn, written: bool)
+// Marks the row of a page where it stands, if there is one. One that has its marks is left alone. `near` may be the identifier
+// that it is loaded with.
+pub(crate) fn mark_named(
+    tables: &mut Tables,
+    space: SpaceNo,
+    vpn: Vpn,
+    near: Option<Ident>,
+    written: bool,
+)
     ensures { IsMarked tables.old tables.new space vpn written }
 {
     let name = Name::Mapping(space, vpn);
-    if lacks_mark(tables, name, written) {
-        tables.update_row_named(name, |row| mark_row(row, written));
+    if lacks_mark(tables, name, near, written) {
+        tables.update_row_named(name, near, |row| mark_row(row, written));
     }
 }
 
 // Whether there is a row of that name which isn't marked as used, or, where `written`, as stored to.
-fn lacks_mark(tables: &Tables, name: Name, written: bool) -> bool
+fn lacks_mark(tables: &Tables, name: Name, near: Option<Ident>, written: bool) -> bool
     ensures { result ≡ lacks_mark_def written (content_of tables.now.contents name) }
 {
-    match tables.item(name) {
+    match tables.item_near(name, near) {
         Some(ItemRef::Mapping(row)) => !row.referenced || written && !row.modified,
         _ => false,
     }

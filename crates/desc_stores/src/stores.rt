@@ -1,11 +1,13 @@
 //! The stores of the four kinds, and the roll, as one.
 
 ghost use Rattle.std.specs.Prelude.{◌≡◌, ◌≢◌, ◌+◌, ◌<◌, ◌≤◌, [], ◌∷◌, ◌++◌, length, true, false, not, filter, AllPairs, Contains, Option, Some, None, IfNone, IfOk, IfSome, IsOk, IsSome, OnErr, OnOk, ◌↔◌};
+ghost use Rattle.std.specs.Bool.{OnFalse, OnTrue};
 ghost use Rattle.std.specs.Fn.{FnOnceReturnsAtMut};
 ghost use Rattle.std.specs.Option.{option_map};
 ghost use Rattle.cache_ident.specs.declared.idents.Ident.{Ident};
 ghost use Rattle.cache_ident.specs.declared.idents.Kind.TheVariants.{Mapping};
 ghost use Rattle.cache_ident.specs.declared.idents.Standing.TheVariants.{Live};
+ghost use Rattle.cache_ident.specs.declared.names.Frame.{Frame};
 ghost use Rattle.cache_ident.specs.declared.names.KernelNo.{KernelNo};
 ghost use Rattle.cache_ident.specs.declared.names.Name.{Name};
 ghost use Rattle.cache_ident.specs.Names.{kind_of};
@@ -187,6 +189,18 @@ impl Stores {
         }
     }
 
+    /// As `item`. Where the name is loaded with the identifier `near`, that takes constant time.
+    pub fn item_near(&self, name: Name, near: Option<Ident>) -> Option<ItemRef<'_>>
+        ensures { option_map shown result ≡ content_of self.now name }
+    {
+        match name {
+            Name::Kernel(_) => Some(ItemRef::Kernel(self.kernels.item_near(name, near)?)),
+            Name::Space(_) => Some(ItemRef::Space(self.spaces.item_near(name, near)?)),
+            Name::Thread(_) => Some(ItemRef::Thread(self.threads.item_near(name, near)?)),
+            Name::Mapping(_, _) => Some(ItemRef::Mapping(self.rows.item_near(name, near)?)),
+        }
+    }
+
     /// The content that is loaded with an identifier; `None` where it isn't loaded. Constant time.
     pub fn get(&self, ident: Ident) -> Option<ItemRef<'_>>
         ensures { option_map shown result ≡ item_as self.now ident }
@@ -229,6 +243,19 @@ impl Stores {
             Name::Space(_) => self.spaces.resident(name),
             Name::Thread(_) => self.threads.resident(name),
             Name::Mapping(_, _) => self.rows.resident(name),
+        }
+    }
+
+    /// As `resident`. Where the name is loaded with the identifier `near`, that takes constant time.
+    pub fn resident_near(&self, name: Name, near: Option<Ident>) -> Option<Ident>
+        ensures found { IfSome result (IsResidentAs self.now name) }
+        ensures absent { IfNone result (HasNoResident self.now name) }
+    {
+        match name {
+            Name::Kernel(_) => self.kernels.resident_near(name, near),
+            Name::Space(_) => self.spaces.resident_near(name, near),
+            Name::Thread(_) => self.threads.resident_near(name, near),
+            Name::Mapping(_, _) => self.rows.resident_near(name, near),
         }
     }
 
@@ -295,6 +322,14 @@ impl Stores {
         ensures { result ≡ signal_names self.now.rows frame }
     {
         self.rows.signal_rows(frame)
+    }
+
+    /// Whether some row, loaded or not, has a receiver. Constant time.
+    pub fn has_signal_rows(&self) -> bool
+        ensures some { OnTrue result ((frame : Frame) × (name : Name) × Contains (signal_names self.now.rows frame) name) }
+        ensures none { OnFalse result ((frame : Frame) → signal_names self.now.rows frame ≡ []) }
+    {
+        self.rows.has_signal_rows()
     }
 
     /// The identifiers of the loaded rows of a frame, each once, in no order that a caller may rest on. Two searches in
@@ -422,10 +457,11 @@ impl Stores {
     }
 
     /// Changes the thread of a name where it stands, in its slot or on the shelf, but for its number, and gives what the
-    /// change gives. The record isn't moved.
+    /// change gives. The record isn't moved. Where the name is loaded with the identifier `near`, that takes constant time.
     pub fn update_thread_named<R, F: FnOnce(&mut ThreadRec) -> R>(
         &mut self,
         name: Name,
+        near: Option<Ident>,
         change: F,
     ) -> R
         requires thread { kind_of name ≡ Kind.Thread }
@@ -436,12 +472,18 @@ impl Stores {
         ensures residents { residents_of self.new ≡ residents_of self.old }
         ensures owned { (owner_of : Name → Option KernelNo) → AreOwned owner_of self.old → AreOwned owner_of self.new }
     {
-        self.threads.update_named(name, change)
+        self.threads.update_named(name, near, change)
     }
 
     /// Changes the row of a name where it stands, in its slot or on the shelf, but for its name, frame and receiver, and
-    /// gives what the change gives. The row isn't moved.
-    pub fn update_row_named<R, F: FnOnce(&mut Row) -> R>(&mut self, name: Name, change: F) -> R
+    /// gives what the change gives. The row isn't moved. Where the name is loaded with the identifier `near`, that takes
+    /// constant time.
+    pub fn update_row_named<R, F: FnOnce(&mut Row) -> R>(
+        &mut self,
+        name: Name,
+        near: Option<Ident>,
+        change: F,
+    ) -> R
         requires row { kind_of name ≡ Kind.Mapping }
         requires there { IsSome (content_of self.old name) }
         requires callable { F.IsAlwaysCallable change }
@@ -450,7 +492,7 @@ impl Stores {
         ensures residents { residents_of self.new ≡ residents_of self.old }
         ensures owned { (owner_of : Name → Option KernelNo) → AreOwned owner_of self.old → AreOwned owner_of self.new }
     {
-        self.rows.update_named(name, change)
+        self.rows.update_named(name, near, change)
     }
 
     /// Puts a record of a kernel in the place of the one that stands, in its slot or on the shelf, and gives the old one

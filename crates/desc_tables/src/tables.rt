@@ -2,12 +2,14 @@
 
 ghost use Rattle.std.specs.Prelude.{◌≡◌, ◌≢◌, AllPairs, ◌+◌, ◌<◌, ◌≤◌, ◌^◌, ◌∷◌, [], ◌++◌, ◌↔◌, ℕ, length, filter, not, true, false, List, Option, Some, IsSome, IfOk, IfSome, IfNone, OnOk, OnErr, IsOk, IsTrue, Contains, vec_capacity};
 ghost use Rattle.desc_tables.specs.Tables.{AreSound};
+ghost use Rattle.std.specs.Bool.{OnFalse, OnTrue};
 ghost use Rattle.std.specs.Fn.{FnOnceReturnsAtMut};
 ghost use Rattle.std.specs.Option.{option_map};
 ghost use Rattle.cache_ident.specs.Rolls.{standing_in, just_issued};
 ghost use Rattle.cache_ident.specs.declared.idents.Standing.TheVariants.{Live};
 ghost use Rattle.cache_ident.specs.declared.idents.Cause.TheVariants.{Displaced, Unloaded};
 ghost use Rattle.cache_ident.specs.declared.idents.Kind.TheVariants.{Mapping, Thread};
+ghost use Rattle.cache_ident.specs.declared.names.Frame.{Frame};
 ghost use Rattle.cache_ident.specs.declared.names.KernelNo.{KernelNo};
 ghost use Rattle.cache_ident.specs.declared.names.Name.{Name};
 ghost use Rattle.cache_ident.specs.Names.{kind_of, amount_of};
@@ -342,11 +344,26 @@ impl Tables {
         self.stores.resident(name)
     }
 
+    /// As `resident`. Where the name is loaded with the identifier `near`, that takes constant time.
+    pub fn resident_near(&self, name: Name, near: Option<Ident>) -> Option<Ident>
+        ensures found { IfSome result (λ ident. IsResident (residents_of self.now.contents) ident name) }
+        ensures absent { IfNone result (IsNameResident (residents_of self.now.contents) name → ⊥) }
+    {
+        self.stores.resident_near(name, near)
+    }
+
     /// The content of a name, wherever it is; `None` where there is none. One search where it is loaded.
     pub fn item(&self, name: Name) -> Option<ItemRef<'_>>
         ensures { option_map items.shown result ≡ content_of self.now.contents name }
     {
         self.stores.item(name)
+    }
+
+    /// As `item`. Where the name is loaded with the identifier `near`, that takes constant time.
+    pub fn item_near(&self, name: Name, near: Option<Ident>) -> Option<ItemRef<'_>>
+        ensures { option_map items.shown result ≡ content_of self.now.contents name }
+    {
+        self.stores.item_near(name, near)
     }
 
     /// The content that is loaded with an identifier; `None` where it isn't loaded. Constant time.
@@ -384,10 +401,12 @@ impl Tables {
     }
 
     /// Changes the thread of a name where it stands, in its slot or on the shelf, but for its number and its space, and gives
-    /// what the change gives. The record isn't moved.
+    /// what the change gives. The record isn't moved. Where the name is loaded with the identifier `near`, that takes constant
+    /// time.
     pub fn update_thread_named<R, F: FnOnce(&mut ThreadRec) -> R>(
         &mut self,
         name: Name,
+        near: Option<Ident>,
         change: F,
     ) -> R
         requires thread { kind_of name ≡ Thread }
@@ -401,14 +420,19 @@ impl Tables {
         ensures room { room_of self.new.contents ≡ room_of self.old.contents }
         ensures spare { self.new.contents.spare ≡ self.old.contents.spare }
     {
-        let result = self.stores.update_thread_named(name, change);
+        let result = self.stores.update_thread_named(name, near, change);
         each_is_one(&self.stores);
         result
     }
 
     /// Changes the marks of the row of a name where it stands, in its slot or on the shelf, and gives what the change gives.
-    /// The row isn't moved.
-    pub fn update_row_named<R, F: FnOnce(&mut Row) -> R>(&mut self, name: Name, change: F) -> R
+    /// The row isn't moved. Where the name is loaded with the identifier `near`, that takes constant time.
+    pub fn update_row_named<R, F: FnOnce(&mut Row) -> R>(
+        &mut self,
+        name: Name,
+        near: Option<Ident>,
+        change: F,
+    ) -> R
         requires row { kind_of name ≡ Mapping }
         requires there { IsSome (content_of self.old.contents name) }
         requires callable { F.IsAlwaysCallable change }
@@ -420,7 +444,7 @@ impl Tables {
         ensures room { room_of self.new.contents ≡ room_of self.old.contents }
         ensures spare { self.new.contents.spare ≡ self.old.contents.spare }
     {
-        let result = self.stores.update_row_named(name, change);
+        let result = self.stores.update_row_named(name, near, change);
         each_is_one(&self.stores);
         result
     }
@@ -515,6 +539,14 @@ impl Tables {
         ensures { result ≡ signal_names self.now.contents.rows frame }
     {
         self.stores.signal_rows(frame)
+    }
+
+    /// Whether some row, loaded or not, has a receiver. Constant time.
+    pub fn has_signal_rows(&self) -> bool
+        ensures some { OnTrue result ((frame : Frame) × (name : Name) × Contains (signal_names self.now.contents.rows frame) name) }
+        ensures none { OnFalse result ((frame : Frame) → signal_names self.now.contents.rows frame ≡ []) }
+    {
+        self.stores.has_signal_rows()
     }
 
     /// The identifiers of the loaded rows of a frame, each once, in no order that a caller may rest on. Two searches in

@@ -1,6 +1,7 @@
 //! The cache of a kind and the shelf beside it.
 
 ghost use Rattle.std.specs.Prelude.{◌≡◌, ◌+◌, ◌<◌, ◌≤◌, [], ◌∷◌, ◌++◌, length, option_copied, replicate, true, false, Option, Some, None, IfNone, IfOk, IfSome, IsSome, OnErr, OnOk};
+ghost use Rattle.std.specs.Bool.{OnTrue};
 ghost use Rattle.std.specs.Fn.{FnOnceReturnsAtMut};
 ghost use Rattle.std.specs.Option.{option_map};
 ghost use Rattle.cache_ident.specs.Rolls.{departed, just_issued};
@@ -96,6 +97,17 @@ impl<T: Descriptor + Drop> KindStore<T> {
         }
     }
 
+    /// As `item`. Where the name is loaded with the identifier `near`, that takes constant time.
+    pub fn item_near(&self, name: Name, near: Option<Ident>) -> Option<&T>
+        ensures content { option_copied result ≡ content_of T.called self.now name }
+        ensures one { IsExactlyOne T.called T.KIND self.now }
+    {
+        match find_near(&self.cache, name, near) {
+            Some(ident) => self.cache.get(ident),
+            None => self.shelf.lookup(name),
+        }
+    }
+
     /// The owner under which a descriptor stands on the shelf; `None` where it isn't there.
     pub fn owner_of(&self, name: Name) -> Option<KernelNo>
         ensures { result ≡ option_map (λ row. row.owner) (row_under T.called self.now.rows name) }
@@ -110,6 +122,15 @@ impl<T: Descriptor + Drop> KindStore<T> {
         ensures one { IsExactlyOne T.called T.KIND self.now }
     {
         self.cache.find(name)
+    }
+
+    /// As `resident`. Where the name is loaded with the identifier `near`, that takes constant time.
+    pub fn resident_near(&self, name: Name, near: Option<Ident>) -> Option<Ident>
+        ensures found { IfSome result (IsFoundAs T.called self.now.cells name) }
+        ensures absent { IfNone result (HasNoName T.called self.now.cells name) }
+        ensures one { IsExactlyOne T.called T.KIND self.now }
+    {
+        find_near(&self.cache, name, near)
     }
 
     /// The content that is loaded with an identifier; `None` where it isn't loaded. Constant time.
@@ -253,8 +274,13 @@ impl<T: Descriptor + Drop> KindStore<T> {
     }
 
     /// Changes the content of a name where it stands, in its slot or on the shelf, but for its name, and gives what the
-    /// change gives. The record isn't moved.
-    pub fn update_named<R, F: FnOnce(&mut T) -> R>(&mut self, name: Name, change: F) -> R
+    /// change gives. The record isn't moved. Where the name is loaded with the identifier `near`, that takes constant time.
+    pub fn update_named<R, F: FnOnce(&mut T) -> R>(
+        &mut self,
+        name: Name,
+        near: Option<Ident>,
+        change: F,
+    ) -> R
         requires there { IsSome (content_of T.called self.old name) }
         requires callable { F.IsAlwaysCallable change }
         requires named { LeavesName T.called (FnOnceReturnsAtMut F.FnOnce change) (content_of T.called self.old name) }
@@ -262,7 +288,7 @@ impl<T: Descriptor + Drop> KindStore<T> {
         ensures owned { (owner_of : Name → Option KernelNo) → AreOwned T.called owner_of self.old.rows → AreOwned T.called owner_of self.new.rows }
         ensures enrolled { StaysEnrolled T.KIND self.old.cells self.new.cells }
     {
-        match self.cache.find(name) {
+        match find_near(&self.cache, name, near) {
             Some(ident) => self.cache.update(ident, change),
             None => self.shelf.update(name, change),
         }
@@ -295,5 +321,30 @@ impl<T: Descriptor + Drop> KindStore<T> {
             unreachable!()
         };
         value
+    }
+}
+
+// The identifier with which a name is loaded, if it is. No search is made where it is `near`.
+fn find_near<T: Descriptor + Drop>(
+    cache: &Cache<T>,
+    name: Name,
+    near: Option<Ident>,
+) -> Option<Ident>
+    ensures found { IfSome result (IsFoundAs T.called cache.now name) }
+    ensures absent { IfNone result (HasNoName T.called cache.now name) }
+{
+    match near {
+        Some(ident) if is_loaded_as(cache, name, ident) => Some(ident),
+        _ => cache.find(name),
+    }
+}
+
+// Whether a name is loaded with that identifier.
+fn is_loaded_as<T: Descriptor + Drop>(cache: &Cache<T>, name: Name, ident: Ident) -> bool
+    ensures { OnTrue result (IsFoundAs T.called cache.now name ident) }
+{
+    match cache.get(ident) {
+        Some(value) => value.name() == name,
+        None => false,
     }
 }

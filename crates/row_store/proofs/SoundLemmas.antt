@@ -1,11 +1,11 @@
 -- The lists beside the rows stay true when a row comes, changes or goes.
-use Rattle.std.proofs.Common.{◌≡◌, ◌≢◌, ◌↔◌, ◌⊎◌, ℕ, ◌+◌, ◌≤◌, Bool, true, not, List, [], ◌∷◌, ◌++◌, length, map, filter, replicate, All, Contains, get_or, Some, None, is_some, sym, ◌∙◌, ap, subst, inl, inr, refl, arith, lit<}
+use Rattle.std.proofs.Common.{◌≡◌, ◌≢◌, ◌↔◌, ◌⊎◌, ℕ, ◌+◌, ◌<◌, ◌≤◌, Bool, true, not, List, [], ◌∷◌, ◌++◌, length, map, filter, replicate, All, Contains, get_or, Some, None, is_some, sym, ◌∙◌, ap, subst, inl, inr, refl, arith, lit<}
 use Rattle.std.specs.Option.{IsSome}
 use Rattle.std.specs.declared.cmp.Ordering.TheVariants.{Less}
 use Rattle.std.proofs.lemmas.Bool.{false≢true}
 use Rattle.std.proofs.lemmas.Cmp.{nat_cmp_total, tied_itself}
 use Rattle.std.proofs.lemmas.List.Elements.{Contains-append_cases, Contains-append_left, Contains-append_right, Contains-get_or}
-use Rattle.std.proofs.lemmas.List.{map-append}
+use Rattle.std.proofs.lemmas.List.{map-append, nil_from_length}
 use Rattle.std.proofs.lemmas.List.Kept.{AllPairs-filter}
 use Rattle.cache_ident.specs.contracts.names.FrameOrd.TheImpl as frames
 use Rattle.cache_ident.specs.contracts.names.FrameOrd.TheImpl.Laws as frame_laws
@@ -45,6 +45,10 @@ only_one x y there = elim (Contains-cons_cases [] x y there) [
   | inl is ↦ is
   | inr none ↦ absurd (omega (arith, none.1))
 ]
+
+some_there_is : {X : Type 0} (xs : List X) → 0 < length xs → (x : X) × Contains xs x
+some_there_is [] some = absurd (omega arith)
+some_there_is (x ∷ xs) some = (x, Contains-first xs x)
 
 -- nothing is sound
 module _ (cap : ℕ) (kept : Kept Row) (order : InOrder) (signals : Sorted Frame (ℕ × Name)) (by_frame : Sorted Frame Ident) where
@@ -273,6 +277,17 @@ module _ (room : ℕ) (kept : Kept Row) (order : InOrder) (signals : Sorted Fram
 
   pub signals_seen : (frame : Frame) (sees : KeptRows) → record { kept = kept; names = names_in order; room = room } ≡ sees → map name_of (values_under (frame_eq.ghosts).eq signals.entries frame) ≡ signal_names sees frame
   signals_seen frame sees is = listed_of frame ∙ ap (λ (all : KeptRows). signal_names all frame) is
+
+  -- what is listed is a signal row of its frame, and where nothing is no frame has one
+  pub some_signal : (sees : KeptRows) → record { kept = kept; names = names_in order; room = room } ≡ sees → 0 < length signals.entries → (frame : Frame) × (name : Name) × Contains (signal_names sees frame) name
+  some_signal sees is some =
+      let there = some_there_is signals.entries some in
+      let entry = there.0 in
+      let listed = (sound.signals_listed entry).0 there.1 in
+      (entry.0, entry.1.1, subst (λ (all : KeptRows). Contains (signal_names all entry.0) entry.1.1) is (Contains-filter (is_signal_of kept entry.0) (names_in order) entry.1.1 (Contains-map name_of order.entries entry.1 listed.0) listed.1))
+
+  pub no_signal : (sees : KeptRows) → record { kept = kept; names = names_in order; room = room } ≡ sees → length signals.entries ≡ 0 → (frame : Frame) → signal_names sees frame ≡ []
+  no_signal sees is none frame = sym (signals_seen frame sees is) ∙ ap (λ entries. map name_of (values_under (frame_eq.ghosts).eq entries frame)) (nil_from_length signals.entries none)
 
 -- a name that comes last in the order comes last of the names
 pub names_declaring : (order new_order : InOrder) (stamp : ℕ) (name : Name) → new_order.entries ≡ order.entries ++ (stamp, name) ∷ [] → names_in new_order ≡ names_in order ++ name ∷ []

@@ -1,11 +1,13 @@
 //! The rows that stand, and the lists that find them.
 
 ghost use Rattle.std.specs.Prelude.{◌≡◌, ◌≢◌, ℕ, ◌+◌, ◌<◌, ◌≤◌, ◌↔◌, [], ◌∷◌, ◌++◌, length, option_copied, replicate, true, false, not, filter, AllPairs, Contains, Option, Some, None, IfNone, IfOk, IfSome, IsSome, OnErr, OnOk};
+ghost use Rattle.std.specs.Bool.{OnFalse, OnTrue};
 ghost use Rattle.std.specs.Fn.{FnOnceReturnsAtMut};
 ghost use Rattle.std.specs.Option.{option_map};
 ghost use Rattle.cache_ident.specs.Rolls.{departed, just_issued};
 ghost use Rattle.cache_ident.specs.declared.idents.Ident.{Ident};
 ghost use Rattle.cache_ident.specs.declared.idents.Kind.TheVariants.{Mapping};
+ghost use Rattle.cache_ident.specs.declared.names.Frame.{Frame};
 ghost use Rattle.cache_ident.specs.declared.names.KernelNo.{KernelNo};
 ghost use Rattle.cache_ident.specs.declared.names.Name.{Name};
 ghost use Rattle.phys_groups.specs.declared.rows.Row.{Row};
@@ -131,6 +133,15 @@ impl RowStore {
         self.rows.item(name)
     }
 
+    /// As `item`. Where the name is loaded with the identifier `near`, that takes constant time.
+    pub fn item_near(&self, name: Name, near: Option<Ident>) -> Option<&Row>
+        ensures content { option_copied result ≡ content_of row_name self.now.kept name }
+        ensures one { IsExactlyOne row_name Mapping self.now.kept }
+        ensures named { AreNamed self.now }
+    {
+        self.rows.item_near(name, near)
+    }
+
     /// The owner under which a row stands on the shelf; `None` where it isn't there.
     pub fn owner_of(&self, name: Name) -> Option<KernelNo>
         ensures { result ≡ option_map (λ row. row.owner) (row_under row_name self.now.kept.rows name) }
@@ -146,6 +157,16 @@ impl RowStore {
         ensures named { AreNamed self.now }
     {
         self.rows.resident(name)
+    }
+
+    /// As `resident`. Where the name is loaded with the identifier `near`, that takes constant time.
+    pub fn resident_near(&self, name: Name, near: Option<Ident>) -> Option<Ident>
+        ensures found { IfSome result (IsFoundAs row_name self.now.kept.cells name) }
+        ensures absent { IfNone result (HasNoName row_name self.now.kept.cells name) }
+        ensures one { IsExactlyOne row_name Mapping self.now.kept }
+        ensures named { AreNamed self.now }
+    {
+        self.rows.resident_near(name, near)
     }
 
     /// The row that is loaded with an identifier; `None` where it isn't loaded. Constant time.
@@ -208,6 +229,14 @@ impl RowStore {
         SignalRows {
             stamped: self.signals.run(&frame),
         }
+    }
+
+    /// Whether some row, loaded or not, has a receiver. Constant time.
+    pub fn has_signal_rows(&self) -> bool
+        ensures some { OnTrue result ((frame : Frame) × (name : Name) × Contains (signal_names self.now frame) name) }
+        ensures none { OnFalse result ((frame : Frame) → signal_names self.now frame ≡ []) }
+    {
+        self.signals.len() > 0
     }
 
     /// The identifiers of the loaded rows of a frame, each once, in no order that a caller may rest on. Two searches in
@@ -336,8 +365,14 @@ impl RowStore {
     }
 
     /// Changes the row of a name where it stands, in its slot or on the shelf, but for its name, frame and receiver, and
-    /// gives what the change gives. The row isn't moved.
-    pub fn update_named<R, F: FnOnce(&mut Row) -> R>(&mut self, name: Name, change: F) -> R
+    /// gives what the change gives. The row isn't moved. Where the name is loaded with the
+    /// identifier `near`, that takes constant time.
+    pub fn update_named<R, F: FnOnce(&mut Row) -> R>(
+        &mut self,
+        name: Name,
+        near: Option<Ident>,
+        change: F,
+    ) -> R
         requires there { IsSome (content_of row_name self.old.kept name) }
         requires callable { F.IsAlwaysCallable change }
         requires named { LeavesName row_name (FnOnceReturnsAtMut F.FnOnce change) (content_of row_name self.old.kept name) }
@@ -351,7 +386,7 @@ impl RowStore {
     {
         let room = self.rows.room();
         prove!(self.room <= room);
-        self.rows.update_named(name, change)
+        self.rows.update_named(name, near, change)
     }
 
     /// Takes a row off the shelf for good, with its name, and gives it. There is room for one more then, unless the

@@ -123,11 +123,17 @@ fn is_there(store: &Store, name: Name) -> bool
     store.item(name).is_some()
 }
 
-// Gives a record another mark, wherever it stands.
-fn set_mark_of(rt: &impl Abort, store: &mut Store, no: u32, mark: u32) {
+// Gives a record another mark, wherever it stands, and maybe near that identifier.
+fn set_mark_of(rt: &impl Abort, store: &mut Store, no: u32, near: Option<Ident>, mark: u32) {
     let name = thread(no);
     assert!(rt; is_there(store, name));
-    store.update_named(name, |record| record.mark = mark);
+    store.update_named(name, near, |record| record.mark = mark);
+}
+
+// The mark of a record, wherever it stands, and maybe near that identifier.
+fn mark_near(store: &Store, no: u32, near: Ident) -> Option<u32> {
+    let record = store.item_near(thread(no), Some(near))?;
+    Some(record.mark)
 }
 
 // Puts another record in the place of a loaded one, and gives the old one's mark.
@@ -245,10 +251,15 @@ fn change_by_name(rt: &impl Abort, store: &mut Store, roll: &mut Roll) -> Result
     declare(rt, store, 4, 9, 1)?;
     declare(rt, store, 2, 8, 1)?;
     let ident = load(rt, store, roll, 9);
-    set_mark_of(rt, store, 9, 5);
-    set_mark_of(rt, store, 8, 6);
+    set_mark_of(rt, store, 9, None, 5);
+    // It is another's.
+    set_mark_of(rt, store, 8, Some(ident), 6);
     assert!(rt; stands(store, 9, 5, None) && is_loaded(store, ident));
     assert!(rt; stands(store, 8, 6, Some(2)));
+    set_mark_of(rt, store, 9, Some(ident), 7);
+    assert!(rt; mark_near(store, 9, ident) == Some(7) && mark_near(store, 8, ident) == Some(6));
+    assert!(rt; store.resident_near(thread(9), Some(ident)) == Some(ident));
+    assert!(rt; store.resident_near(thread(8), Some(ident)).is_none());
     Ok(())
 }
 

@@ -243,7 +243,7 @@ fn is_there(store: &RowStore, name: Name) -> bool
 fn mark_named(rt: &impl Abort, store: &mut RowStore, no: u32) -> bool {
     let name = page(no);
     assert!(rt; is_there(store, name));
-    store.update_named(name, |row| row.modified = true);
+    store.update_named(name, None, |row| row.modified = true);
     match store.item(name) {
         Some(row) => row.modified,
         None => false,
@@ -261,6 +261,27 @@ fn change_by_name(rt: &impl Abort, store: &mut RowStore, roll: &mut Roll) -> Res
     assert!(rt; mark_named(rt, store, 5));
     assert!(rt; store.of_frame(Frame(3)).next() == Some(ident));
     assert!(rt; are_signal_rows(store, 3, &[7, 5]));
+    Ok(())
+}
+
+// Whether a row with a receiver stands, before there is any row, with one that has none, and with one more that has one.
+fn declare_signal_row(rt: &impl Abort, store: &mut RowStore) -> Result<(), NoMemory> {
+    assert!(rt; !store.has_signal_rows());
+    declare(rt, store, row(5, 3, None))?;
+    assert!(rt; !store.has_signal_rows());
+    declare(rt, store, row(7, 3, Some(0)))?;
+    assert!(rt; store.has_signal_rows());
+    assert!(rt; retract(rt, store, 7) == row(7, 3, Some(0)));
+    assert!(rt; !store.has_signal_rows());
+    Ok(())
+}
+
+#[test]
+fn a_store_tells_whether_it_has_signal_rows(rt: HostRuntime) -> Result<(), Fail> {
+    let mut store = start(rt.alloc(), 2)?;
+    let done = declare_signal_row(&rt, &mut store);
+    std::mem::forget(store);
+    done?;
     Ok(())
 }
 

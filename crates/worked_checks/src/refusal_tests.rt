@@ -160,7 +160,7 @@ fn trap(rt: &impl Abort, tables: &mut Tables, no: u32, call: u32)
 {
     let name = Name::Thread(ThreadNo(no));
     assert!(rt; has_content(tables, name));
-    tables.update_thread_named(name, |thread| {
+    tables.update_thread_named(name, None, |thread| {
         thread.status = Status::Trapped;
         thread.context.regs[17] = call;
     });

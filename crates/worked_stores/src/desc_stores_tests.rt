@@ -173,7 +173,7 @@ fn room_is_made_where_there_is_none(rt: HostRuntime) -> Result<(), Fail> {
 fn mark_named(rt: &impl Abort, stores: &mut Stores, name: Name) {
     assert!(rt; has_content(stores, name));
     if name.kind() == Kind::Mapping {
-        stores.update_row_named(name, |row| row.modified = true);
+        stores.update_row_named(name, None, |row| row.modified = true);
     }
 }
 
@@ -181,7 +181,7 @@ fn mark_named(rt: &impl Abort, stores: &mut Stores, name: Name) {
 fn raise_named(rt: &impl Abort, stores: &mut Stores, name: Name) {
     assert!(rt; has_content(stores, name));
     if name.kind() == Kind::Thread {
-        stores.update_thread_named(name, |thread| thread.priority = 9);
+        stores.update_thread_named(name, None, |thread| thread.priority = 9);
     }
 }
 

@@ -131,7 +131,11 @@ fn raise(rt: &impl Abort, tables: &mut Tables, no: u32, priority: u32) -> u32
 {
     let name = Name::Thread(ThreadNo(no));
     assert!(rt; has_content(tables, name));
-    tables.update_thread_named(name, |thread| mem::replace(&mut thread.priority, priority))
+    tables.update_thread_named(
+        name,
+        None,
+        |thread| mem::replace(&mut thread.priority, priority),
+    )
 }
 
 // Marks a row as modified, and answers whether it was.
@@ -141,7 +145,7 @@ fn mark(rt: &impl Abort, tables: &mut Tables, space: u32, vpn: u32) -> bool
 {
     let name = Name::Mapping(SpaceNo(space), Vpn(vpn));
     assert!(rt; has_content(tables, name));
-    tables.update_row_named(name, |row| mem::replace(&mut row.modified, true))
+    tables.update_row_named(name, None, |row| mem::replace(&mut row.modified, true))
 }
 
 // Raises a thread twice.

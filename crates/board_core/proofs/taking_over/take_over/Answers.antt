@@ -42,26 +42,26 @@ take_views-requires-clause-alike c =
     subst (λ (vs : List View). HoldAlike (touched_views vs)) (sym c.views.ensures.views)
     (λ u v u_there v_there same. c.views.ensures.one_contents u v u_there v_there same (λ w there of. sym (are w there) ∙ ap (λ (f : Frame). page_at c.args.machine.now.memory f) of ∙ are v v_there))
 
-pub put-requires-clause-there : goal.put-requires-clause-there
-put-requires-clause-there c =
+pub put_near-requires-clause-there : goal.put_near-requires-clause-there
+put_near-requires-clause-there c =
     let t = flat_thread c.thread_at.result.now in
     let a = c.args.quantum.now in
     let u = state_of c.take_views.new.machine in
     slice_get_within u.threads c.args.no.0 t
     (here_then (state_of c.args.machine.now) u u c.args.no.0 t a c.space_of-space.result c.views.result.now a.context (status_by a.paused) c.space_of-space.ensures c.views.ensures.views refl refl c.take_views.ensures.state c.thread_at.ensures.thread)
 
-pub put-requires-clause-aligned : goal.put-requires-clause-aligned
-put-requires-clause-aligned c =
+pub put_near-requires-clause-aligned : goal.put_near-requires-clause-aligned
+put_near-requires-clause-aligned c =
     let t = flat_thread c.thread_at.result.now in
     subst (λ (x : Context). x.pc % 4 ≡ 0) (sym c.context.ensures)
     (context_aligned (state_of c.args.machine.now) c.args.no.0 t c.args.quantum.now c.holds.ensures c.thread_at.ensures.thread (c.requires.could t c.thread_at.ensures.thread) c.requires.local_run)
 
-put_state : (c : goal.After-put) → state_of c.put.new.self ≡ record (state_of c.take_views.new.machine) { threads = slice_set (state_of c.take_views.new.machine).threads c.args.no.0 (record (flat_thread c.thread_at.result.now) { context = c.context.result.now; status = c.status_by.result }) }
+put_state : (c : goal.After-put_near) → state_of c.put_near.new.self ≡ record (state_of c.take_views.new.machine) { threads = slice_set (state_of c.take_views.new.machine).threads c.args.no.0 (record (flat_thread c.thread_at.result.now) { context = c.context.result.now; status = c.status_by.result }) }
 put_state c =
     let t = flat_thread c.thread_at.result.now in
     let a = c.args.quantum.now in
     let u = state_of c.take_views.new.machine in
-    c.put.ensures.state t
+    c.put_near.ensures.state t
     (here_then (state_of c.args.machine.now) u u c.args.no.0 t a c.space_of-space.result c.views.result.now a.context (status_by a.paused) c.space_of-space.ensures c.views.ensures.views refl refl c.take_views.ensures.state c.thread_at.ensures.thread)
 
 pub returns-clause-state : goal.returns-clause-state
@@ -70,13 +70,13 @@ returns-clause-state c = λ found here.
     let a = c.args.quantum.now in
     let s = state_of c.args.machine.now in
     let same : t ≡ found = let there = c.thread_at.ensures.thread in cc in
-    subst (λ (x : FlatThread). state_of c.put.new.self ≡ committed s c.args.no.0 x a) same
-    (taken_over s (state_of c.take_views.new.machine) (state_of c.put.new.self) c.args.no.0 t a c.space_of-space.result c.views.result.now c.context.result.now c.status_by.result c.space_of-space.ensures c.views.ensures.views c.context.ensures
+    subst (λ (x : FlatThread). state_of c.put_near.new.self ≡ committed s c.args.no.0 x a) same
+    (taken_over s (state_of c.take_views.new.machine) (state_of c.put_near.new.self) c.args.no.0 t a c.space_of-space.result c.views.result.now c.context.result.now c.status_by.result c.space_of-space.ensures c.views.ensures.views c.context.ensures
     (c.status_by.ensures ∙ ap status_by c.paused.ensures) c.take_views.ensures.state c.holds.ensures c.thread_at.ensures.thread (c.requires.could t c.thread_at.ensures.thread) c.requires.local_run c.views.ensures.one_a_page (put_state c))
 
 pub returns-clause-stamps : goal.returns-clause-stamps
 returns-clause-stamps c =
     let mid = c.take_views.new.machine in
-    let new = c.put.new.self in
+    let new = c.put_near.new.self in
     let same : new.memory ≡ mid.memory = sym (memory_shown new.machine new.memory new.held.contents) ∙ ap (λ (x : FlatState). x.memory) (put_state c) ∙ memory_shown mid.machine mid.memory mid.held.contents in
     subst (λ (m : List ℕ). AreStamped c.args.at c.args.machine.now.memory c.args.stamps.now.items m c.take_views.new.stamps.items) (sym same) c.take_views.ensures.stamps

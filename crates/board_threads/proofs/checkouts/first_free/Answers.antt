@@ -18,9 +18,9 @@ loop-loaded-preserved-then-is_free c =
     let now = λ (x : Bor (Loaded ThreadRec)). x.now in
     let loop = c.loop-loaded in
     let l = c.in-Some.loaded.now in
-    let first = subst (λ (other : Candidate). IsEarlier loop.first other c.earlier.result) c.candidate_of.ensures c.earlier.ensures in
-    subst (λ (list : List (Loaded ThreadRec)). IsFirstAmong list (Some c.earlier.result)) (sym (map-append now loop.yielded (c.in-Some.loaded ∷ [])))
-    (first_or_this (map now loop.yielded) l loop.first c.earlier.result loop.invariant (sym c.is_free.ensures ∙ c.if-is_free.true) first)
+    let first = subst (λ (other : Candidate). IsEarlier loop.first other c.earlier-sooner.result) c.candidate_of.ensures c.earlier-sooner.ensures in
+    subst (λ (list : List (Loaded ThreadRec)). IsFirstAmong list (Some c.earlier-sooner.result)) (sym (map-append now loop.yielded (c.in-Some.loaded ∷ [])))
+    (first_or_this (map now loop.yielded) l loop.first c.earlier-sooner.result loop.invariant (sym c.is_free.ensures ∙ c.if-is_free.true) first)
 
 pub loop-loaded-preserved : goal.loop-loaded-preserved
 loop-loaded-preserved c =

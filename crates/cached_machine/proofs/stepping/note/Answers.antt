@@ -13,5 +13,5 @@ pub note-requires : goal.note-requires
 note-requires c =
     let found = c.in-Some-Thread in
     let contents = c.args.tables.now.contents in
-    let is : content_of contents (name.Thread c.args.no) ≡ Some (item.Thread found.thread.now) = sym c.item.ensures ∙ ap (option_map items.shown) (found.is ∙ ap Some found.field-0-is) in
+    let is : content_of contents (name.Thread c.args.no) ≡ Some (item.Thread found.thread.now) = sym c.item_near.ensures ∙ ap (option_map items.shown) (found.is ∙ ap Some found.field-0-is) in
     subst (λ (number : ThreadNo). number.0 < length c.args.sets.now.completable) (sym (number_found contents c.args.no found.thread.now is)) c.requires

@@ -4,7 +4,7 @@ use Rattle.cached_machine.specs.Aside.{aside_of}
 use Rattle.cached_machine.specs.Cached.{state_of, Cached}
 use Rattle.cached_machine.proofs.AsideLaws.{posts_stay}
 use Rattle.cached_machine.proofs.StepLaws.{mark_left}
-use Rattle.cached_machine.proofs.steps.CachedMachineSteps.mark.Goals as goal
+use Rattle.cached_machine.proofs.machine.CachedMachine.mark_near.Goals as goal
 
 pub invariant_of-self : goal.invariant_of-self
 invariant_of-self c =
