@@ -6,8 +6,7 @@
 # in what is loaded, and threads that aren't loaded cost a checkout nothing. And it times what a small machine takes at the
 # greatest capacities up to its seal, beside a text that is at fault in its first line. That should be under 300 microseconds. It took
 # 680 while memory and views were written as zeros when they were made. On 2026-11-29, with none of them written before it is used, it
-# took 205 by the least of 600 runs and 370 by their median, on a machine that others used as well. On that day a row took 2.7
-# microseconds and 4.0, and a thread 0.5 both times.
+# took 172, on a machine that others used as well. On that day a row took 2.4 microseconds and 2.9, and a thread 0.4 both times.
 set -euo pipefail
 script=bench/board.sh
 top="$(cd "$(dirname "$0")/.." && pwd)"

@@ -4,14 +4,13 @@
 # - steps alone: one long run, whose pages are copied once;
 # - quanta: 256 steps at a time. For each of them the views are filled anew, each touched page is compared with its
 #   frame, and each written one is copied back;
-# - board: the same by calls of the board on one processor. The thread is checked out, its pages come into the quantum, it
-#   runs ahead, and its steps are committed. Beside it stands the share of the time that the calls took which would be
-#   under a lock: all but the run ahead. It is taken of as many steps again, in which the clock is read four times a
-#   quantum, so it is a little more than the calls' own.
-# The board should reach 0.85 of the peer, and its calls take under 20 %. They don't yet: on 2026-11-29, on a machine that others used
-# as well, the board reached 0.71 to 0.85 of the peer from run to run, and the calls took 23 to 28 %. By instructions, which that doesn't
-# change, the calls are some 6,000 of the 27,600 of a quantum. What is left of them are mostly some ten searches by name, copies of the
-# page that was written and of the registers, and what is asked of a thread's next step when it is checked out.
+# - board: the same by calls of the board on one processor. The thread is checked out, runs ahead, gets the pages that it asks
+#   for, and its steps are committed. Beside it stands the share of the time that the calls took which would be under a lock:
+#   all but the runs ahead. It is taken of as many steps again, in which the clock is read behind each call and each run. What
+#   a reading takes is known by how much longer that took than without, and is taken off each.
+# The board should reach 0.85 of the peer, and its calls take under 20 %. On 2026-11-29, on a machine that others used as well, it
+# reached 0.83, 0.88, 0.89, 0.91, 0.91, 0.91 and 0.93 of the peer in seven runs, and the calls took 15 to 19 %. By instructions,
+# which others don't change, they are some 3,500 of the 25,800 of a quantum.
 # PEERS is a folder with a plain interpreter in C and loops that it reads. Where it is given, its loop mix is taken, and
 # the interpreter runs in turn with the program; the ratios are of the best times of each. Else there are no ratios, and
 # the loop is one that adds the words of a page and stores the sum.
@@ -23,7 +22,7 @@ if [ -n "$peers" ]; then peers="$(cd "$peers" && pwd)"; fi
 source "$(dirname "$0")/program.sh"
 begin_program quantum_times "$(crates_below cache_board)"
 
-turns=5
+turns=40
 
 # The scenario of the loop: its rows and its words.
 scenario() {
@@ -49,7 +48,6 @@ constants() {
         function flag(c) { return index($5, c) ? "true" : "false" }
         $1 == "thread" { pc = $4 }
         $1 == "map" {
-            views = views sprintf("Op::View { cpu: 0, vpn: Vpn(%d) },\n", $3)
             rows = rows sprintf("Row { vpn: %d, frame: %d, flags: Flags { r: %s, w: %s, x: %s, m: %s } },\n", $3, $4, flag("r"), flag("w"), flag("x"), flag("m"))
             row_count++
         }
@@ -61,7 +59,6 @@ constants() {
         }
         END {
             printf "const START: u32 = %d;\n\nconst ROWS: [Row; %d] = [\n%s];\n\nconst LINES: [Line; %d] = [\n%s];\n\n", pc, row_count, rows, line_count, lines
-            printf "const TAKE: [Op; %d] = [\nOp::Checkout { cpu: 0 },\n%s];\n\n", row_count + 1, views
         }'
 }
 
@@ -69,10 +66,13 @@ constants() {
     cat <<'HEAD'
 #![tactic(auto)]
 
-ghost use Rattle.std.specs.Prelude.{◌≡◌, length, IfOk};
+ghost use Rattle.std.specs.Prelude.{◌≡◌, length, IfOk, IfSome, List};
+ghost use Rattle.cache_ident.specs.declared.idents.Ident.{Ident};
+ghost use Rattle.run_journal.specs.declared.entries.Entry.{Entry};
+ghost use Rattle.board_commits.specs.Tickets.{AreKept, AreOfTicket};
 ghost use Rattle.cache_board.specs.Desks.{AreOfTickets};
 
-use cache_board::{Answer, Desk, Op, drive};
+use cache_board::{Answer, Board, Desk, Op, Ticket, drive};
 use cache_ident::{Caps, Frame, Ident, KernelNo, Kind, NoMemory, SpaceNo, ThreadNo, Vpn};
 use flat_state::{Decl, Machine};
 use phys_groups::{Flags, Memory};
@@ -94,13 +94,6 @@ const CAPS: Caps = Caps {
     threads: 16,
     mappings: 64,
 };
-
-const RUN: [Op; 1] = [Op::RunAhead {
-    cpu: 0,
-    limit: QUANTUM,
-}];
-
-const COMMIT: [Op; 1] = [Op::Commit { cpu: 0 }];
 
 #[derive(Clone, Copy)]
 struct Row {
@@ -348,24 +341,12 @@ fn opening(alloc: Global) -> Result<Vec<Op>, NoMemory> {
     Ok(ops)
 }
 
-// Does some operations. It answers how many steps the last one committed.
-fn done(
-    board: &mut cache_board::Board,
-    desk: &mut Desk,
-    ops: &[Op],
-    answers: &mut Vec<Answer>,
-) -> u32
+// Does some operations.
+fn done(board: &mut Board, desk: &mut Desk, ops: &[Op], answers: &mut Vec<Answer>)
     requires { AreOfTickets board.old.journal.entries desk.old }
     ensures { AreOfTickets board.new.journal.entries desk.new }
 {
-    answers.clear();
-    if drive(board, desk, ops, answers).is_err() {
-        return 0;
-    }
-    match answers.last() {
-        Some(Answer::Stepped(steps)) => *steps,
-        _ => 0,
-    }
+    let _done = drive(board, desk, ops, answers);
 }
 
 // The nanoseconds since a moment.
@@ -373,67 +354,229 @@ fn since(rt: &impl std::rt::Clock, start: &Instant) -> io::Result<u128> {
     Ok(start.elapsed(rt)?.as_nanos())
 }
 
-// One quantum by calls of the board. It answers its steps.
-fn quantum_of(board: &mut cache_board::Board, desk: &mut Desk, answers: &mut Vec<Answer>) -> u32
-    requires { AreOfTickets board.old.journal.entries desk.old }
-    ensures { AreOfTickets board.new.journal.entries desk.new }
+// Takes the thread, for which the quantum begins.
+fn begin(board: &mut Board, quantum: &mut Quantum) -> Option<Ticket>
+    requires { AreKept board.old.journal.entries quantum.old }
+    ensures views { IfSome result (λ ticket. AreOfTicket board.new.journal.entries ticket.thread quantum.new) }
+    ensures kept { AreKept board.new.journal.entries quantum.new }
 {
-    let _steps = done(board, desk, &TAKE, answers);
-    let _steps = done(board, desk, &RUN, answers);
-    done(board, desk, &COMMIT, answers)
+    let Some(ticket) = board.checkout(0) else {
+        return None;
+    };
+    quantum.begin(ticket.context);
+    Some(ticket)
 }
 
-// The same. It answers how many nanoseconds the calls around the run took.
-fn calls_of(
-    rt: &impl std::rt::Clock,
-    board: &mut cache_board::Board,
-    desk: &mut Desk,
-    answers: &mut Vec<Answer>,
-) -> io::Result<u128>
-    requires { AreOfTickets board.old.journal.entries desk.old }
-    ensures { AreOfTickets board.new.journal.entries desk.new }
+// Its page comes into the quantum.
+fn add(board: &Board, ticket: &Ticket, vpn: Vpn, quantum: &mut Quantum)
+    requires { AreOfTicket board.now.journal.entries ticket.now.thread quantum.old }
+    ensures { AreOfTicket board.now.journal.entries ticket.now.thread quantum.new }
 {
-    let start = Instant::now(rt)?;
-    let _steps = done(board, desk, &TAKE, answers);
-    let before = since(rt, &start)?;
-    let _steps = done(board, desk, &RUN, answers);
-    let start = Instant::now(rt)?;
-    let _steps = done(board, desk, &COMMIT, answers);
-    let behind = since(rt, &start)?;
-    Ok(before.saturating_add(behind))
+    if quantum.can_fill(vpn) {
+        let _added = board.page(ticket, vpn, quantum);
+    }
+}
+
+// Takes steps until it pauses.
+fn ahead(quantum: &mut Quantum) -> Paused
+    ensures { (j : List Entry) (thread : Ident) → AreOfTicket j thread quantum.old → AreOfTicket j thread quantum.new }
+{
+    quantum.run(QUANTUM)
+}
+
+// Takes the steps, and the pages that they need.
+fn run(board: &Board, ticket: &Ticket, quantum: &mut Quantum)
+    requires { AreOfTicket board.now.journal.entries ticket.now.thread quantum.old }
+    ensures { AreOfTicket board.now.journal.entries ticket.now.thread quantum.new }
+{
+    for _turn in 0..9 {
+        let Paused::Miss { va, .. } = ahead(quantum) else {
+            return;
+        };
+        add(board, ticket, Vpn(va / 4_096), quantum);
+    }
+}
+
+// How long the calls and the runs ahead took, each with a reading of the clock, and how many they were.
+#[derive(Drop)]
+struct Laps {
+    start: Instant,
+    last: u128,
+    calls: u128,
+    runs: u128,
+    call_count: u32,
+    run_count: u32,
+}
+
+impl Laps {
+    fn new(rt: &impl std::rt::Clock) -> io::Result<Laps> {
+        Ok(Laps {
+            start: Instant::now(rt)?,
+            last: 0,
+            calls: 0,
+            runs: 0,
+            call_count: 0,
+            run_count: 0,
+        })
+    }
+
+    // The nanoseconds since the last reading.
+    fn lap(&mut self, rt: &impl std::rt::Clock) -> io::Result<u128> {
+        let now = self.start.elapsed(rt)?.as_nanos();
+        let lap = now.saturating_sub(self.last);
+        self.last = now;
+        Ok(lap)
+    }
+
+    fn add_call(&mut self, rt: &impl std::rt::Clock) -> io::Result<()> {
+        let lap = self.lap(rt)?;
+        self.calls = self.calls.saturating_add(lap);
+        self.call_count = self.call_count.saturating_add(1);
+        Ok(())
+    }
+
+    fn add_run(&mut self, rt: &impl std::rt::Clock) -> io::Result<()> {
+        let lap = self.lap(rt)?;
+        self.runs = self.runs.saturating_add(lap);
+        self.run_count = self.run_count.saturating_add(1);
+        Ok(())
+    }
+}
+
+// As `begin`, and adds how long the call took.
+fn begin_timed(
+    rt: &impl std::rt::Clock,
+    board: &mut Board,
+    quantum: &mut Quantum,
+    laps: &mut Laps,
+) -> io::Result<Option<Ticket>>
+    requires { AreKept board.old.journal.entries quantum.old }
+    ensures views { IfOk result (λ taken. IfSome taken (λ ticket. AreOfTicket board.new.journal.entries ticket.thread quantum.new)) }
+    ensures kept { AreKept board.new.journal.entries quantum.new }
+{
+    let Some(ticket) = board.checkout(0) else {
+        return Ok(None);
+    };
+    let counted = laps.add_call(rt);
+    quantum.begin(ticket.context);
+    counted?;
+    Ok(Some(ticket))
+}
+
+// As `add`, and adds how long the call took.
+fn add_timed(
+    rt: &impl std::rt::Clock,
+    board: &Board,
+    ticket: &Ticket,
+    vpn: Vpn,
+    quantum: &mut Quantum,
+    laps: &mut Laps,
+) -> io::Result<()>
+    requires { AreOfTicket board.now.journal.entries ticket.now.thread quantum.old }
+    ensures { AreOfTicket board.now.journal.entries ticket.now.thread quantum.new }
+{
+    if !quantum.can_fill(vpn) {
+        return Ok(());
+    }
+    laps.add_run(rt)?;
+    let _added = board.page(ticket, vpn, quantum);
+    laps.add_call(rt)
+}
+
+// As `run`, and adds how long the calls and the runs took.
+fn run_timed(
+    rt: &impl std::rt::Clock,
+    board: &Board,
+    ticket: &Ticket,
+    quantum: &mut Quantum,
+    laps: &mut Laps,
+) -> io::Result<()>
+    requires { AreOfTicket board.now.journal.entries ticket.now.thread quantum.old }
+    ensures { AreOfTicket board.now.journal.entries ticket.now.thread quantum.new }
+{
+    for _turn in 0..9 {
+        let Paused::Miss { va, .. } = ahead(quantum) else {
+            return laps.add_run(rt);
+        };
+        add_timed(rt, board, ticket, Vpn(va / 4_096), quantum, laps)?;
+    }
+    laps.add_run(rt)
+}
+
+// Commits the steps, and answers how many they are.
+fn give(board: &mut Board, ticket: &Ticket, quantum: &Quantum) -> u32
+    requires { AreOfTicket board.old.journal.entries ticket.now.thread quantum.now }
+    ensures { AreKept board.new.journal.entries quantum.now }
+{
+    match board.commit(ticket, quantum) {
+        Ok(steps) => steps,
+        Err(_) => 0,
+    }
+}
+
+// One quantum by calls of the board. It answers its steps.
+fn quantum_of(board: &mut Board, quantum: &mut Quantum) -> u32
+    requires { AreKept board.old.journal.entries quantum.old }
+    ensures { AreKept board.new.journal.entries quantum.new }
+{
+    let Some(ticket) = begin(board, quantum) else {
+        return 0;
+    };
+    run(board, &ticket, quantum);
+    give(board, &ticket, quantum)
+}
+
+// The same, with the times of its parts.
+fn quantum_timed(
+    rt: &impl std::rt::Clock,
+    board: &mut Board,
+    quantum: &mut Quantum,
+    laps: &mut Laps,
+) -> io::Result<()>
+    requires { AreKept board.old.journal.entries quantum.old }
+    ensures { AreKept board.new.journal.entries quantum.new }
+{
+    let Some(ticket) = begin_timed(rt, board, quantum, laps)? else {
+        return Ok(());
+    };
+    let ran = run_timed(rt, board, &ticket, quantum, laps);
+    let _steps = give(board, &ticket, quantum);
+    ran?;
+    laps.add_call(rt)
 }
 
 // So many steps as quanta. It answers how many they were.
-fn all_quanta(board: &mut cache_board::Board, desk: &mut Desk, answers: &mut Vec<Answer>) -> u32
-    requires { AreOfTickets board.old.journal.entries desk.old }
-    ensures { AreOfTickets board.new.journal.entries desk.new }
+fn all_quanta(board: &mut Board, quantum: &mut Quantum) -> u32
+    requires { AreKept board.old.journal.entries quantum.old }
+    ensures { AreKept board.new.journal.entries quantum.new }
 {
     let mut steps = 0u32;
     for _quantum in 0..STEPS / QUANTUM {
-        steps = steps.saturating_add(quantum_of(board, desk, answers));
+        steps = steps.saturating_add(quantum_of(board, quantum));
     }
     steps
 }
 
-// The same. It answers how many nanoseconds the calls around the runs took.
-fn all_calls(
-    rt: &impl std::rt::Clock,
-    board: &mut cache_board::Board,
-    desk: &mut Desk,
-    answers: &mut Vec<Answer>,
-) -> io::Result<u128>
-    requires { AreOfTickets board.old.journal.entries desk.old }
-    ensures { AreOfTickets board.new.journal.entries desk.new }
+// The same, with the times of their parts.
+fn all_timed(rt: &impl std::rt::Clock, board: &mut Board, quantum: &mut Quantum) -> io::Result<Laps>
+    requires { AreKept board.old.journal.entries quantum.old }
 {
-    let mut nanos = 0u128;
+    let mut laps = Laps::new(rt)?;
     for _quantum in 0..STEPS / QUANTUM {
-        nanos = nanos.saturating_add(calls_of(rt, board, desk, answers)?);
+        quantum_timed(rt, board, quantum, &mut laps)?;
     }
-    Ok(nanos)
+    Ok(laps)
+}
+
+// A new quantum, beside a board.
+fn new_quantum(board: &Board, alloc: Global) -> Result<Quantum, NoMemory>
+    ensures { IfOk result (AreKept board.now.journal.entries) }
+{
+    Quantum::new(alloc)
 }
 
 // A new desk, beside a board.
-fn new_desk(board: &cache_board::Board, alloc: Global) -> Result<Desk, NoMemory>
+fn new_desk(board: &Board, alloc: Global) -> Result<Desk, NoMemory>
     ensures { IfOk result (λ desk. AreOfTickets board.now.journal.entries desk) }
 {
     Desk::new(alloc)
@@ -444,7 +587,7 @@ fn on_the_board(rt: &(impl Print + std::rt::Clock), alloc: Global) -> io::Result
         groups: 1,
         caps: CAPS,
     };
-    let Ok(mut board) = cache_board::Board::new(alloc, machine, 2 * u64::from(STEPS)) else {
+    let Ok(mut board) = Board::new(alloc, machine, 2 * u64::from(STEPS)) else {
         return Ok(());
     };
     let Ok(mut desk) = new_desk(&board, alloc) else {
@@ -454,15 +597,17 @@ fn on_the_board(rt: &(impl Print + std::rt::Clock), alloc: Global) -> io::Result
         return Ok(());
     };
     let mut answers = Vec::new(alloc);
-    let _steps = done(&mut board, &mut desk, &ops, &mut answers);
+    done(&mut board, &mut desk, &ops, &mut answers);
+    let Ok(mut quantum) = new_quantum(&board, alloc) else {
+        return Ok(());
+    };
     let start = Instant::now(rt)?;
-    let steps = all_quanta(&mut board, &mut desk, &mut answers);
+    let steps = all_quanta(&mut board, &mut quantum);
     print_rate(rt, "board", steps, start.elapsed(rt)?.as_micros())?;
-    let start = Instant::now(rt)?;
-    let around = all_calls(rt, &mut board, &mut desk, &mut answers)?;
-    let nanos = since(rt, &start)?;
-    let share = around.saturating_mul(100) / nanos.max(1);
-    println!(rt; "calls {share} percent of the time")
+    let laps = all_timed(rt, &mut board, &mut quantum)?;
+    let (calls, runs) = (laps.calls, laps.runs);
+    let (call_count, run_count) = (laps.call_count, laps.run_count);
+    println!(rt; "laps {calls} {runs} {call_count} {run_count}")
 }
 
 fn main(rt: HostRuntime) -> io::Result<()> {
@@ -478,22 +623,66 @@ fn main(rt: HostRuntime) -> io::Result<()> {
 MAIN
 } > "$program/src/main.rt"
 
-# What proves that the desk beside the board stays of its tickets: in each loop, whose names have the clock's first where
-# it is read, and on a new desk.
-invariant_of() {
+# What proves that the quantum's views stay of its ticket, and what it keeps of the board's journal.
+# prove FUNCTION FILE: the file of that function's proof.
+prove() {
     mkdir -p "$program/proofs/$1"
-    cat > "$program/proofs/$1/Invariants.antt" <<PROOF
-use Rattle.cache_board.specs.Desks.{AreOfTickets}
+    cat > "$program/proofs/$1/$2.antt"
+}
+invariant_of() {
+    prove "$1" Invariants <<PROOF
+use Rattle.board_commits.specs.Tickets.{$5}
 use Rattle.quantum_times.proofs.$1.Given as goal
 
-abbrev pub invariant-loop-quantum : goal.invariant-loop-quantum
-invariant-loop-quantum $2 = AreOfTickets l.board.journal.entries l.desk
+abbrev pub invariant-loop-$2 : goal.invariant-loop-$2
+invariant-loop-$2 $3 = $4
 PROOF
 }
-invariant_of all_quanta l
-invariant_of all_calls 'g l'
-mkdir -p "$program/proofs/new_desk"
-cat > "$program/proofs/new_desk/Answers.antt" <<'PROOF'
+invariant_of run turn l 'AreOfTicket l.board.journal.entries l.ticket.thread l.quantum' AreOfTicket
+invariant_of run_timed turn 'g l' 'AreOfTicket l.board.journal.entries l.ticket.thread l.quantum' AreOfTicket
+invariant_of all_quanta quantum l 'AreKept l.board.journal.entries l.quantum' AreKept
+invariant_of all_timed quantum 'g l' 'AreKept l.board.journal.entries l.quantum' AreKept
+prove ahead Answers <<'PROOF'
+use Rattle.std.proofs.Common.{◌≡◌, ap, ◌∙◌}
+use Rattle.page_views.specs.Views.{copies_of}
+use Rattle.quantum.specs.Ahead.{Ahead}
+use Rattle.cache_board.proofs.ViewLaws.{all_of, further_copies, further_kept}
+use Rattle.quantum_times.proofs.ahead.Goals as goal
+
+pub returns : goal.returns
+returns c = λ j thread of.
+    let old = c.args.quantum.now in
+    let new = c.run.new.self in
+    let ran = c.run.ensures.run in
+    let copies : copies_of new.views ≡ copies_of old.views = ap (λ (a : Ahead). copies_of a.views) ran.took ∙ further_copies ran.count old in
+    let behind : new.kept ≡ old.kept = ap (λ (a : Ahead). a.kept) ran.took ∙ further_kept ran.count old in
+    all_of j thread old new copies behind of
+PROOF
+prove run Answers <<'PROOF'
+use Rattle.quantum_times.proofs.run.Goals as goal
+
+pub returns-in_default : goal.returns-in_default
+returns-in_default c = c.ahead.ensures c.args.board.now.journal.entries c.args.ticket.now.thread c.loop-turn.invariant
+PROOF
+prove run_timed Answers <<'PROOF'
+use Rattle.quantum_times.proofs.run_timed.Goals as goal
+
+pub returns-in_default : goal.returns-in_default
+returns-in_default g c = c.ahead.ensures c.args.board.now.journal.entries c.args.ticket.now.thread c.loop-turn.invariant
+PROOF
+prove give Answers <<'PROOF'
+use Rattle.std.proofs.Common.{List, subst, sym}
+use Rattle.run_journal.specs.declared.entries.Entry.{Entry}
+use Rattle.board_commits.specs.Tickets.{AreKept}
+use Rattle.board_commits.proofs.KeptLaws.{kept_stays}
+use Rattle.quantum_times.proofs.give.Goals as goal
+
+pub returns-in-Ok : goal.returns-in-Ok
+returns-in-Ok c =
+    let quantum = c.args.quantum.now in
+    subst (λ (j : List Entry). AreKept j quantum) (sym c.in-Ok.ensures.committed.entries.entries) (kept_stays c.args.board.now.journal.entries _ quantum c.requires.kept)
+PROOF
+prove new_desk Answers <<'PROOF'
 use Rattle.std.proofs.Common.{List, Result, Ok, Err}
 use Rattle.std.specs.Prelude.{IfOk}
 use Rattle.run_journal.specs.declared.entries.Entry.{Entry}
@@ -508,6 +697,22 @@ clear_if j (Err e) clear = tt
 pub returns : goal.returns
 returns c = clear_if c.args.board.now.journal.entries c.new.result c.new.ensures
 PROOF
+prove new_quantum Answers <<'PROOF'
+use Rattle.std.proofs.Common.{◌≡◌, List, Result, Ok, Err, sym, subst}
+use Rattle.std.specs.Prelude.{IfOk}
+use Rattle.run_journal.specs.declared.entries.Entry.{Entry}
+use Rattle.quantum.specs.Ahead.{unbegun, Ahead}
+use Rattle.board_commits.specs.Tickets.{AreKept}
+use Rattle.board_commits.proofs.KeptLaws.{kept_unbegun}
+use Rattle.quantum_times.proofs.new_quantum.Goals as goal
+
+kept_if : {E : Type 0} (j : List Entry) (r : Result Ahead E) → IfOk r (λ a. a ≡ unbegun) → IfOk r (AreKept j)
+kept_if j (Ok a) new = subst (AreKept j) (sym new) (kept_unbegun j)
+kept_if j (Err e) new = tt
+
+pub returns : goal.returns
+returns c = kept_if c.args.board.now.journal.entries c.new.result c.new.ensures
+PROOF
 
 # Proves, builds and runs the program once. The turns run what was built.
 run_program ' thousand steps a second' > /dev/null
@@ -520,13 +725,15 @@ for ((turn = 0; turn < turns; turn++)); do
             awk '{ printf "peer %d thousand steps a second (%d steps)\n", $NF / 1000, $2 }' || true
     fi
 done | awk '
-    $1 == "calls" { if (!("calls" in share) || $2 < share["calls"]) share["calls"] = $2; next }
+    $1 == "laps" { if (!timed || $2 + $3 < timed) { timed = $2 + $3; calls = $2; call_count = $4; count = $4 + $5 } next }
     !($1 in best) || $2 > best[$1] { best[$1] = $2; line[$1] = $0 }
     END {
         print line["alone"]
         print line["quanta"]
         print line["board"]
-        printf "share of a quantum on the board that its calls take: %d %%\n", share["calls"]
+        whole = 20e12 / best["board"]
+        reading = (timed - whole) / count
+        printf "share of a quantum on the board that its calls take: %.1f %%\n", 100 * (calls - call_count * reading) / whole
         if ("peer" in best) {
             print line["peer"]
             printf "ratio of steps alone to the peer: %.2f\n", best["alone"] / best["peer"]
