@@ -84,8 +84,8 @@ fn next_in_order(core: &Core) -> Option<ThreadNo>
     first_runnable(core, &waiting)
 }
 
-// Of the loaded threads that are ready and on no processor, the first in the order of choice, and the identifier that it is
-// loaded with.
+// Of the loaded threads that are ready and on no processor, the first in the order of choice. Beside it the identifier that it
+// was seen with, which is no more than a hint.
 fn first_free(core: &Core) -> (Option<Candidate>, Option<Ident>)
     ensures { IsFirstFree core.now result.0 }
 {

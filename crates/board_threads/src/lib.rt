@@ -7,7 +7,7 @@ mod known;
 mod standing;
 mod tickets;
 
-pub use board_checks::{live, thread_as};
+pub use board_checks::thread_as;
 pub use board_core::{
     Answer, Core, ItemRef, Names, Op, PageView, Quantum, Refused, Tables, check_steps,
     check_waiting,

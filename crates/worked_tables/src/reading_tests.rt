@@ -55,6 +55,23 @@ fn is_row(tables: &Tables, ident: Ident, row: &Row) -> bool {
     }
 }
 
+// The same by its name, maybe near another identifier.
+fn is_row_near(tables: &Tables, name: Name, near: Ident, row: &Row) -> bool {
+    match tables.item_near(name, Some(near)) {
+        Some(ItemRef::Mapping(found)) => found == row,
+        _ => false,
+    }
+}
+
+// A name is found whatever identifier is given that it may have.
+fn names_are_found_near(rt: &impl Abort, tables: &Tables, loaded: Loaded) {
+    let name = row_name(0, 32);
+    for near in [loaded.signal, loaded.message, loaded.space] {
+        assert!(rt; tables.resident_near(name, Some(near)) == Some(loaded.signal));
+        assert!(rt; is_row_near(tables, name, near, &row(0, 32, 2, Some(1))));
+    }
+}
+
 fn all_is_found(rt: &impl Abort, tables: &Tables, loaded: Loaded) {
     assert!(rt; depends_on(tables, row_name(0, 16), &[loaded.space, loaded.signal]));
     assert!(rt; depends_on(tables, row_name(0, 32), &[loaded.space, loaded.receiver]));
@@ -104,11 +121,14 @@ fn all_stand(rt: &impl Abort, tables: &Tables, standings: &[(Ident, Standing)]) 
 fn read(rt: &impl Abort, tables: &mut Tables, alloc: Global) -> Result<(), NoMemory>
     requires { tables.old.caps ≡ CAPS }
 {
+    assert!(rt; !tables.has_signal_rows());
     declare_signals(rt, tables, alloc)?;
+    assert!(rt; tables.has_signal_rows());
     all_is_named(rt, tables);
     let loaded = load_signals(rt, tables);
     all_is_named(rt, tables);
     all_is_found(rt, tables, loaded);
+    names_are_found_near(rt, tables, loaded);
     standings_are_told(rt, tables, loaded);
     Ok(())
 }
@@ -125,7 +145,7 @@ fn the_tables_tell_what_they_hold(rt: HostRuntime) -> Result<(), Fail> {
 // ---- what changes
 
 // Gives a thread another priority, and answers the old one.
-fn raise(rt: &impl Abort, tables: &mut Tables, no: u32, priority: u32) -> u32
+fn raise(rt: &impl Abort, tables: &mut Tables, no: u32, near: Option<Ident>, priority: u32) -> u32
     requires { tables.old.caps ≡ CAPS }
     ensures { tables.new.caps ≡ CAPS }
 {
@@ -133,7 +153,7 @@ fn raise(rt: &impl Abort, tables: &mut Tables, no: u32, priority: u32) -> u32
     assert!(rt; has_content(tables, name));
     tables.update_thread_named(
         name,
-        None,
+        near,
         |thread| mem::replace(&mut thread.priority, priority),
     )
 }
@@ -148,13 +168,13 @@ fn mark(rt: &impl Abort, tables: &mut Tables, space: u32, vpn: u32) -> bool
     tables.update_row_named(name, None, |row| mem::replace(&mut row.modified, true))
 }
 
-// Raises a thread twice.
-fn raise_twice(rt: &impl Abort, tables: &mut Tables, no: u32)
+// Raises a thread twice, once near an identifier that may be another's.
+fn raise_twice(rt: &impl Abort, tables: &mut Tables, no: u32, near: Ident)
     requires { tables.old.caps ≡ CAPS }
     ensures { tables.new.caps ≡ CAPS }
 {
-    assert!(rt; raise(rt, tables, no, 7) == 0);
-    assert!(rt; raise(rt, tables, no, 9) == 7);
+    assert!(rt; raise(rt, tables, no, None, 7) == 0);
+    assert!(rt; raise(rt, tables, no, Some(near), 9) == 7);
 }
 
 // Marks a row twice.
@@ -174,8 +194,8 @@ fn change(rt: &impl Abort, tables: &mut Tables, alloc: Global) -> Result<(), NoM
     let loaded = load_signals(rt, tables);
     unload(rt, tables, loaded.thread, 30);
     unload(rt, tables, loaded.other, 31);
-    raise_twice(rt, tables, 0);
-    raise_twice(rt, tables, 1);
+    raise_twice(rt, tables, 0, loaded.receiver);
+    raise_twice(rt, tables, 1, loaded.receiver);
     mark_twice(rt, tables, 0);
     mark_twice(rt, tables, 16);
     let marked = Row {
