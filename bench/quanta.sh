@@ -7,10 +7,11 @@
 # - board: the same by calls of the board on one processor. The thread is checked out, runs ahead, gets the pages that it asks
 #   for, and its steps are committed. Beside it stands the share of the time that the calls took which would be under a lock:
 #   all but the runs ahead. It is taken of as many steps again, in which the clock is read behind each call and each run. What
-#   a reading takes is known by how much longer that took than without, and is taken off each.
-# The board should reach 0.85 of the peer, and its calls take under 20 %. On 2026-11-29, on a machine that others used as well, it
-# reached 0.83, 0.88, 0.89, 0.91, 0.91, 0.91 and 0.93 of the peer in seven runs, and the calls took 15 to 19 %. By instructions,
-# which others don't change, they are some 3,500 of the 25,800 of a quantum.
+#   a reading takes is known by how much longer that took than without, just before, and is taken off each. Of the turns' shares
+#   the middle one counts.
+# The board should reach 0.85 of the peer, and its calls take under 20 %. On 2026-11-29, on a machine that others used as well, the
+# board reached 0.88 to 0.96 of the peer in fifteen runs of seventeen, and 0.71 and 0.83 in two; the calls took 17.5 to 18.6 % in
+# four, with quartiles of 15 and 21. By instructions, which others don't change, they are some 3,500 of the 25,800 of a quantum.
 # PEERS is a folder with a plain interpreter in C and loops that it reads. Where it is given, its loop mix is taken, and
 # the interpreter runs in turn with the program; the ratios are of the best times of each. Else there are no ratios, and
 # the loop is one that adds the words of a page and stores the sum.
@@ -725,15 +726,20 @@ for ((turn = 0; turn < turns; turn++)); do
             awk '{ printf "peer %d thousand steps a second (%d steps)\n", $NF / 1000, $2 }' || true
     fi
 done | awk '
-    $1 == "laps" { if (!timed || $2 + $3 < timed) { timed = $2 + $3; calls = $2; call_count = $4; count = $4 + $5 } next }
+    $1 == "board" { whole = 20e12 / $2 }
+    $1 == "laps" {
+        reading = ($2 + $3 - whole) / ($4 + $5)
+        share = 100 * ($2 - $4 * reading) / whole
+        for (i = shares++; i > 0 && sorted[i - 1] > share; i--) sorted[i] = sorted[i - 1]
+        sorted[i] = share
+        next
+    }
     !($1 in best) || $2 > best[$1] { best[$1] = $2; line[$1] = $0 }
     END {
         print line["alone"]
         print line["quanta"]
         print line["board"]
-        whole = 20e12 / best["board"]
-        reading = (timed - whole) / count
-        printf "share of a quantum on the board that its calls take: %.1f %%\n", 100 * (calls - call_count * reading) / whole
+        printf "share of a quantum on the board that its calls take: %.1f %% in the middle turn, %.1f and %.1f %% in the quartiles\n", sorted[int(shares / 2)], sorted[int(shares / 4)], sorted[int(3 * shares / 4)]
         if ("peer" in best) {
             print line["peer"]
             printf "ratio of steps alone to the peer: %.2f\n", best["alone"] / best["peer"]
