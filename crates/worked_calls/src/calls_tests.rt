@@ -22,15 +22,29 @@ fn is_listed(alloc: Global, words: &[u32], text: &str) -> Result<bool, NoMemory>
 #[test]
 fn words_have_lines(rt: HostRuntime) -> Result<(), Fail> {
     assert!(rt; is_listed(rt.alloc(), &[0x00d2_80e7], "jalr x1, 13(x5)\n")?);
-    assert!(rt; is_listed(rt.alloc(), &[0x73, 0xffff_ffff], "ecall\n.word 0xffffffff\n")?);
-    assert!(rt; is_listed(rt.alloc(), &[0x077c_a8af], "amoadd.w.aqrl x17, x23, (x25)\n")?);
+    assert!(rt;
+        is_listed(
+            rt.alloc(),
+            &[0x73, 0xffff_ffff],
+            "ecall\n.word 0xffffffff\n"
+        )?
+    );
+    assert!(rt;
+        is_listed(
+            rt.alloc(),
+            &[0x077c_a8af],
+            "amoadd.w.aqrl x17, x23, (x25)\n"
+        )?
+    );
     Ok(())
 }
 
-const SCENARIO: &str = "mem 1 # a group\nkernel 0\nright 0 0 rw\nspace 0 0\nthread 0 0 0x10 a1 7\nmap 0 0 0 rx\n\
+const SCENARIO: &str =
+    "mem 1 # a group\nkernel 0\nright 0 0 rw\nspace 0 0\nthread 0 0 0x10 a1 7\nmap 0 0 0 rx\n\
 map 0 1 1 rw signal 0\nword 0 0 00100893 0480A513\ncode 0 8\necall\nendcode\nend\n";
 
-const PRINTED: &str = "mem 1\ncaps 16 64 256 65536\nkernel 0 locks 1 0 0 0\nright 0 0 rw\nspace 0 0\n\
+const PRINTED: &str =
+    "mem 1\ncaps 16 64 256 65536\nkernel 0 locks 1 0 0 0\nright 0 0 rw\nspace 0 0\n\
 thread 0 0 16 prio 0 a0 0 a1 7\nmap 0 0 0 rx\nmap 0 1 1 rw signal 0\nword 0 0 00100893\nword 0 4 0480a513\n\
 word 0 8 00000073\nend\n";
 
@@ -81,7 +95,10 @@ fn is_put(alloc: Global, refused: Refused, text: &str) -> Result<bool, NoMemory>
 // By hand a processor has the thread of its ticket until it commits.
 #[test]
 fn a_thread_that_moved(rt: HostRuntime) -> Result<(), Fail> {
-    let (none, other) = (Refused::Moved { cpu: None }, Refused::Moved { cpu: Some(4) });
+    let (none, other) = (
+        Refused::Moved { cpu: None },
+        Refused::Moved { cpu: Some(4) },
+    );
     assert!(rt; is_put(rt.alloc(), none, "refused moved -\n")?);
     assert!(rt; is_put(rt.alloc(), other, "refused moved 4\n")?);
     Ok(())

@@ -2,7 +2,9 @@
 
 ghost use Rattle.std.specs.Prelude.{◌≤◌, IfOk};
 
-use byte_ports::{Failed, FromRead, MemSink, MemSource, Sink, Source, ToWrite, read_to_end, write_all};
+use byte_ports::{
+    Failed, FromRead, MemSink, MemSource, Sink, Source, ToWrite, read_to_end, write_all,
+};
 use proc_run::{Words, run_machine};
 use std::alloc::Global;
 use std::io::{self, ErrorKind, Read, Write};
@@ -106,14 +108,7 @@ fn is_answered(alloc: Global, length: usize, status: u8, line: &str) -> Result<b
 #[test]
 fn too_many_bytes(rt: HostRuntime) -> Result<(), Fail> {
     assert!(rt; is_answered(rt.alloc(), 4_194_305, 8, "too long\n")?);
-    assert!(rt;
-        is_answered(
-            rt.alloc(),
-            4_194_304,
-            5,
-            "scenario fault line 1 rule 24\n"
-        )?
-    );
+    assert!(rt; is_answered(rt.alloc(), 4_194_304, 5, "scenario fault line 1 rule 24\n")?);
     Ok(())
 }
 
