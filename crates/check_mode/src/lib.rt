@@ -7,6 +7,3 @@ mod texts;
 
 pub use answers::{Checked, answer};
 pub use inputs::parts;
-
-#[cfg(test)]
-mod tests;
