@@ -7,6 +7,8 @@
 # tenths of a second, so the file out/proved/listing holds the last one that was found, with a line for each source that
 # says when it was last changed; as long as those lines are the same, so is the sum.
 
+source "$top/scripts/usage.sh"
+
 programs=(v_run v_drive)
 about_trying='about 40 seconds each time'
 about_proving='about 15 minutes on four processors from nothing'
@@ -21,22 +23,6 @@ not_taken=2
 
 say() {
     printf '%s: %s\n' "$script" "$1" >&2
-}
-
-# Writes the usage of the script that this one was called as, which is the comment at its head.
-show_usage() {
-    sed -n '2,/^[^#]/s/^# \{0,1\}//p' -- "$0"
-}
-
-# take_help WORD..: shows the usage and ends, where one of the words asks for it. It is called before the folder is changed.
-take_help() {
-    local word
-    for word in "$@"; do
-        if [ "$word" = --help ] || [ "$word" = -h ]; then
-            show_usage
-            exit 0
-        fi
-    done
 }
 
 # take_no_words WORD..: of a script that takes none.
@@ -186,8 +172,8 @@ run_program() {
     shift
     take_help "$@"
     end_on_signals
-    # So that what passes on the answer fails where nobody reads it, as a program does.
-    trap '' PIPE
+    # A write that nobody reads fails, as a program's does, and ends nothing.
+    trap : PIPE
     if find_proved "$name"; then
         run_proved "$@"
     elif [ -n "$rt" ]; then
@@ -206,10 +192,7 @@ run_program() {
 # Sets status to that of the program, or to 4 where its answer can't be passed on, and first to the first line of that.
 run_proved() {
     local failed=
-    exec 3< <(
-        trap - PIPE
-        exec "$proved" "$@"
-    )
+    exec 3< <(exec "$proved" "$@")
     waited_for=("$!")
     pass_on <&3 || failed=1
     exec 3<&-
@@ -218,15 +201,17 @@ run_proved() {
     waited_for=()
 }
 
-# Passes its input on as it comes, and sets first to its first line, in which no answer has a byte 0. It fails where it can't.
+# Passes its input on as it comes, and sets first to its first line, in which no answer has a byte 0. It fails where it can't, but
+# not where who reads has enough, as head has.
 pass_on() {
-    local end=
+    local end='' passed=0
     IFS= read -r first && end=$'\n'
     [ -n "$first$end" ] || return 0
     printf '%s%s' "$first" "$end" || return
     cat <&0 &
     waited_for+=("$!")
-    wait "$!"
+    wait "$!" || passed=$?
+    ((passed == 0 || passed == 141))
 } 2> /dev/null
 
 # rt stops reading where input pauses, passes on at most 64 MiB, and has lines of its own, so the input is read whole first,

@@ -56,7 +56,7 @@ explain_status() {
         7) say_wrong_word "$1" "${@:4}" || say 'these words are not taken' ;;
         8) say 'standard input has more than the 4,194,304 bytes that are read' ;;
         11) [[ ! $3 =~ ^journal\ no\ at\ ([0-9]+)\ point\ ([0-9]+)$ ]] ||
-            say_rule "entry ${BASH_REMATCH[1]} of the journal, counted from 0," Point "${BASH_REMATCH[2]}" ;;
+            say_rule "place ${BASH_REMATCH[1]} of the journal, counted from 0," Point "${BASH_REMATCH[2]}" ;;
         12) [[ ! $3 =~ ^journal\ fault\ line\ ([0-9]+)$ ]] ||
             say "line ${BASH_REMATCH[1]} behind the scenario's line \`end\`, counted from 1, is no entry of a journal (docs/formats.md, \"Journal\")" ;;
     esac
