@@ -7,7 +7,7 @@
 # tenths of a second, so the file out/proved/listing holds the last one that was found, with a line for each source that
 # says when it was last changed; as long as those lines are the same, so is the sum.
 
-programs=(v_run v_drive)
+programs=(v_run v_drive v_show)
 about_trying='about 20 seconds'
 about_proving='about 15 minutes on four processors from nothing'
 proved_folder="$top/out/proved"
