@@ -1,5 +1,9 @@
 //! A bar for each life.
 
+ghost use Rattle.std.specs.Prelude.{◌≡◌, IfOk, filter, map};
+ghost use Rattle.journal_picture.specs.Lives.{meets};
+ghost use Rattle.journal_picture.specs.Pictures.{life_of};
+
 use crate::frame::{Frame, SLOT, meets};
 use crate::lanes::{boxed, colour, whose};
 use crate::lives::{Departure, Life};
@@ -127,7 +131,9 @@ fn bar(
     life: &Life,
     owner: Option<KernelNo>,
     told: &str,
-) -> Result<Bar, NoMemory> {
+) -> Result<Bar, NoMemory>
+    ensures { IfOk result (λ bar. bar.life ≡ life.now) }
+{
     let class = colour(alloc, "bar", owner)?;
     let y = frame
         .slot_y(life.ident.kind, life.ident.slot)
@@ -150,7 +156,9 @@ pub(crate) fn bars(
     entries: &[Entry],
     lives: &[Life],
     owners: &[Option<KernelNo>],
-) -> Result<Vec<Bar>, NoMemory> {
+) -> Result<Vec<Bar>, NoMemory>
+    ensures { IfOk result (λ bars. map life_of bars.items ≡ filter (meets frame.now.from frame.now.to) lives.now) }
+{
     let ends = group_ends(alloc, entries)?;
     let mut bars = Vec::new(alloc);
     let mut number = 0usize;

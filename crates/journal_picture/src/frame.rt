@@ -1,5 +1,8 @@
 //! Where things are drawn.
 
+ghost use Rattle.std.specs.Prelude.{◌≡◌, IfOk};
+ghost use Rattle.journal_picture.specs.Lives.{meets};
+
 use crate::lives::Life;
 use cache_ident::{Kind, NoMemory};
 use run_journal::Entry;
@@ -69,7 +72,9 @@ fn key(kind: Kind, slot: u32) -> u64 {
 }
 
 /// Whether something that is loaded from one place to another meets the places that are drawn.
-pub(crate) fn meets(life: &Life, from: u64, to: u64) -> bool {
+pub(crate) fn meets(life: &Life, from: u64, to: u64) -> bool
+    ensures { result ≡ meets from to life.now }
+{
     let ended_before = match life.left {
         Some(left) => left.place < from,
         None => false,
@@ -118,7 +123,9 @@ impl Frame {
         lives: &[Life],
         from: u64,
         to: u64,
-    ) -> Result<Frame, NoMemory> {
+    ) -> Result<Frame, NoMemory>
+        ensures { IfOk result (λ frame. (frame.from ≡ from) × (frame.to ≡ to)) }
+    {
         let mut slots = Vec::new(alloc);
         for life in lives {
             if meets(life, from, to) {

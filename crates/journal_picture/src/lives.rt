@@ -1,7 +1,10 @@
 //! What was loaded, from when to when.
 
-ghost use Rattle.std.specs.Prelude.{◌≡◌, All, IfOk, map};
-ghost use Rattle.journal_picture.specs.Lives.{IsSpanIn, load_of, loads_from};
+ghost use Rattle.std.specs.Prelude.{◌≡◌, ◌++◌, List, ℕ, All, IfOk, OnOk, Some, map, slice_get};
+ghost use Rattle.run_journal.specs.declared.entries.Entry.{Entry};
+ghost use Rattle.run_journal.specs.declared.entries.Entry.TheVariants.{WrittenBack};
+ghost use Rattle.journal_picture.specs.Lives.{EndsIn, load_of, loads_at};
+ghost use Rattle.journal_picture.specs.Pictures.{AreLivesOf};
 
 use cache_ident::{Cause, Ident, Name, NoMemory};
 use run_journal::Entry;
@@ -28,7 +31,10 @@ pub struct Life {
 }
 
 // Ends the life with that identifier, which stands where its serial says: loads are counted by serials.
-fn end_life(lives: &mut Vec<Life>, ident: Ident, departure: Departure) {
+fn end_life(lives: &mut Vec<Life>, ident: Ident, departure: Departure)
+    ensures loads { map load_of lives.new.items ≡ map load_of lives.old.items }
+    ensures ends { (j : List Entry) (cpu : ℕ) → slice_get j departure.place ≡ Some (WrittenBack ident departure.cause cpu) → All (EndsIn j) lives.old.items → All (EndsIn j) lives.new.items }
+{
     let index = ident.serial as usize;
     if index < lives.len() && lives[index].ident == ident {
         lives[index].left = Some(departure);
@@ -36,7 +42,10 @@ fn end_life(lives: &mut Vec<Life>, ident: Ident, departure: Departure) {
 }
 
 // Takes the entry at a place.
-fn take(lives: &mut Vec<Life>, entry: &Entry, place: u64) -> Result<(), NoMemory> {
+fn take(lives: &mut Vec<Life>, entry: &Entry, place: u64) -> Result<(), NoMemory>
+    ensures loads { OnOk result (map load_of lives.new.items ≡ map load_of lives.old.items ++ loads_at place entry.now) }
+    ensures ends { OnOk result ((j : List Entry) → slice_get j place ≡ Some entry.now → All (EndsIn j) lives.old.items → All (EndsIn j) lives.new.items) }
+{
     match *entry {
         Entry::Loaded { ident, name, cpu } => lives.push(Life {
             ident,
@@ -54,12 +63,14 @@ fn take(lives: &mut Vec<Life>, entry: &Entry, place: u64) -> Result<(), NoMemory
 }
 
 /// The lives of all that the entries load, in order of loading. One pass.
-pub fn lives(alloc: Global, entries: &[Entry]) -> Result<Vec<Life>, NoMemory> {
+pub fn lives(alloc: Global, entries: &[Entry]) -> Result<Vec<Life>, NoMemory>
+    ensures { IfOk result (λ lives. AreLivesOf entries.now lives.items) }
+{
     let mut lives = Vec::new(alloc);
     let mut place = 0u64;
     for entry in entries {
         take(&mut lives, entry, place)?;
-        place = place.saturating_add(1);
+        place += 1;
     }
     Ok(lives)
 }

@@ -1,5 +1,9 @@
 //! The page around a drawing, and its text.
 
+ghost use Rattle.std.specs.Prelude.{◌≡◌, ◌++◌, OnOk};
+ghost use Rattle.std.specs.List.{flat_map};
+ghost use Rattle.journal_picture.specs.Pages.{bar_text, canvas_text, content_text, page_text};
+
 use crate::bars::Bar;
 use crate::static_text::{BEGINNING, END};
 use cache_ident::NoMemory;
@@ -25,14 +29,19 @@ pub struct Drawing {
     pub above: Vec<Element>,
 }
 
-fn put_bars(out: &mut Vec<u8>, bars: &[Bar]) -> Result<(), NoMemory> {
+fn put_bars(out: &mut Vec<u8>, bars: &[Bar]) -> Result<(), NoMemory>
+    ensures { OnOk result (out.new.items ≡ out.old.items ++ flat_map bar_text bars.now) }
+{
     for bar in bars {
         put_element(out, &bar.element)?;
     }
     Ok(())
 }
 
-fn put_canvas(out: &mut Vec<u8>, drawing: &Drawing) -> Result<(), NoMemory> {
+#[tactic(auto, unfolding(crate::specs::Pages::canvas_text))]
+fn put_canvas(out: &mut Vec<u8>, drawing: &Drawing) -> Result<(), NoMemory>
+    ensures { OnOk result (out.new.items ≡ out.old.items ++ canvas_text drawing.now) }
+{
     put_opening(out, Tag::Svg, &drawing.canvas)?;
     put_elements(out, &drawing.below)?;
     put_bars(out, &drawing.bars)?;
@@ -40,7 +49,10 @@ fn put_canvas(out: &mut Vec<u8>, drawing: &Drawing) -> Result<(), NoMemory> {
     put_closing(out, Tag::Svg)
 }
 
-fn put_content(out: &mut Vec<u8>, drawing: &Drawing) -> Result<(), NoMemory> {
+#[tactic(auto, unfolding(crate::specs::Pages::content_text))]
+fn put_content(out: &mut Vec<u8>, drawing: &Drawing) -> Result<(), NoMemory>
+    ensures { OnOk result (out.new.items ≡ out.old.items ++ content_text drawing.now) }
+{
     put_elements(out, &drawing.heading)?;
     put_group(out, &drawing.table)?;
     put_group(out, &drawing.overview)?;
@@ -51,7 +63,9 @@ fn put_content(out: &mut Vec<u8>, drawing: &Drawing) -> Result<(), NoMemory> {
 }
 
 /// Adds the page of a drawing.
-pub(crate) fn put_page(out: &mut Vec<u8>, drawing: &Drawing) -> Result<(), NoMemory> {
+pub(crate) fn put_page(out: &mut Vec<u8>, drawing: &Drawing) -> Result<(), NoMemory>
+    ensures { OnOk result (out.new.items ≡ out.old.items ++ page_text drawing.now) }
+{
     out.extend_from_slice(BEGINNING.as_bytes())?;
     put_content(out, drawing)?;
     out.extend_from_slice(END.as_bytes())

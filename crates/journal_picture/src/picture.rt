@@ -1,5 +1,9 @@
 //! The whole page.
 
+ghost use Rattle.std.specs.Prelude.{◌≡◌, IfOk};
+ghost use Rattle.run_journal.specs.Told.{is_seal};
+ghost use Rattle.journal_picture.specs.Pictures.{HasBars, IsPicture, end_drawn, first_drawn, legal_part, seal_place};
+
 use crate::bars::bars;
 use crate::frame::{Frame, MOST_DRAWN};
 use crate::heading::heading;
@@ -34,7 +38,9 @@ pub struct Part {
 }
 
 // The entries before the place that breaks a rule.
-fn legal_part(journal: &Journal, judged: Judged) -> &[Entry] {
+fn legal_part(journal: &Journal, judged: Judged) -> &[Entry]
+    ensures { result.now ≡ legal_part journal.now.entries judged }
+{
     let entries = journal.as_slice();
     match judged {
         Judged::Broken { at, .. } if at < entries.len() as u64 => &entries[..at as usize],
@@ -42,15 +48,18 @@ fn legal_part(journal: &Journal, judged: Judged) -> &[Entry] {
     }
 }
 
+fn is_seal(entry: &Entry) -> bool
+    ensures { result ≡ is_seal entry.now }
+{
+    matches!(entry, Entry::Sealed)
+}
+
 // The place of the seal, before which there is nothing to draw, or the end where there is none.
-fn seal_place(entries: &[Entry]) -> u64 {
-    let found = entries
-        .iter()
-        .position(|entry| matches!(entry, Entry::Sealed));
-    match found {
-        Some(place) => place as u64,
-        None => entries.len() as u64,
-    }
+fn seal_place(entries: &[Entry]) -> u64
+    ensures { result ≡ seal_place entries.now }
+{
+    let found = entries.iter().position(|entry| is_seal(entry));
+    found.unwrap_or(entries.len()) as u64
 }
 
 // The frame of what is asked for, as far as it is there and may be drawn.
@@ -59,10 +68,16 @@ fn frame(
     entries: &[Entry],
     lives: &[Life],
     part: Part,
-) -> Result<Frame, NoMemory> {
+) -> Result<Frame, NoMemory>
+    ensures { IfOk result (λ frame. (frame.from ≡ first_drawn entries.now part) × (frame.to ≡ end_drawn entries.now part)) }
+{
     let end = part.to.min(entries.len() as u64);
     let from = part.from.max(seal_place(entries)).min(end);
-    let to = end.min(from.saturating_add(MOST_DRAWN));
+    let to = if end - from > MOST_DRAWN {
+        from + MOST_DRAWN
+    } else {
+        end
+    };
     Frame::new(alloc, entries, lives, from, to)
 }
 
@@ -140,7 +155,9 @@ fn drawing(
     journal: &Journal,
     judged: Judged,
     part: Part,
-) -> Result<Drawing, NoMemory> {
+) -> Result<Drawing, NoMemory>
+    ensures { IfOk result (HasBars (legal_part journal.now.entries judged) part) }
+{
     let shown = legal_part(journal, judged);
     let lives = lives(alloc, shown)?;
     let frame = frame(alloc, shown, &lives, part)?;
@@ -170,7 +187,11 @@ pub fn picture(
     journal: &Journal,
     judged: Judged,
     part: Part,
-) -> Result<Vec<u8>, NoMemory> {
+) -> Result<Vec<u8>, NoMemory>
+    // It is a page with well-formed content, which has one bar for each life of the entries that are by the rules, as far as lives meet
+    // the places that are drawn.
+    ensures { IfOk result (λ text. IsPicture journal.now.entries judged part text.items) }
+{
     let drawing = drawing(alloc, journal, judged, part)?;
     let mut out = Vec::new(alloc);
     put_page(&mut out, &drawing)?;
