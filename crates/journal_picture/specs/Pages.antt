@@ -4,7 +4,7 @@ use Rattle.std.specs.List.{flat_map}
 use Rattle.page_markup.specs.declared.attributes.Tag.TheVariants as tags
 use Rattle.page_markup.specs.Elements.{element_text, elements_text, group_text}
 use Rattle.page_markup.specs.Markup.{opening_text, closing_text}
-use Rattle.journal_picture.specs.declared.TheConstants.{BEGINNING, END}
+use Rattle.journal_picture.specs.declared.static_text.TheConstants.{BEGINNING, END}
 use Rattle.journal_picture.specs.declared.bars.Bar.{Bar}
 use Rattle.journal_picture.specs.declared.page.Drawing.{Drawing}
 

@@ -7,9 +7,9 @@ use Rattle.page_markup.specs.Markup.{IsContent}
 use Rattle.journal_picture.specs.declared.bars.Bar.{Bar}
 use Rattle.journal_picture.specs.declared.lives.Life.{Life}
 use Rattle.journal_picture.specs.declared.page.Drawing.{Drawing}
-use Rattle.journal_picture.specs.declared.picture.Part.{Part}
-use Rattle.journal_picture.specs.declared.picture.Judged.{Judged}
-use Rattle.journal_picture.specs.declared.picture.Judged.TheVariants.{Legal, Broken}
+use Rattle.journal_picture.specs.declared.whole.Part.{Part}
+use Rattle.journal_picture.specs.declared.whole.Judged.{Judged}
+use Rattle.journal_picture.specs.declared.whole.Judged.TheVariants.{Legal, Broken}
 use Rattle.journal_picture.specs.Lives.{EndsIn, load_of, loads_from, meets}
 use Rattle.journal_picture.specs.Pages.{content_text, page_text}
 

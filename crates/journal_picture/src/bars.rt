@@ -125,7 +125,7 @@ pub(crate) fn end_of(frame: &Frame, life: &Life) -> u64 {
     }
 }
 
-fn bar(
+fn bar_of(
     alloc: Global,
     frame: &Frame,
     life: &Life,
@@ -167,7 +167,7 @@ pub(crate) fn bars(
         number = number.saturating_add(1);
         if meets(life, frame.from, frame.to) {
             let told = told(alloc, entries, &ends, life, owner)?;
-            bars.push(bar(alloc, frame, life, owner, told.as_str())?)?;
+            bars.push(bar_of(alloc, frame, life, owner, told.as_str())?)?;
         }
     }
     Ok(bars)

@@ -2,7 +2,7 @@
 
 use crate::frame::Frame;
 use crate::numbers::sums;
-use crate::picture::Judged;
+use crate::whole::Judged;
 use crate::sentences::sentence;
 use cache_ident::NoMemory;
 use flat_state::Settled;

@@ -12,10 +12,12 @@ mod moments;
 mod numbers;
 mod overview;
 mod page;
-mod picture;
 mod sentences;
 mod static_text;
+mod whole;
 
-pub use lives::{Departure, Life, lives};
-pub use picture::{Judged, Part, picture};
+pub use bars::Bar;
+pub use lives::{Departure, Life};
+pub use page::Drawing;
+pub use whole::{Judged, Part, picture};
 pub use std::alloc::AllocError as NoMemory;

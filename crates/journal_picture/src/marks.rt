@@ -4,7 +4,7 @@ use crate::bars::end_of;
 use crate::frame::{Frame, KINDS, SLOT, kind_number, meets};
 use crate::lanes::{at_place, boxed};
 use crate::lives::Life;
-use crate::picture::Judged;
+use crate::whole::Judged;
 use crate::sentences::sentence;
 use cache_ident::{Cause, Ident, NoMemory};
 use page_markup::{AttributeName, Element, Tag};

@@ -80,7 +80,7 @@ fn take_steps(flat: &mut Flat, thread: ThreadNo, steps: u32) -> Result<(), NoMem
 }
 
 // Makes an entry happen to the machine, and says what it did for a thread.
-fn act(alloc: Global, flat: &mut Flat, entry: &Entry) -> Result<Option<Act>, NoMemory> {
+fn happen(alloc: Global, flat: &mut Flat, entry: &Entry) -> Result<Option<Act>, NoMemory> {
     match *entry {
         Entry::Declared { decl } => {
             flat.apply(&Event::Declare(decl))?;
@@ -163,7 +163,7 @@ pub(crate) fn follow(
         if let Entry::Loaded { name, .. } = *entry {
             followed.owners.push(owner(&flat, name))?;
         }
-        let done = act(alloc, &mut flat, entry)?;
+        let done = happen(alloc, &mut flat, entry)?;
         if let Some(done) = done {
             if from <= place && place < to {
                 followed.note(&flat, entry, place, done)?;

@@ -18,7 +18,7 @@ title_is_content title = unless (length title == 0) _ (Within tags.Title [] (esc
 feed_is_content : IsContent (codes "\n")
 feed_is_content = Escaped (10 ∷ [])
 
-element_is_content : (e : Element) → IsContent (element_text e)
+pub element_is_content : (e : Element) → IsContent (element_text e)
 unfolding element_text
 element_is_content e =
     Behind _ _ (Within e.tag e.attributes.items _ (Behind _ _ (title_is_content e.title.items) (Escaped e.text.items))) feed_is_content

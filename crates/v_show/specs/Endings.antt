@@ -11,8 +11,10 @@ use Rattle.check_mode.specs.declared.answers.Checked.{Checked}
 use Rattle.check_mode.specs.declared.answers.Checked.TheVariants as found
 use Rattle.check_mode.specs.Answers.{IsChecked}
 use Rattle.check_mode.specs.Parts.{scenario_part}
-use Rattle.journal_picture.specs.declared.picture.Judged.TheVariants as judged
-use Rattle.journal_picture.specs.declared.picture.Part.{Part}
+use Rattle.run_journal.specs.declared.entries.Entry.{Entry}
+use Rattle.journal_picture.specs.declared.whole.Judged.{Judged}
+use Rattle.journal_picture.specs.declared.whole.Judged.TheVariants as judged
+use Rattle.journal_picture.specs.declared.whole.Part.{Part}
 use Rattle.journal_picture.specs.Pictures.{IsPicture}
 use Rattle.v_show.specs.declared.endings.Ending.{Ending}
 use Rattle.v_show.specs.declared.endings.Ending.TheVariants.{Legal, Broken, ReadFault, WriteFault, BadScenario, BadJournal, NoMemory, Usage, TooLong}
@@ -45,11 +47,20 @@ exit_status (BadJournal line) = 12
 
 -- ---- what is due
 
+-- how a run comes out that writes a picture
+abbrev pub ending_of : Judged → Ending
+ending_of (judged.Legal settled) = Legal
+ending_of (judged.Broken at point) = Broken
+
+-- the picture of entries, and how the run that writes it comes out
+abbrev pub IsDrawn : Part → List Entry → Judged → Ending → List ℕ → Type 0
+IsDrawn part j how ending text = (ending ≡ ending_of how) × IsPicture j how part text
+
 -- What is due for what the check found: the picture of a legal journal, that of one that isn't as far as it is, or the line that
 -- is no entry's.
 abbrev pub IsDueFor : Part → Checked → Ending → List ℕ → Type 0
-IsDueFor part (found.Yes settled journal said) ending text = (ending ≡ Legal) × IsPicture journal.entries (judged.Legal settled) part text
-IsDueFor part (found.No at point journal said) ending text = (ending ≡ Broken) × IsPicture journal.entries (judged.Broken at point) part text
+IsDueFor part (found.Yes settled journal said) ending text = IsDrawn part journal.entries (judged.Legal settled) ending text
+IsDueFor part (found.No at point journal said) ending text = IsDrawn part journal.entries (judged.Broken at point) ending text
 IsDueFor part (found.BadJournal line said) ending text = (ending ≡ BadJournal line) × (text ≡ said.items)
 
 -- The input is a scenario with something behind it, which was checked, and that is due for what was found.

@@ -1,5 +1,8 @@
 //! How the whole run came out.
 
+ghost use Rattle.std.specs.Prelude.{◌≡◌};
+ghost use Rattle.v_show.specs.Endings.{exit_status};
+
 /// How the run came out.
 #[derive(Clone, Copy)]
 pub(crate) enum Ending {
@@ -26,7 +29,9 @@ pub(crate) enum Ending {
 
 impl Ending {
     /// The status with which the program ends.
-    pub(crate) fn exit_status(self) -> u8 {
+    pub(crate) fn exit_status(self) -> u8
+        ensures { result ≡ exit_status self }
+    {
         match self {
             Ending::Legal => 0,
             Ending::ReadFault => 3,
