@@ -156,7 +156,8 @@ and so on from 8 on.</div>
       item.textContent = words(s);
       lives.appendChild(item);
     }
-    if (name) told.textContent = found.length ? name + ': ' + lives.children.length + ' lives, below' : name + ' is not here';
+    const count = lives.children.length;
+    if (name) told.textContent = found.length ? name + ': ' + count + (count === 1 ? ' life' : ' lives') + ', below' : name + ' is not here';
   }
   const named = name => Array.from(canvas.querySelectorAll('[data-name="' + CSS.escape(name) + '"]'));
   const holdBar = bar => hold(named(bar.dataset.name), bar.dataset.name);

@@ -1,6 +1,6 @@
 //! The whole page.
 
-ghost use Rattle.std.specs.Prelude.{◌≡◌, IfOk};
+ghost use Rattle.std.specs.Prelude.{◌≡◌, IfOk, take};
 ghost use Rattle.run_journal.specs.Told.{is_seal};
 ghost use Rattle.journal_picture.specs.Pictures.{HasBars, IsPicture, end_drawn, first_drawn, legal_part, seal_place};
 
@@ -37,14 +37,25 @@ pub struct Part {
     pub to: u64,
 }
 
+// The entries before a place.
+fn before(entries: &[Entry], place: u64) -> &[Entry]
+    ensures { result.now ≡ take place entries.now }
+{
+    if place < entries.len() as u64 {
+        &entries[..place as usize]
+    } else {
+        entries
+    }
+}
+
 // The entries before the place that breaks a rule.
 fn legal_part(journal: &Journal, judged: Judged) -> &[Entry]
     ensures { result.now ≡ legal_part journal.now.entries judged }
 {
     let entries = journal.as_slice();
     match judged {
-        Judged::Broken { at, .. } if at < entries.len() as u64 => &entries[..at as usize],
-        _ => entries,
+        Judged::Legal(_) => entries,
+        Judged::Broken { at, .. } => before(entries, at),
     }
 }
 
