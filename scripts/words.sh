@@ -6,6 +6,7 @@ formats="$top/docs/formats.md"
 declare -A options_of=(
     [v_run]='--mode --cpus --steps --seed --frames'
     [v_drive]='--steps'
+    [v_show]='--from --to --steps'
 )
 
 # find_row HEAD NAME: sets row to the second cell of the row that begins with that name, of the tables whose first cell above is

@@ -1,4 +1,4 @@
-for script in ./run ./drive ./build .ci/run tests/run scripts/elf_block; do
+for script in ./run ./drive ./show ./build .ci/run tests/run scripts/elf_block; do
     "$script" --help | head -n 1
     "$script" --help | sed -n '$!d;s/.*/ends with a line/p'
 done

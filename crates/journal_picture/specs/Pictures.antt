@@ -1,0 +1,59 @@
+-- What a picture shows of a journal.
+use Rattle.std.specs.Prelude.{◌≡◌, ℕ, ◌+◌, List, All, length, map, filter, max, min, take, unwrap_or}
+use Rattle.std.specs.List.{position}
+use Rattle.run_journal.specs.declared.entries.Entry.{Entry}
+use Rattle.run_journal.specs.Told.{is_seal}
+use Rattle.page_markup.specs.Markup.{IsContent}
+use Rattle.journal_picture.specs.declared.bars.Bar.{Bar}
+use Rattle.journal_picture.specs.declared.lives.Life.{Life}
+use Rattle.journal_picture.specs.declared.page.Drawing.{Drawing}
+use Rattle.journal_picture.specs.declared.whole.Part.{Part}
+use Rattle.journal_picture.specs.declared.whole.Judged.{Judged}
+use Rattle.journal_picture.specs.declared.whole.Judged.TheVariants.{Legal, Broken}
+use Rattle.journal_picture.specs.Lives.{EndsIn, load_of, loads_from, meets}
+use Rattle.journal_picture.specs.Pages.{content_text, page_text}
+
+-- the entries that are by the rules: all, or those before the place that breaks one
+abbrev pub legal_part : List Entry → Judged → List Entry
+legal_part j (Legal settled) = j
+legal_part j (Broken at point) = take at j
+
+-- the life that a bar shows
+abbrev pub life_of : Bar → Life
+life_of bar = bar.life
+
+-- These are lives of entries: one for each load in order, with its place, and what ends one stands at its end.
+pub record AreLivesOf (j : List Entry) (lives : List Life) : Type 0 where
+  pub loads : map load_of lives ≡ loads_from 0 j
+  pub ends : All (EndsIn j) lives
+
+-- ---- which places are drawn
+
+-- the place of the seal, before which there is nothing to draw; the end where there is none
+abbrev pub seal_place : List Entry → ℕ
+seal_place j = unwrap_or (position is_seal j) (length j)
+
+abbrev pub end_asked : List Entry → Part → ℕ
+end_asked j part = min part.to (length j)
+
+-- the first place, and the one behind the last: those that are asked for and there, but for declarations, and at most 20,000
+abbrev pub first_drawn : List Entry → Part → ℕ
+first_drawn j part = min (max part.from (seal_place j)) (end_asked j part)
+
+abbrev pub end_drawn : List Entry → Part → ℕ
+end_drawn j part = min (end_asked j part) (first_drawn j part + 20000)
+
+-- ---- pictures
+
+-- A drawing of these entries has one bar for each of their lives that meets the places that are drawn, in order of loading.
+pub record HasBars (j : List Entry) (part : Part) (drawing : Drawing) : Type 0 where
+  pub lives : List Life
+  pub are : AreLivesOf j lives
+  pub bars : map life_of drawing.bars.items ≡ filter (meets (first_drawn j part) (end_drawn j part)) lives
+
+-- The text is that of a page, whose content is well-formed, on the entries that are by the rules.
+pub record IsPicture (j : List Entry) (judged : Judged) (part : Part) (text : List ℕ) : Type 0 where
+  pub drawing : Drawing
+  pub its : text ≡ page_text drawing
+  pub formed : IsContent (content_text drawing)
+  pub bars : HasBars (legal_part j judged) part drawing
