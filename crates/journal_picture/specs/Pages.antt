@@ -4,7 +4,6 @@ use Rattle.std.specs.List.{flat_map}
 use Rattle.page_markup.specs.declared.attributes.Tag.TheVariants as tags
 use Rattle.page_markup.specs.Elements.{element_text, elements_text, group_text}
 use Rattle.page_markup.specs.Markup.{opening_text, closing_text}
-use Rattle.journal_picture.specs.declared.static_text.TheConstants.{BEGINNING, END}
 use Rattle.journal_picture.specs.declared.bars.Bar.{Bar}
 use Rattle.journal_picture.specs.declared.page.Drawing.{Drawing}
 
@@ -21,6 +20,6 @@ content_text d =
     elements_text d.heading.items ++ group_text d.table ++ group_text d.overview
     ++ (opening_text tags.Div d.frame.items ++ (group_text d.margin ++ canvas_text d) ++ closing_text tags.Div)
 
--- between what stands in each page
-abbrev pub page_text : Drawing → List ℕ
-page_text d = BEGINNING.now ++ content_text d ++ END.now
+-- with what stands before it and behind it
+unfoldable pub page_text : List ℕ → Drawing → List ℕ → List ℕ
+page_text beginning d end = beginning ++ (content_text d ++ end)

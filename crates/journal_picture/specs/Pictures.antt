@@ -1,12 +1,11 @@
 -- What a picture shows of a journal.
-use Rattle.std.specs.Prelude.{◌≡◌, ℕ, ◌+◌, List, All, length, map, filter, max, min, take, unwrap_or}
-use Rattle.std.specs.List.{position}
+use Rattle.std.specs.Prelude.{◌≡◌, ℕ, ◌+◌, ◌-◌, nat_lt, if◌then◌else◌, List, All, length, map, filter, min, take}
 use Rattle.run_journal.specs.declared.entries.Entry.{Entry}
-use Rattle.run_journal.specs.Told.{is_seal}
 use Rattle.page_markup.specs.Markup.{IsContent}
 use Rattle.journal_picture.specs.declared.bars.Bar.{Bar}
 use Rattle.journal_picture.specs.declared.lives.Life.{Life}
 use Rattle.journal_picture.specs.declared.page.Drawing.{Drawing}
+use Rattle.journal_picture.specs.declared.static_text.TheConstants.{BEGINNING, END}
 use Rattle.journal_picture.specs.declared.whole.Part.{Part}
 use Rattle.journal_picture.specs.declared.whole.Judged.{Judged}
 use Rattle.journal_picture.specs.declared.whole.Judged.TheVariants.{Legal, Broken}
@@ -29,19 +28,19 @@ pub record AreLivesOf (j : List Entry) (lives : List Life) : Type 0 where
 
 -- ---- which places are drawn
 
--- the place of the seal, before which there is nothing to draw; the end where there is none
-abbrev pub seal_place : List Entry → ℕ
-seal_place j = unwrap_or (position is_seal j) (length j)
-
 abbrev pub end_asked : List Entry → Part → ℕ
 end_asked j part = min part.to (length j)
 
--- the first place, and the one behind the last: those that are asked for and there, but for declarations, and at most 20,000
+-- the first place that is asked for and there
 abbrev pub first_drawn : List Entry → Part → ℕ
-first_drawn j part = min (max part.from (seal_place j)) (end_asked j part)
+first_drawn j part = min part.from (end_asked j part)
+
+-- the end of what is drawn from one place on to another, of which there are at most 20,000 places
+abbrev pub within_most : ℕ → ℕ → ℕ
+within_most from end = if nat_lt 20000 (end - from) then from + 20000 else end
 
 abbrev pub end_drawn : List Entry → Part → ℕ
-end_drawn j part = min (end_asked j part) (first_drawn j part + 20000)
+end_drawn j part = within_most (first_drawn j part) (end_asked j part)
 
 -- ---- pictures
 
@@ -51,9 +50,9 @@ pub record HasBars (j : List Entry) (part : Part) (drawing : Drawing) : Type 0 w
   pub are : AreLivesOf j lives
   pub bars : map life_of drawing.bars.items ≡ filter (meets (first_drawn j part) (end_drawn j part)) lives
 
--- The text is that of a page, whose content is well-formed, on the entries that are by the rules.
+-- The text is that of a page, between what stands in each, and its content is well-formed and on the entries that are by the rules.
 pub record IsPicture (j : List Entry) (judged : Judged) (part : Part) (text : List ℕ) : Type 0 where
   pub drawing : Drawing
-  pub its : text ≡ page_text drawing
+  pub its : text ≡ page_text BEGINNING.now drawing END.now
   pub formed : IsContent (content_text drawing)
   pub bars : HasBars (legal_part j judged) part drawing

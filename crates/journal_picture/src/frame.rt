@@ -52,6 +52,8 @@ pub(crate) struct Frame {
     /// The first place that is drawn, and the one behind the last.
     pub from: u64,
     pub to: u64,
+    /// The first of them from the seal on; before it there is nothing to see.
+    pub start: u64,
     /// The width of a place.
     pub unit: u64,
     /// The processors that have a lane, in order.
@@ -123,6 +125,7 @@ impl Frame {
         lives: &[Life],
         from: u64,
         to: u64,
+        seal: u64,
     ) -> Result<Frame, NoMemory>
         ensures { IfOk result (λ frame. (frame.from ≡ from) × (frame.to ≡ to)) }
     {
@@ -134,12 +137,14 @@ impl Frame {
         }
         slots.sort_unstable();
         slots.dedup();
-        let places = to.saturating_sub(from);
+        let start = from.max(seal).min(to);
+        let places = to.saturating_sub(start);
         let unit = shared(WIDE, places).max(1).min(WIDEST);
         let cpus = lanes(alloc, entries, from, to)?;
         Ok(Frame {
             from,
             to,
+            start,
             unit,
             cpus,
             slots,
@@ -150,13 +155,13 @@ impl Frame {
     pub(crate) fn x(&self, place: u64) -> u64 {
         place
             .min(self.to)
-            .saturating_sub(self.from)
+            .saturating_sub(self.start)
             .saturating_mul(self.unit)
     }
 
     /// Whether so little is drawn that names may stand where they have no room yet.
     pub(crate) fn is_short(&self) -> bool {
-        self.to.saturating_sub(self.from) <= 2_000
+        self.to.saturating_sub(self.start) <= 2_000
     }
 
     /// How wide the drawing is.

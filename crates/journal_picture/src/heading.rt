@@ -52,7 +52,7 @@ fn verdict(alloc: Global, journal: &Journal, judged: Judged) -> Result<String, N
 }
 
 fn part(alloc: Global, frame: &Frame) -> Result<String, NoMemory> {
-    let (from, to) = (frame.from, frame.to);
+    let (from, to) = (frame.start, frame.to);
     format!(in alloc; "Drawn are the entries from {from} on and before {to}")
 }
 

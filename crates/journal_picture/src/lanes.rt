@@ -48,10 +48,10 @@ pub(crate) fn boxed(
     from: u64,
     to: u64,
 ) -> Result<Element, NoMemory> {
-    let x = frame.x(from.max(frame.from));
+    let x = frame.x(from.max(frame.start));
     let width = frame.x(to).saturating_sub(x).max(1);
     element
-        .at(AttributeName::From, from.max(frame.from))?
+        .at(AttributeName::From, from.max(frame.start))?
         .at(AttributeName::To, to.min(frame.to))?
         .at(AttributeName::X, x)?
         .at(AttributeName::Width, width)
@@ -154,7 +154,7 @@ pub(crate) fn draw_axis(
 ) -> Result<(), NoMemory> {
     let step = tick(frame);
     let height = frame.height();
-    for place in frame.from..frame.to {
+    for place in frame.start..frame.to {
         if place.checked_rem(step).unwrap_or(0) == 0 {
             let line = Element::new(alloc, Tag::Path, "tick")?;
             let shape = format!(in alloc; "M0 0v{height}")?;

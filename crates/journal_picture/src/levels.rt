@@ -39,11 +39,11 @@ fn line_of(
     let mut line = Vec::new(alloc);
     let (mut level, mut place) = (0u64, 0u64);
     for entry in entries {
-        if place == frame.from {
+        if place == frame.start {
             line.push((place, level))?;
         }
         let next = level_after(level, kind, entry);
-        if next != level && frame.from <= place && place < frame.to {
+        if next != level && frame.start <= place && place < frame.to {
             line.push((place, next))?;
         }
         level = next;

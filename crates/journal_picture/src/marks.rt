@@ -52,7 +52,7 @@ fn draw_lock(
     out: &mut Vec<Element>,
 ) -> Result<(), NoMemory> {
     if let Some(from) = from {
-        if from < frame.to && to > frame.from {
+        if from < frame.to && to > frame.start {
             out.push(lock(alloc, frame, ident, from, to)?)?;
         }
     }
@@ -120,7 +120,7 @@ fn end(alloc: Global, frame: &Frame, life: &Life) -> Result<Option<Element>, NoM
 
 // The name of a life in its bar, where there is room, or could be once the page's script draws it wider.
 fn name(alloc: Global, frame: &Frame, life: &Life) -> Result<Option<Element>, NoMemory> {
-    let (from, to) = (life.loaded.max(frame.from), end_of(frame, life));
+    let (from, to) = (life.loaded.max(frame.start), end_of(frame, life));
     let room = frame.x(to).saturating_sub(frame.x(from));
     if room < 44 && !frame.is_short() {
         return Ok(None);

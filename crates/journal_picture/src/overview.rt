@@ -110,7 +110,7 @@ fn add(
 
 // The mark of what is drawn.
 fn shown(alloc: Global, frame: &Frame, size: u64) -> Result<Element, NoMemory> {
-    let from = shared(frame.from, size);
+    let from = shared(frame.start, size);
     let wide = shared(frame.to, size).saturating_sub(from).saturating_add(1);
     Element::new(alloc, Tag::Rect, "shown")?
         .at(AttributeName::X, from.saturating_mul(WIDTH))?
@@ -136,15 +136,13 @@ fn strip(alloc: Global, entries: &[Entry], frame: &Frame) -> Result<Vec<Element>
     Ok(out)
 }
 
-/// The whole journal at a glance, where the drawing has a part of it alone; `first` is the first place that there is something to draw
-/// of.
+/// The whole journal at a glance, where the drawing has a part of it alone.
 pub(crate) fn overview(
     alloc: Global,
     entries: &[Entry],
-    first: u64,
     frame: &Frame,
 ) -> Result<Group, NoMemory> {
-    if frame.from <= first && entries.len() as u64 <= frame.to {
+    if frame.from == 0 && entries.len() as u64 <= frame.to {
         return Ok(Group {
             tag: Tag::Div,
             attributes: Vec::new(alloc),

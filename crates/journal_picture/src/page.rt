@@ -1,13 +1,13 @@
 //! The page around a drawing, and its text.
 
-ghost use Rattle.std.specs.Prelude.{◌≡◌, ◌++◌, OnOk};
+ghost use Rattle.std.specs.Prelude.{◌≡◌, ◌++◌, IfOk, OnOk};
 ghost use Rattle.std.specs.List.{flat_map};
 ghost use Rattle.journal_picture.specs.Pages.{bar_text, canvas_text, content_text, page_text};
 
 use crate::bars::Bar;
-use crate::static_text::{BEGINNING, END};
 use cache_ident::NoMemory;
 use page_markup::{Attribute, Element, Group, Tag, put_closing, put_element, put_elements, put_group, put_opening};
+use std::alloc::Global;
 
 /// All that a page shows.
 #[derive(Drop)]
@@ -62,11 +62,13 @@ fn put_content(out: &mut Vec<u8>, drawing: &Drawing) -> Result<(), NoMemory>
     put_closing(out, Tag::Div)
 }
 
-/// Adds the page of a drawing.
-pub(crate) fn put_page(out: &mut Vec<u8>, drawing: &Drawing) -> Result<(), NoMemory>
-    ensures { OnOk result (out.new.items ≡ out.old.items ++ page_text drawing.now) }
+/// The page of a drawing, between what stands before it and behind it.
+#[tactic(auto, unfolding(crate::specs::Pages::page_text))]
+pub(crate) fn page(alloc: Global, beginning: &str, drawing: &Drawing, end: &str) -> Result<Vec<u8>, NoMemory>
+    ensures { IfOk result (λ text. text.items ≡ page_text beginning.now drawing.now end.now) }
 {
-    out.extend_from_slice(BEGINNING.as_bytes())?;
-    put_content(out, drawing)?;
-    out.extend_from_slice(END.as_bytes())
+    let mut out = Vec::from_slice(alloc, beginning.as_bytes())?;
+    put_content(&mut out, drawing)?;
+    out.extend_from_slice(end.as_bytes())?;
+    Ok(out)
 }

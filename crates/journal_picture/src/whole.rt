@@ -1,8 +1,7 @@
 //! The whole page.
 
 ghost use Rattle.std.specs.Prelude.{◌≡◌, IfOk, take};
-ghost use Rattle.run_journal.specs.Told.{is_seal};
-ghost use Rattle.journal_picture.specs.Pictures.{HasBars, IsPicture, end_drawn, first_drawn, legal_part, seal_place};
+ghost use Rattle.journal_picture.specs.Pictures.{HasBars, IsPicture, end_drawn, first_drawn, legal_part, within_most};
 
 use crate::bars::bars;
 use crate::frame::{Frame, MOST_DRAWN};
@@ -14,7 +13,8 @@ use crate::marks::{draw_broken, draw_ends, draw_locks, name_slots};
 use crate::moments::{Followed, follow};
 use crate::numbers::table;
 use crate::overview::overview;
-use crate::page::{Drawing, put_page};
+use crate::page::{Drawing, page};
+use crate::static_text::{BEGINNING, END};
 use cache_ident::NoMemory;
 use flat_state::Settled;
 use page_markup::{Attribute, AttributeName, Element, Group, Tag};
@@ -59,18 +59,27 @@ fn legal_part(journal: &Journal, judged: Judged) -> &[Entry]
     }
 }
 
-fn is_seal(entry: &Entry) -> bool
-    ensures { result ≡ is_seal entry.now }
-{
-    matches!(entry, Entry::Sealed)
+// The place of the seal, before which there is nothing to draw, or the end where there is none.
+fn seal_place(entries: &[Entry]) -> u64 {
+    let mut place = 0u64;
+    for entry in entries {
+        if let Entry::Sealed = *entry {
+            break;
+        }
+        place = place.saturating_add(1);
+    }
+    place
 }
 
-// The place of the seal, before which there is nothing to draw, or the end where there is none.
-fn seal_place(entries: &[Entry]) -> u64
-    ensures { result ≡ seal_place entries.now }
+// The end of what is drawn from one place on to another.
+fn within_most(from: u64, end: u64) -> u64
+    ensures { result ≡ within_most from end }
 {
-    let found = entries.iter().position(|entry| is_seal(entry));
-    found.unwrap_or(entries.len()) as u64
+    if MOST_DRAWN < end.saturating_sub(from) {
+        from + MOST_DRAWN
+    } else {
+        end
+    }
 }
 
 // The frame of what is asked for, as far as it is there and may be drawn.
@@ -83,13 +92,9 @@ fn frame(
     ensures { IfOk result (λ frame. (frame.from ≡ first_drawn entries.now part) × (frame.to ≡ end_drawn entries.now part)) }
 {
     let end = part.to.min(entries.len() as u64);
-    let from = part.from.max(seal_place(entries)).min(end);
-    let to = if end - from > MOST_DRAWN {
-        from + MOST_DRAWN
-    } else {
-        end
-    };
-    Frame::new(alloc, entries, lives, from, to)
+    let from = part.from.min(end);
+    let to = within_most(from, end);
+    Frame::new(alloc, entries, lives, from, to, seal_place(entries))
 }
 
 // The names of the rows.
@@ -154,7 +159,7 @@ fn canvas(alloc: Global, frame: &Frame, followed: &Followed) -> Result<Vec<Attri
         .at(AttributeName::Width, frame.width())?
         .at(AttributeName::Height, frame.height())?
         .with(AttributeName::Role, "img")?
-        .at(AttributeName::From, frame.from)?
+        .at(AttributeName::From, frame.start)?
         .at(AttributeName::To, frame.to)?
         .at(AttributeName::Step, frame.unit)?
         .with(AttributeName::Counts, steps.as_str())?;
@@ -172,7 +177,7 @@ fn drawing(
     let shown = legal_part(journal, judged);
     let lives = lives(alloc, shown)?;
     let frame = frame(alloc, shown, &lives, part)?;
-    let followed = follow(alloc, shown, frame.from, frame.to)?;
+    let followed = follow(alloc, shown, frame.start, frame.to)?;
     let bars = bars(alloc, &frame, shown, &lives, &followed.owners)?;
     let (below, names) = below(alloc, &frame, shown, &followed)?;
     let above = above(alloc, &frame, shown, &lives, judged)?;
@@ -181,7 +186,7 @@ fn drawing(
     Ok(Drawing {
         heading,
         table: table(alloc, shown)?,
-        overview: overview(alloc, shown, seal_place(shown), &frame)?,
+        overview: overview(alloc, shown, &frame)?,
         frame: around.attributes,
         margin: margin(alloc, &frame, names)?,
         canvas: canvas(alloc, &frame, &followed)?,
@@ -204,7 +209,5 @@ pub fn picture(
     ensures { IfOk result (λ text. IsPicture journal.now.entries judged part text.items) }
 {
     let drawing = drawing(alloc, journal, judged, part)?;
-    let mut out = Vec::new(alloc);
-    put_page(&mut out, &drawing)?;
-    Ok(out)
+    page(alloc, BEGINNING, &drawing, END)
 }

@@ -1,13 +1,15 @@
 -- Which words the command takes.
-use Rattle.std.proofs.Common.{◌≡◌, true, List, [], Option, Some, None, refl, sym, ap, ◌∙◌, ◌⊎◌, inl, inr, Result, Err}
+use Rattle.std.proofs.Common.{◌≡◌, Bool, true, false, List, [], ◌∷◌, length, ◌==◌, arith, Option, Some, None, refl, sym, ap, ◌∙◌, ◌⊎◌, inl, inr, Result, Err}
+use Rattle.std.proofs.lemmas.Bool.{ne_eqb}
+use Rattle.std.specs.Prelude.{if◌then◌else◌}
 use Rattle.std.specs.Option.{ok_or}
-use Rattle.clap.specs.Words.{IsAmong, Row, Text, fault_of, is_simple, is_simple_and_free, matches_of}
+use Rattle.clap.specs.Words.{IsAmong, Kinds, Row, Text, fault_of, is_simple, is_simple_and_free, matches_of}
+use Rattle.clap.specs.Walk.{is_empty}
 use Rattle.clap.specs.declared.error.kind.ErrorKind.{ErrorKind}
 use Rattle.clap.specs.declared.error.kind.ErrorKind.TheVariants.{OutOfMemory}
 use Rattle.clap.proofs.OnLiterals.{clap_on_literals}
 use Rattle.run_words.specs.declared.options.WordsFault.{WordsFault}
 use Rattle.run_words.specs.declared.options.WordsFault.TheVariants.{NoMemory, Refused}
-use Rattle.run_words.proofs.Taken.{chosen, not_chosen}
 use Rattle.v_show.specs.declared.options.Options.{Options}
 use Rattle.v_show.specs.Words.{command, fault_by, options, options_in, IsReading}
 
@@ -18,6 +20,15 @@ command_is_simple = refl
 pub command_is_free : is_simple_and_free command ≡ true
 unfolding clap_on_literals
 command_is_free = refl
+
+chosen : {A : Type 0} (kinds : Kinds) (o : Option A) → kinds ≡ [] → (if is_empty kinds then o else None) ≡ o
+chosen kinds o none = ap (λ (k : Kinds). if is_empty k then o else None) none
+
+not_chosen : {A : Type 0} (kinds : Kinds) (kind : ErrorKind) (o : Option A) → IsAmong kind kinds → (if is_empty kinds then o else None) ≡ None
+not_chosen [] kind o among = absurd among
+not_chosen (k ∷ ks) kind o among =
+    let some : (length (k ∷ ks) == 0) ≡ false = ne_eqb _ _ (λ e. absurd (omega (arith, e))) in
+    ap (λ (none : Bool). if none then o else None) some
 
 -- words in which the command finds no fault ask for what their matches do
 pub taken_as : (words : List Text) (rows : List Row) → fault_of command words ≡ [] → rows ≡ matches_of command words → options words ≡ options_in rows

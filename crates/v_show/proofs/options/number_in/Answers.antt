@@ -1,6 +1,6 @@
 use Rattle.std.specs.Str.Parse.{ParsesUnsigned, ExplainsUnsignedError, HasUnsignedDigitsIfOk}
 use Rattle.clap.specs.Words.{found_of}
-use Rattle.run_words.proofs.Found.{number_found}
+use Rattle.v_show.proofs.Found.{number_found}
 use Rattle.v_show.proofs.options.number_in.Goals as goal
 
 pub returns : goal.returns
