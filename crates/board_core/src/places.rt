@@ -63,6 +63,7 @@ impl Core {
         known(&self.machine);
         let at = next_place(&self.journal);
         self.machine.unload(ident, at);
+        known(&self.machine);
         let gone = self.machine.tables().gone();
         self.loaded -= gone.len();
         note_departures(&mut self.journal, gone, cpu);
@@ -83,6 +84,7 @@ impl Core {
         known(&self.machine);
         if !self.machine.tables().is_locked(ident) {
             self.machine.lock(ident);
+            known(&self.machine);
             note(&mut self.journal, Entry::Locked { ident, cpu });
         }
     }
@@ -101,6 +103,7 @@ impl Core {
         known(&self.machine);
         if self.machine.tables().is_locked(ident) {
             self.machine.unlock(ident);
+            known(&self.machine);
             note(&mut self.journal, Entry::Unlocked { ident, cpu });
         }
     }

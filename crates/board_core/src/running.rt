@@ -53,6 +53,7 @@ impl Core {
     {
         let stored = frame_stored(&self.machine, next);
         cached_machine::events::step(&mut self.machine, no);
+        known(&self.machine);
         self.steps += 1;
         note(&mut self.journal, entry_of_step(no, next.faults, cpu));
         put_stamp(&mut self.stamps, stored, self.journal.len());
@@ -114,6 +115,7 @@ impl Core {
             quantum,
             self.journal.len(),
         );
+        known(&self.machine);
     }
 
     /// Completes the call of a loaded thread, which can be completed. Afterwards what is loaded must still stand, be fit and have
@@ -129,8 +131,9 @@ impl Core {
         ensures enough { OfThread (state_of self.old.machine) no.0 (λ t. asked_of (state_of self.old.machine) t ≢ Nothing) → 0 < room_of (contents_of self.old) → 0 < self.old.machine.sets.room → IsOk result }
     {
         known(&self.machine);
-        self.machine.complete(no)?;
+        let completed = self.machine.complete(no);
         known(&self.machine);
+        completed?;
         note(&mut self.journal, Entry::Completed { thread: no, cpu });
         Ok(())
     }

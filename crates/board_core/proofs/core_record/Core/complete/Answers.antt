@@ -31,6 +31,6 @@ invariant_of-self-2 c =
     let write = subst (λ (b : Recorded). MayWrite b c.args.cpu 1) back c.requires.write in
     let loaded = subst (λ (b : Recorded). IsNameResident (residents_of (contents_of b)) (name.Thread c.args.no)) back c.requires.loaded in
     let able = subst (λ (b : Recorded). OfThread (state_of b.machine) c.args.no.0 (λ t. is_completable t ≡ true)) back c.requires.completable in (
-      call_sound _ c.complete.new.self c.args.no c.args.cpu _ _ c.self.invariant.0 write.sealed write.processor c.known.ensures.sound.1.whole.one c.known-2.ensures.sound.1.whole loaded able c.in_ok-complete.ensures.ok c.note.new.journal c.note.ensures.entries,
+      call_sound _ c.complete.new.self c.args.no c.args.cpu _ _ c.self.invariant.0 write.sealed write.processor c.known.ensures.sound.1.whole.one c.known-2.ensures.sound.1.whole loaded able c.in_ok-complete.ensures.ok c.known-2.ensures.sound c.note.new.journal c.note.ensures.entries,
       c.self.invariant.1 ∙ sym (ap length c.in_ok-complete.ensures.ok.beside.loaded.residents),
     )

@@ -28,6 +28,6 @@ invariant_of-self-2 c =
     let none = subst (λ (b : Recorded). broken_rule (state_of b.machine) c.args.decl.now ≡ None) (sym c.self.view_is) c.requires.fits in
     let grown = c.note.ensures.entries ∙ ap (λ (es : List Entry). es ++ Declared c.args.decl.now ∷ []) c.reserve.ensures.entries in
     let news = c.put_stamp.ensures ∙ ap (λ (f : Option Frame). stamped_at f c.len.result c.self.inside.stamps.items) c.frame_declared.ensures in (
-      declared_sound _ c.self.invariant.0 open_yet c.args.decl.now none c.make_declaration.new.self c.note.new.journal c.len.result c.len.ensures c.in_ok-make_declaration.ensures.ok grown _ news,
+      declared_sound _ c.self.invariant.0 open_yet c.args.decl.now none c.make_declaration.new.self c.note.new.journal c.len.result c.len.ensures c.in_ok-make_declaration.ensures.ok grown c.known.ensures.sound _ news,
       c.self.invariant.1 ∙ sym (ap length c.in_ok-make_declaration.ensures.ok.beside.loaded.residents),
     )

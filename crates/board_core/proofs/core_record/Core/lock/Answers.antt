@@ -24,7 +24,7 @@ invariant_of-self c =
     let unlocked = subst (λ (l : Bool). LockIs c.self.inside.machine.held.contents c.args.ident l) c.if-not-is_locked.true
     (subst (λ (h : Held). LockIs h.contents c.args.ident c.is_locked.result) c.tables.ensures.tables c.is_locked.ensures) in (
       locked_sound _ c.lock.new.self c.note.new.journal c.known.ensures.sound.0 c.args.ident c.args.cpu c.self.invariant.0 c.known.ensures.sound.1.whole may live
-          c.lock.ensures.rest c.lock.ensures.state c.lock.ensures.marks unlocked owner c.lock.ensures.lock c.note.ensures.entries,
+          c.lock.ensures.rest c.lock.ensures.state c.lock.ensures.marks c.known-2.ensures.sound unlocked owner c.lock.ensures.lock c.note.ensures.entries,
       c.self.invariant.1 ∙ sym (lock_counted _ _ c.args.ident true c.lock.ensures.lock),
     )
 

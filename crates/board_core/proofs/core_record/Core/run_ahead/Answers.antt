@@ -44,7 +44,7 @@ invariant_of-self c =
     let found = thread_of_some _ (loaded_stands m.machine m.memory m.held.contents c.args.no c.known.ensures.sound.1.whole.one loaded) in (
       ahead_sound _ c.take_over.new.machine c.args.no found.0 c.args.quantum.now c.args.cpu c.self.invariant.0 write.sealed write.processor c.requires.some loaded unmarked
           found.1 (could found.0 found.1) c.steps-steps.ensures.local_run (views found.0 found.1) (c.take_over.ensures.state found.0 found.1) c.take_over.ensures.rest
-          c.note.new.journal c.len.result c.steps-steps.result c.from.result _ c.steps-steps.ensures.steps (c.from.ensures ∙ c.steps-steps.ensures.steps) c.note.ensures.entries c.len.ensures left c.take_over.ensures.stamps,
+          c.known-2.ensures.sound c.note.new.journal c.len.result c.steps-steps.result c.from.result _ c.steps-steps.ensures.steps (c.from.ensures ∙ c.steps-steps.ensures.steps) c.note.ensures.entries c.len.ensures left c.take_over.ensures.stamps,
       c.self.invariant.1 ∙ sym (ap (λ (a : Aside). length a.residents) c.take_over.ensures.rest),
     )
 

@@ -49,7 +49,7 @@ invariant_of-self c =
     let live = subst (λ (b : Recorded). standing_in (contents_of b).issued c.args.ident ≡ Live) (sym c.self.view_is) c.requires.live in
     let is = subst (λ (at : ℕ). IsUnload c.self.inside.machine.held.contents c.unload.new.self.held.contents c.args.ident at c.unload.new.self.held.gone) c.next_place-at.ensures.place c.unload.ensures.unload in (
       unloaded_sound _ c.unload.new.self c.note_departures.new.journal c.known.ensures.sound.0 c.args.cpu c.self.invariant.0 c.known.ensures.sound.1.whole may.sealed may.processor
-          c.unload.ensures.rest c.unload.ensures.marks c.args.ident live c.requires.not_first is (grown c),
+          c.unload.ensures.rest c.unload.ensures.marks c.known-2.ensures.sound c.args.ident live c.requires.not_first is (grown c),
       (let all = unloaded_counted _ _ _ c.known.ensures.sound.1.whole _ c.args.ident _ _ live c.unload.ensures.unload in
           let here = c.self.invariant.1 in
           let gone = ap length c.gone-gone.ensures ∙ ap (λ (h : Held). length h.gone) c.tables.ensures.tables in

@@ -22,7 +22,7 @@ invariant_of-self c =
     let locked = subst (λ (l : Bool). LockIs c.self.inside.machine.held.contents c.args.ident l) c.if-is_locked.true
     (subst (λ (h : Held). LockIs h.contents c.args.ident c.is_locked.result) c.tables.ensures.tables c.is_locked.ensures) in (
       unlocked_sound _ c.unlock.new.self c.note.new.journal c.known.ensures.sound.0 c.args.ident c.args.cpu c.self.invariant.0 c.known.ensures.sound.1.whole may live
-          c.unlock.ensures.rest c.unlock.ensures.state c.unlock.ensures.marks locked c.requires.not_first c.unlock.ensures.lock c.note.ensures.entries,
+          c.unlock.ensures.rest c.unlock.ensures.state c.unlock.ensures.marks c.known-2.ensures.sound locked c.requires.not_first c.unlock.ensures.lock c.note.ensures.entries,
       c.self.invariant.1 ∙ sym (lock_counted _ _ c.args.ident false c.unlock.ensures.lock),
     )
 
