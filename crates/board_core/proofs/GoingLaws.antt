@@ -6,12 +6,13 @@ use Rattle.run_journal.specs.declared.entries.Entry.{Entry}
 use Rattle.run_journal.specs.Entries.{maker_of}
 use Rattle.run_journal.specs.Told.{is_seal, nothing_told, told, told_from, Told}
 use Rattle.run_journal.proofs.Growth.{sealed_from, told_from-append}
+use Rattle.cached_machine.specs.Posts.{HasLoadedMarks, HasSameMarks}
 use Rattle.board_core.specs.Core.{contents_of, IsSound, Recorded}
 use Rattle.board_core.specs.Going.{AreMadeBy, GoesOn, Grew, IsOneEvent}
 use Rattle.board_core.specs.Growth.{GrowsBy, OnlyMakesRoom}
 use Rattle.board_core.proofs.GrowthLaws.{grows_more}
 use Rattle.board_core.proofs.RoomLaws.{grows_nothing, same_checkouts, same_sealed}
-use Rattle.board_core.proofs.SoundLaws.{grows_by_none, KeepsMarks}
+use Rattle.board_core.proofs.SoundLaws.{grows_by_none, loaded_marks}
 
 -- ---- makers
 
@@ -64,18 +65,19 @@ event_more cpu a b c first second = record { grew = grew_more cpu a b c first.gr
 
 -- ---- going on
 
--- whoever keeps marks goes on
-pub goes_on : (cpu : ℕ) (old new : Recorded) → Grew cpu old new → KeepsMarks (contents_of old) (contents_of new) → new.checkouts ≡ old.checkouts → GoesOn cpu old new
-goes_on cpu old new grew keeps checkouts = record { grew = grew; marks = keeps.marks; lasts = keeps.lasts; checkouts = checkouts }
+-- a board that grew, on whose processors nobody came, goes on
+pub goes_on : (cpu : ℕ) (old new : Recorded) → Grew cpu old new → HasLoadedMarks (contents_of old) (contents_of new) → new.checkouts ≡ old.checkouts → GoesOn cpu old new
+goes_on cpu old new grew has checkouts =
+    let keeps = loaded_marks (contents_of old) (contents_of new) has in
+    record { grew = grew; marks = keeps.marks; lasts = has.lasts; checkouts = checkouts }
+
+-- .. and so does one on whose processors everybody stays
+pub goes_on_so : (cpu : ℕ) (old new : Recorded) → Grew cpu old new → HasSameMarks (contents_of old) (contents_of new) → new.checkouts ≡ old.checkouts → GoesOn cpu old new
+goes_on_so cpu old new grew has checkouts = record { grew = grew; marks = λ whom by is. sym (has.marks whom) ∙ is; lasts = has.lasts; checkouts = checkouts }
 
 module _ (cpu : ℕ) (old new : Recorded) (room : OnlyMakesRoom old new) where
   pub room_grew : Grew cpu old new
   room_grew = record { entries = []; made = tt; grows = grows_nothing old new room; sealed = λ sealed. same_sealed old new room ∙ sealed }
 
   pub room_goes_on : GoesOn cpu old new
-  room_goes_on = record {
-    grew = room_grew;
-    marks = λ whom by is. sym (room.only.marks.marks whom) ∙ is;
-    lasts = room.only.marks.lasts;
-    checkouts = same_checkouts old new room;
-  }
+  room_goes_on = goes_on_so cpu old new room_grew room.only.marks (same_checkouts old new room)

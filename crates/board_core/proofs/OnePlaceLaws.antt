@@ -32,7 +32,7 @@ use Rattle.cached_machine.specs.desc_tables.specs.Tables.{AreSound}
 use Rattle.cached_machine.specs.Cached.{is_loaded, state_of}
 use Rattle.cached_machine.proofs.LoadedLaws.{loaded_by, loads}
 use Rattle.board_core.specs.Core.{contents_of, IsSound, Recorded}
-use Rattle.board_core.specs.Places.{flat_of, IsInOnePlace, IsLoaded, IsWith, IsWithItsOwner}
+use Rattle.board_core.specs.Places.{flat_of, IsInOnePlace, IsInItsCache, IsOnShelfOf, IsWithItsOwner}
 
 -- ---- the shelf of a kind
 
@@ -101,10 +101,10 @@ module _ (b : Recorded) (sound : IsSound b) where
       let on = owner_on_shelf (owner (seen (contents_of b))) (contents_of b) sound.tables.1.whole.owned n shelved in
       record { kernel = on.0; owns = sym (owner_is n) ∙ on.1; shelved = on.2 }
 
-  somewhere : (n : Name) → stands (flat_of b) n ≡ true → IsLoaded b n ⊎ IsWithItsOwner b n
+  somewhere : (n : Name) → stands (flat_of b) n ≡ true → IsInItsCache b n ⊎ IsWithItsOwner b n
   somewhere n there = by (is_loaded (contents_of b) n) refl
     where
-      by : (loaded : Bool) → is_loaded (contents_of b) n ≡ loaded → IsLoaded b n ⊎ IsWithItsOwner b n
+      by : (loaded : Bool) → is_loaded (contents_of b) n ≡ loaded → IsInItsCache b n ⊎ IsWithItsOwner b n
       by true is = inl (loaded_by (residents_of (contents_of b)) n is)
       by false is = inr (with_its_owner n ((shelved_iff (contents_of b) one n).1 (
         sym (stands_is n) ∙ there,

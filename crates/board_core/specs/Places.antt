@@ -15,25 +15,25 @@ use Rattle.board_core.specs.Core.{contents_of, Recorded}
 abbrev pub flat_of : Recorded → FlatState
 flat_of b = flat (erase b.journal.entries)
 
--- a descriptor of that name is loaded
-abbrev pub IsLoaded : Recorded → Name → Type 0
-IsLoaded b n = IsNameResident (residents_of (contents_of b)) n
+-- the name is loaded
+abbrev pub IsInItsCache : Recorded → Name → Type 0
+IsInItsCache b n = IsNameResident (residents_of (contents_of b)) n
 
 -- the name is on the shelf of that kernel
-abbrev pub IsWith : Recorded → Name → KernelNo → Type 0
-IsWith b n kernel = shelf_owner (contents_of b) n ≡ Some kernel
+abbrev pub IsOnShelfOf : Recorded → Name → KernelNo → Type 0
+IsOnShelfOf b n kernel = shelf_owner (contents_of b) n ≡ Some kernel
 
 -- the name is on the shelf of the kernel that owns it
 pub record IsWithItsOwner (b : Recorded) (n : Name) : Type 0 where
   pub kernel : KernelNo
   pub owns : owner (flat_of b) n ≡ Some kernel
-  pub shelved : IsWith b n kernel
+  pub shelved : IsOnShelfOf b n kernel
 
 -- Each name that was declared or made and not unmapped is loaded or with its owner, and never both; it is loaded once. No other
 -- name is anywhere.
 pub record IsInOnePlace (b : Recorded) : Type 0 where
-  pub somewhere : (n : Name) → stands (flat_of b) n ≡ true → IsLoaded b n ⊎ IsWithItsOwner b n
-  pub never_both : (n : Name) (kernel : KernelNo) → IsLoaded b n → IsWith b n kernel → ⊥
+  pub somewhere : (n : Name) → stands (flat_of b) n ≡ true → IsInItsCache b n ⊎ IsWithItsOwner b n
+  pub never_both : (n : Name) (kernel : KernelNo) → IsInItsCache b n → IsOnShelfOf b n kernel → ⊥
   pub once : (r other : Resident) → Contains (residents_of (contents_of b)) r → Contains (residents_of (contents_of b)) other → r.name ≡ other.name → r ≡ other
-  pub loaded_stands : (n : Name) → IsLoaded b n → stands (flat_of b) n ≡ true
-  pub shelved_stands : (n : Name) (kernel : KernelNo) → IsWith b n kernel → stands (flat_of b) n ≡ true
+  pub loaded_stands : (n : Name) → IsInItsCache b n → stands (flat_of b) n ≡ true
+  pub shelved_stands : (n : Name) (kernel : KernelNo) → IsOnShelfOf b n kernel → stands (flat_of b) n ≡ true

@@ -46,6 +46,7 @@ impl Core {
         ensures sealed { self.new.sealed ≡ true }
         ensures marks { HasSameMarks (contents_of self.old) (contents_of self.new) }
         ensures checkouts { self.new.checkouts ≡ self.old.checkouts }
+        ensures issues { (contents_of self.old).spare ≤ (contents_of self.new).spare + 1 }
     {
         known(&self.machine);
         let at = next_place(&self.journal);

@@ -81,7 +81,6 @@ impl Core {
         ensures sealed { self.new.sealed ≡ self.old.sealed }
         ensures checkouts { self.new.checkouts ≡ self.old.checkouts }
     {
-        known(&self.machine);
         if !self.machine.tables().is_locked(ident) {
             self.machine.lock(ident);
             known(&self.machine);
@@ -100,7 +99,6 @@ impl Core {
         ensures sealed { self.new.sealed ≡ self.old.sealed }
         ensures checkouts { self.new.checkouts ≡ self.old.checkouts }
     {
-        known(&self.machine);
         if self.machine.tables().is_locked(ident) {
             self.machine.unlock(ident);
             known(&self.machine);

@@ -75,8 +75,8 @@ impl Core {
         ensures steps { self.new.steps ≡ self.old.steps + quantum.now.steps }
         ensures checkouts { self.new.checkouts ≡ self.old.checkouts }
         ensures sealed { self.new.sealed ≡ self.old.sealed }
+        ensures spare { (contents_of self.new).spare ≡ (contents_of self.old).spare }
     {
-        known(&self.machine);
         self.check_in(no, near);
         if quantum.steps() != 0 {
             self.run_ahead(cpu, no, near, quantum);
@@ -96,7 +96,6 @@ impl Core {
         ensures places { KeepsPlaces self.old self.new }
         ensures steps { self.new.steps ≡ self.old.steps + quantum.now.steps }
     {
-        known(&self.machine);
         let steps = quantum.steps();
         self.steps += u64::from(steps);
         note(
@@ -130,7 +129,6 @@ impl Core {
         ensures err { OnErr result (OnlyMakesRoom self.old self.new) }
         ensures enough { OfThread (state_of self.old.machine) no.0 (λ t. asked_of (state_of self.old.machine) t ≢ Nothing) → 0 < room_of (contents_of self.old) → 0 < self.old.machine.sets.room → IsOk result }
     {
-        known(&self.machine);
         let completed = self.machine.complete(no);
         known(&self.machine);
         completed?;

@@ -7,7 +7,6 @@ ghost use Rattle.cache_ident.specs.declared.idents.Ident.{Ident};
 ghost use Rattle.cache_ident.specs.declared.names.Name.{Name};
 ghost use Rattle.cache_ident.specs.declared.names.SpaceNo.{SpaceNo};
 ghost use Rattle.cache_ident.specs.declared.names.ThreadNo.{ThreadNo};
-ghost use Rattle.depend_lists.specs.declared.nodes.Node.{Node};
 ghost use Rattle.phys_groups.specs.Translation.{row_of};
 ghost use Rattle.flat_state.specs.declared.events.Decl.TheVariants as decls;
 ghost use Rattle.flat_state.specs.Declaration.{rule_of_machine};
@@ -17,7 +16,6 @@ ghost use Rattle.page_views.specs.Views.{can_fill};
 ghost use Rattle.ready_queue.specs.declared.Candidate.{Candidate};
 ghost use Rattle.board_commits.specs.board_ops.specs.declared.refusals.Refused.TheVariants.{NoMemory};
 ghost use Rattle.board_commits.specs.board_core.specs.desc_stores.specs.Contents.{names_of};
-ghost use Rattle.board_commits.specs.desc_tables.specs.Tables.{AreSound};
 ghost use Rattle.board_commits.specs.shown_state.specs.Shown.{flat_thread};
 ghost use Rattle.board_commits.specs.cached_machine.specs.Cached.{is_loaded, state_of};
 ghost use Rattle.board_commits.specs.cached_machine.specs.Posts.{last_of, mark_of};
@@ -25,7 +23,9 @@ ghost use Rattle.board_commits.specs.board_checks.specs.Identifiers.{space_as};
 ghost use Rattle.board_commits.specs.board_checks.specs.Refusals.{refusal_of_complete, refusal_of_load_kernel, refusal_of_load_mapping, refusal_of_load_space, refusal_of_load_thread, refusal_of_lock, refusal_of_unload, refusal_of_unlock};
 ghost use Rattle.board_commits.specs.board_core.specs.Answers.{HasSpare, IsRefused};
 ghost use Rattle.board_commits.specs.board_core.specs.Core.{contents_of, IsSound};
+ghost use Rattle.board_commits.specs.board_core.specs.Going.{GoesOn, IsOneEvent};
 ghost use Rattle.board_commits.specs.board_core.specs.Growth.{count_loaded, OnlyMakesRoom};
+ghost use Rattle.board_commits.specs.board_core.specs.Places.{IsInOnePlace};
 ghost use Rattle.board_loads.specs.Holds.{IsLockedAs, IsUnloadedAs};
 ghost use Rattle.board_loads.specs.Loads.{IsLoadedAs};
 ghost use Rattle.board_commits.specs.board_threads.specs.Faults.{HasEnded};
@@ -40,9 +40,9 @@ ghost use Rattle.board_calls.specs.Calls.{refusal_of_declare, refusal_of_seal, I
 ghost use Rattle.board_heal.specs.Healed.{IsHealed};
 ghost use Rattle.board_heal.specs.Refusals.{refusal_of_heal};
 ghost use Rattle.cache_board.specs.Boards.{refusal_of_machine};
-ghost use Rattle.cache_board.specs.Events.{IsOneEvent};
 
 use board_commits::{Core, Names, Quantum, Refused, Ticket, threads};
+use board_core::each_descriptor_is_in_one_place;
 use cache_ident::{Ident, KernelNo, Kind, NoMemory, SpaceNo, ThreadNo, Vpn};
 use flat_rules::{Records, rule_of_machine};
 use flat_state::{Decl, Machine, Settled};
@@ -98,12 +98,14 @@ impl Board {
     }
 
     /// Does nothing. A proof has from it what holds of every board: its journal is legal, and tells what the machine shows and
-    /// what is loaded; only loaded threads are on processors; and each descriptor is in its cache or with its owner, never in both.
+    /// what is loaded; only loaded threads are on processors; and the tables are sound. So each descriptor is in its cache or with
+    /// its owner, never in both.
     pub fn holds(&self)
         ensures sound { IsSound self.now }
-        ensures tables { (pairs : List (Ident × Node)) × AreSound self.now.machine.held pairs }
+        ensures places { IsInOnePlace self.now }
     {
-        let _ = self.core.tables();
+        self.core.holds();
+        each_descriptor_is_in_one_place();
     }
 
     /// Makes a declaration, before the seal (`Sealed`), with the first rule that it breaks as its refusal (`BadDecl`).
@@ -149,6 +151,7 @@ impl Board {
         ensures done { OnOk result (refusal_of_load_kernel (contents_of self.old) caller kernel ≡ None) }
         ensures loaded { IfOk result (λ ident. IsLoadedAs cpu (Name.Kernel kernel) ident self.old self.new) }
         ensures enough { HasSpare self.old 22 → IfErr result (λ why. why ≢ NoMemory) }
+        ensures on { GoesOn cpu self.old self.new }
         ensures event { IsOneEvent cpu self.old self.new }
     {
         self.holds();
@@ -164,6 +167,7 @@ impl Board {
         ensures done { OnOk result (refusal_of_load_space (contents_of self.old) caller space ≡ None) }
         ensures loaded { IfOk result (λ ident. IsLoadedAs cpu (Name.Space space) ident self.old self.new) }
         ensures enough { HasSpare self.old 22 → IfErr result (λ why. why ≢ NoMemory) }
+        ensures on { GoesOn cpu self.old self.new }
         ensures event { IsOneEvent cpu self.old self.new }
     {
         self.holds();
@@ -185,6 +189,7 @@ impl Board {
         ensures done { OnOk result (refusal_of_load_thread (contents_of self.old) caller parent thread ≡ None) }
         ensures loaded { IfOk result (λ ident. IsLoadedAs cpu (Name.Thread thread) ident self.old self.new) }
         ensures enough { HasSpare self.old 22 → IfErr result (λ why. why ≢ NoMemory) }
+        ensures on { GoesOn cpu self.old self.new }
         ensures event { IsOneEvent cpu self.old self.new }
     {
         self.holds();
@@ -209,6 +214,7 @@ impl Board {
         ensures done { OnOk result (refusal_of_load_mapping (contents_of self.old) caller parent vpn receiver ≡ None) }
         ensures loaded { IfOk result (λ ident. (space : SpaceNo) × (space_as (contents_of self.old) parent ≡ Some space) × IsLoadedAs cpu (Name.Mapping space vpn) ident self.old self.new) }
         ensures enough { HasSpare self.old 22 → IfErr result (λ why. why ≢ NoMemory) }
+        ensures on { GoesOn cpu self.old self.new }
         ensures event { IsOneEvent cpu self.old self.new }
     {
         self.holds();
@@ -225,6 +231,7 @@ impl Board {
         ensures done { OnOk result (refusal_of_unload (contents_of self.old) caller ident ≡ None) }
         ensures unloaded { OnOk result (IsUnloadedAs cpu ident self.old self.new) }
         ensures enough { HasSpare self.old 22 → IfErr result (λ why. why ≢ NoMemory) }
+        ensures on { GoesOn cpu self.old self.new }
         ensures event { IsOneEvent cpu self.old self.new }
     {
         self.holds();
@@ -241,6 +248,7 @@ impl Board {
         ensures done { OnOk result (refusal_of_lock (contents_of self.old) caller ident ≡ None) }
         ensures locked { OnOk result (IsLockedAs cpu ident true self.old self.new) }
         ensures enough { HasSpare self.old 22 → IfErr result (λ why. why ≢ NoMemory) }
+        ensures on { GoesOn cpu self.old self.new }
         ensures event { IsOneEvent cpu self.old self.new }
     {
         self.holds();
@@ -257,6 +265,7 @@ impl Board {
         ensures done { OnOk result (refusal_of_unlock (contents_of self.old) caller ident ≡ None) }
         ensures unlocked { OnOk result (IsLockedAs cpu ident false self.old self.new) }
         ensures enough { HasSpare self.old 22 → IfErr result (λ why. why ≢ NoMemory) }
+        ensures on { GoesOn cpu self.old self.new }
         ensures event { IsOneEvent cpu self.old self.new }
     {
         self.holds();
@@ -350,6 +359,7 @@ impl Board {
         ensures refused { IfErr result (IsRefused (refusal_of_complete (contents_of self.old) caller thread) self.old self.new) }
         ensures done { OnOk result (refusal_of_complete (contents_of self.old) caller thread ≡ None) }
         ensures completed { OnOk result (IsCompletion cpu thread self.old self.new) }
+        ensures on { GoesOn cpu self.old self.new }
         ensures event { IsOneEvent cpu self.old self.new }
     {
         self.holds();
@@ -367,6 +377,7 @@ impl Board {
         ensures done { OnOk result (refusal_of_fault self.old caller thread ≡ None) }
         ensures enough { HasSpare self.old 22 → IfErr result (λ why. why ≢ NoMemory) }
         ensures ended { OnOk result (HasEnded thread cpu self.old self.new) }
+        ensures on { GoesOn cpu self.old self.new }
         ensures event { IsOneEvent cpu self.old self.new }
     {
         self.holds();

@@ -14,7 +14,7 @@ pub check_in-requires : goal.check_in-requires
 check_in-requires c =
     let loaded = subst (λ (b : Recorded). IsNameResident (residents_of (contents_of b)) (name.Thread c.args.no)) (sym c.self.view_is) c.requires.loaded in
     let h = c.self.inside.machine.held.contents in
-    let there = subst (λ (n : Name). IsSome (content_of h n)) loaded.2 (resident_content h c.known.ensures.sound.1.whole.one loaded.0 loaded.1) in
+    let there = subst (λ (n : Name). IsSome (content_of h n)) loaded.2 (resident_content h c.self.invariant.0.tables.1.whole.one loaded.0 loaded.1) in
     record { there = subst (λ (b : Recorded). IsSome (content_of (contents_of b) (name.Thread c.args.no))) c.self.view_is there }
 
 pub run_ahead-requires-clause-views : goal.run_ahead-requires-clause-views
