@@ -1,0 +1,86 @@
+-- Each event of a legal journal fits where it stands.
+use Rattle.std.proofs.Common.{◌≡◌, ℕ, zero, suc, ◌<◌, Bool, true, false, List, [], ◌∷◌, ◌++◌, replicate, take, Option, Some, None, slice_get, refl, ap, sym, ◌∙◌, subst, arith}
+use Rattle.std.specs.Prelude.{is_some, IsSome}
+use Rattle.std.specs.Option.{option_map}
+use Rattle.std.proofs.lemmas.Bool.{false≢true}
+use Rattle.std.proofs.lemmas.Option.{same_Some}
+use Rattle.cache_ident.specs.declared.idents.Cause.{Cause}
+use Rattle.cache_ident.specs.declared.idents.Cause.TheVariants as causes
+use Rattle.cache_ident.specs.declared.idents.Ident.{Ident}
+use Rattle.cache_ident.specs.declared.names.ThreadNo.{ThreadNo}
+use Rattle.cache_ident.specs.Residents.{Resident}
+use Rattle.flat_state.specs.declared.events.Event.{Event}
+use Rattle.flat_state.specs.declared.events.Event.TheVariants.{Declare, Step, Complete}
+use Rattle.flat_state.specs.declared.records.FlatThread.{FlatThread}
+use Rattle.flat_state.specs.declared.records.NextStep.{NextStep}
+use Rattle.flat_state.specs.State.{FlatState, is_ready, nothing_declared}
+use Rattle.flat_state.specs.Declaration.{broken_rule}
+use Rattle.flat_state.specs.Signals.{is_runnable}
+use Rattle.flat_state.specs.Step.{step_if, step_of, after_step}
+use Rattle.flat_state.specs.NextSteps.{next_step, next_step_if, next_step_of}
+use Rattle.flat_state.specs.Events.{declared_unless, after_event, after_events, applied}
+use Rattle.run_journal.specs.declared.entries.Entry.{Entry}
+use Rattle.run_journal.specs.declared.entries.Entry.TheVariants.{Declared, Sealed, Loaded, WrittenBack, Locked, Unlocked, Ran, Ended, Completed}
+use Rattle.run_journal.specs.Entries.{events_of, erase}
+use Rattle.run_journal.specs.Legal.{after_steps, AreLegal, IsLegal, MayCome, MayStep}
+use Rattle.run_journal.specs.Told.{Told, nothing_told, told_after}
+use Rattle.run_journal.proofs.Growth.{state_after}
+use Rattle.legal_laws.specs.Fitting.{EachFits}
+
+-- ---- one after another
+
+-- each event fits what those before it make of the state
+abbrev AllFit : FlatState → List Event → Type 0
+AllFit s [] = Unit {0}
+AllFit s (e ∷ es) = IsSome (after_event s e) × AllFit (applied s e) es
+
+fit-append : (s : FlatState) (xs ys : List Event) → AllFit s xs → AllFit (after_events s xs) ys → AllFit s (xs ++ ys)
+fit-append s [] ys first second = second
+fit-append s (e ∷ xs) ys first second = (first.0, fit-append (applied s e) xs ys first.1 second)
+
+fit_at : (s : FlatState) (es : List Event) (at : ℕ) (e : Event) → AllFit s es → slice_get es at ≡ Some e → IsSome (after_event (after_events s (take at es)) e)
+fit_at s [] at e fit there = absurd (cc)
+fit_at s (x ∷ es) zero e fit there = subst (λ (y : Event). IsSome (after_event s y)) (same_Some x e there) fit.0
+fit_at s (x ∷ es) (suc at) e fit there = fit_at (applied s x) es at e fit.1 there
+
+-- ---- one event
+
+-- a runnable thread can take its step
+runs : (s : FlatState) (n : ℕ) (o : Option FlatThread) (next : NextStep) → option_map (next_step_of s) o ≡ Some next → next.runnable ≡ true → IsSome (step_of s n o)
+runs s n None next is runnable = absurd (cc)
+runs s n (Some t) next is runnable = by (is_ready t.status) (same_Some (next_step_of s t) next is)
+  where
+    by : (b : Bool) → next_step_if b s t ≡ next → IsSome (step_if (is_runnable s t) s n t)
+    by true same = let may : is_runnable s t ≡ true = ap (λ (x : NextStep). x.runnable) same ∙ runnable in rw may refl
+    by false same = absurd (false≢true (ap (λ (x : NextStep). x.runnable) same ∙ runnable))
+
+step_fits : (s : FlatState) (rs : List Resident) (thread : ThreadNo) (faults : Bool) → MayStep s rs thread faults → IsSome (after_event s (Step thread))
+unfolding after_step next_step
+step_fits s rs thread faults may = runs s thread.0 (slice_get s.threads thread.0) may.next may.its may.runs
+
+steps_fit : (n : ℕ) (s : FlatState) (rs : List Resident) (thread : ThreadNo) → ((k : ℕ) → k < n → MayStep (after_steps s thread k) rs thread false) → AllFit s (replicate n (Step thread))
+steps_fit zero s rs thread each = tt
+steps_fit (suc n) s rs thread each =
+    (step_fits s rs thread false (each 0 (omega arith)), steps_fit n (applied s (Step thread)) rs thread (λ k lt. each (suc k) (omega arith)))
+
+-- ---- one entry
+
+entry_fits : (k : Told) (e : Entry) → MayCome k e → AllFit k.state (events_of e)
+entry_fits k (Declared d) may = (ap (λ (o : Option ℕ). is_some (declared_unless o k.state d)) may.place.1, tt)
+entry_fits k Sealed may = tt
+entry_fits k (Loaded ident name cpu) may = tt
+entry_fits k (WrittenBack ident cause cpu) may = tt
+entry_fits k (Locked ident cpu) may = tt
+entry_fits k (Unlocked ident cpu) may = tt
+entry_fits k (Ran thread steps cpu) may = steps_fit steps k.state k.residents thread may.happens.each
+entry_fits k (Ended thread cpu) may = (step_fits k.state k.residents thread true may.happens.step, tt)
+entry_fits k (Completed thread cpu) may = (may.happens.fits, tt)
+
+entries_fit : (k : Told) (es : List Entry) → AreLegal k es → AllFit k.state (erase es)
+entries_fit k [] legal = tt
+entries_fit k (e ∷ es) legal =
+    fit-append k.state (events_of e) (erase es) (entry_fits k e legal.0)
+    (subst (λ (s : FlatState). AllFit s (erase es)) (state_after k e) (entries_fit (told_after k e) es legal.1))
+
+pub each_fits : (j : List Entry) → IsLegal j → EachFits (erase j)
+each_fits j legal at e there = fit_at nothing_declared (erase j) at e (entries_fit nothing_told j legal.each) there

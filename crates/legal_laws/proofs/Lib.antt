@@ -1,0 +1,9 @@
+pub mod Fits
+pub mod Machines
+pub mod Capacity
+pub mod FirstStays
+pub mod AtPlaces
+pub mod Residence
+pub mod LockedLaws
+pub mod Once
+pub mod LastLaws
