@@ -60,7 +60,6 @@ impl Core {
         ensures room { room_of (contents_of self.new) ≡ room_of (contents_of self.old) }
         ensures sets { self.new.machine.sets ≡ self.old.machine.sets }
     {
-        known(&self.machine);
         let at = next_place(&self.journal);
         self.machine.unload(ident, at);
         known(&self.machine);

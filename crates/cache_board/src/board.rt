@@ -3,6 +3,8 @@
 ghost use Rattle.std.specs.Prelude.{◌≡◌, ◌≢◌, ℕ, List, ◌+◌, ◌<◌, ◌≤◌, ◌∷◌, ◌⊎◌, [], false, true, min, None, Some, IfErr, IfNone, IfOk, IfSome, IsOk, IsTrue, OnErr, OnOk, option_copied, slice_get};
 ghost use Rattle.std.specs.Option.{option_map};
 ghost use Rattle.std.specs.Result.{result_err};
+ghost use Rattle.cache_ident.specs.Names.{first_name};
+ghost use Rattle.cache_ident.specs.Residents.{IsResident};
 ghost use Rattle.cache_ident.specs.declared.idents.Ident.{Ident};
 ghost use Rattle.cache_ident.specs.declared.names.Name.{Name};
 ghost use Rattle.cache_ident.specs.declared.names.SpaceNo.{SpaceNo};
@@ -11,11 +13,12 @@ ghost use Rattle.phys_groups.specs.Translation.{row_of};
 ghost use Rattle.flat_state.specs.declared.events.Decl.TheVariants as decls;
 ghost use Rattle.flat_state.specs.Declaration.{rule_of_machine};
 ghost use Rattle.flat_state.specs.Settling.{settled_of};
+ghost use Rattle.run_journal.specs.Legal.{first_ident};
 ghost use Rattle.run_journal.specs.declared.entries.Entry.TheVariants.{Declared};
 ghost use Rattle.page_views.specs.Views.{can_fill};
 ghost use Rattle.ready_queue.specs.declared.Candidate.{Candidate};
 ghost use Rattle.board_commits.specs.board_ops.specs.declared.refusals.Refused.TheVariants.{NoMemory};
-ghost use Rattle.board_commits.specs.board_core.specs.desc_stores.specs.Contents.{names_of};
+ghost use Rattle.board_commits.specs.board_core.specs.desc_stores.specs.Contents.{names_of, residents_of};
 ghost use Rattle.board_commits.specs.shown_state.specs.Shown.{flat_thread};
 ghost use Rattle.board_commits.specs.cached_machine.specs.Cached.{is_loaded, state_of};
 ghost use Rattle.board_commits.specs.cached_machine.specs.Posts.{last_of, mark_of};
@@ -46,6 +49,7 @@ use board_core::each_descriptor_is_in_one_place;
 use cache_ident::{Ident, KernelNo, Kind, NoMemory, SpaceNo, ThreadNo, Vpn};
 use flat_rules::{Records, rule_of_machine};
 use flat_state::{Decl, Machine, Settled};
+use legal_laws::the_first_kernel_stays_loaded;
 use phys_groups::Row;
 use run_journal::Journal;
 use std::alloc::Global;
@@ -99,13 +103,15 @@ impl Board {
 
     /// Does nothing. A proof has from it what holds of every board: its journal is legal, and tells what the machine shows and
     /// what is loaded; only loaded threads are on processors; and the tables are sound. So each descriptor is in its cache or with
-    /// its owner, never in both.
+    /// its owner, never in both, and behind the seal the first kernel is loaded.
     pub fn holds(&self)
         ensures sound { IsSound self.now }
         ensures places { IsInOnePlace self.now }
+        ensures first { self.now.sealed ≡ true → IsResident (residents_of (contents_of self.now)) first_ident first_name }
     {
         self.core.holds();
         each_descriptor_is_in_one_place();
+        the_first_kernel_stays_loaded();
     }
 
     /// Makes a declaration, before the seal (`Sealed`), with the first rule that it breaks as its refusal (`BadDecl`).
