@@ -1,10 +1,9 @@
 -- Boards that go on, one call after another.
 use Rattle.std.proofs.Common.{◌≡◌, ℕ, Bool, true, List, [], ◌∷◌, ◌++◌, refl, sym, ◌∙◌, ap}
-use Rattle.std.specs.List.{list_any, AllByRecursion}
+use Rattle.std.specs.List.{list_any}
 use Rattle.std.specs.Prelude.{◌||◌}
 use Rattle.run_journal.specs.declared.entries.Entry.{Entry}
-use Rattle.run_journal.specs.Entries.{maker_of}
-use Rattle.run_journal.specs.Told.{is_seal, nothing_told, told, told_from, Told}
+use Rattle.run_journal.specs.Told.{is_seal, nothing_told, told, Told}
 use Rattle.run_journal.proofs.Growth.{sealed_from, told_from-append}
 use Rattle.cached_machine.specs.Posts.{HasLoadedMarks, HasSameMarks}
 use Rattle.board_core.specs.Core.{contents_of, IsSound, Recorded}

@@ -1,13 +1,10 @@
 -- Each descriptor is in one place.
 use Rattle.std.proofs.Common.{◌≡◌, ◌⊎◌, Bool, true, false, List, ◌∷◌, [], cond, Option, Some, None, IsSome, is_some, refl, sym, ◌∙◌, ap, subst, inl, inr}
 use Rattle.std.specs.Option.{option_map}
-use Rattle.std.proofs.lemmas.Bool.{cases_Bool}
 use Rattle.std.proofs.lemmas.List.Elements.{All-head, All-tail}
-use Rattle.cache_ident.specs.declared.idents.Ident.{Ident}
 use Rattle.cache_ident.specs.declared.names.KernelNo.{KernelNo}
 use Rattle.cache_ident.specs.declared.names.Name.{Name}
 use Rattle.cache_ident.specs.declared.names.Name.TheVariants as name
-use Rattle.depend_lists.specs.declared.nodes.Node.{Node}
 use Rattle.owner_shelf.specs.declared.shelved.Shelved.{Shelved}
 use Rattle.owner_shelf.specs.Rows.{content_under, is_named, row_under}
 use Rattle.owner_shelf.proofs.RowLaws.{found_named}
@@ -28,11 +25,10 @@ use Rattle.cached_machine.specs.shown_state.proofs.LookupLemmas.{name_stands}
 use Rattle.cached_machine.specs.shown_state.proofs.OwnerLemmas.{owner_found}
 use Rattle.cached_machine.specs.store_residents.proofs.ContentLemmas.{resident_content, shelved_iff}
 use Rattle.cached_machine.specs.store_residents.proofs.ResidentLemmas.{one_each}
-use Rattle.cached_machine.specs.desc_tables.specs.Tables.{AreSound}
 use Rattle.cached_machine.specs.Cached.{is_loaded, state_of}
 use Rattle.cached_machine.proofs.LoadedLaws.{loaded_by, loads}
 use Rattle.board_core.specs.Core.{contents_of, IsSound, Recorded}
-use Rattle.board_core.specs.Places.{flat_of, IsInOnePlace, IsInItsCache, IsOnShelfOf, IsWithItsOwner}
+use Rattle.board_core.specs.Places.{flat_of, IsInOnePlace, IsInItsCache, IsWithItsOwner}
 
 -- ---- the shelf of a kind
 

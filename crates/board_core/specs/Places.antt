@@ -1,5 +1,5 @@
 -- Where each descriptor is.
-use Rattle.std.specs.Prelude.{◌≡◌, ◌⊎◌, true, Contains, Some, None}
+use Rattle.std.specs.Prelude.{◌≡◌, ◌⊎◌, true, Contains, Some}
 use Rattle.cache_ident.specs.declared.names.KernelNo.{KernelNo}
 use Rattle.cache_ident.specs.declared.names.Name.{Name}
 use Rattle.cache_ident.specs.Residents.{Resident, IsNameResident}

@@ -77,6 +77,7 @@ impl Core {
         ensures sealed { self.new.sealed ≡ self.old.sealed }
         ensures spare { (contents_of self.new).spare ≡ (contents_of self.old).spare }
     {
+        self.holds();
         self.check_in(no, near);
         if quantum.steps() != 0 {
             self.run_ahead(cpu, no, near, quantum);

@@ -30,8 +30,7 @@ invariant_of-self-2 c =
     let back = sym c.self.view_is in
     let write = subst (λ (b : Recorded). MayWrite b c.args.cpu 1) back c.requires.write in
     let loaded = subst (λ (b : Recorded). IsNameResident (residents_of (contents_of b)) (name.Thread c.args.no)) back c.requires.loaded in
-    let done = rw c.in_ok-completed.is at c.complete-completed.ensures.ok in
     let able = subst (λ (b : Recorded). OfThread (state_of b.machine) c.args.no.0 (λ t. is_completable t ≡ true)) back c.requires.completable in (
-      call_sound _ c.complete-completed.new.self c.args.no c.args.cpu _ _ c.self.invariant.0 write.sealed write.processor c.self.invariant.0.tables.1.whole.one c.known.ensures.sound.1.whole loaded able done c.known.ensures.sound c.note.new.journal c.note.ensures.entries,
-      c.self.invariant.1 ∙ sym (ap length done.beside.loaded.residents),
+      call_sound _ c.complete-completed.new.self c.args.no c.args.cpu _ _ c.self.invariant.0 write.sealed write.processor c.self.invariant.0.tables.1.whole.one c.known.ensures.sound.1.whole loaded able c.in_ok-completed.ensures.ok c.known.ensures.sound c.note.new.journal c.note.ensures.entries,
+      c.self.invariant.1 ∙ sym (ap length c.in_ok-completed.ensures.ok.beside.loaded.residents),
     )

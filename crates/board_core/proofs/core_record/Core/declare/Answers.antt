@@ -26,9 +26,8 @@ pub invariant_of-self-2 : goal.invariant_of-self-2
 invariant_of-self-2 c =
     let open_yet = subst (λ (b : Recorded). b.sealed ≡ false) (sym c.self.view_is) c.requires.open in
     let none = subst (λ (b : Recorded). broken_rule (state_of b.machine) c.args.decl.now ≡ None) (sym c.self.view_is) c.requires.fits in
-    let made = rw c.in_ok-made.is at c.make_declaration-made.ensures.ok in
     let grown = c.note.ensures.entries ∙ ap (λ (es : List Entry). es ++ Declared c.args.decl.now ∷ []) c.reserve.ensures.entries in
     let news = c.put_stamp.ensures ∙ ap (λ (f : Option Frame). stamped_at f c.len.result c.self.inside.stamps.items) c.frame_declared.ensures in (
-      declared_sound _ c.self.invariant.0 open_yet c.args.decl.now none c.make_declaration-made.new.self c.note.new.journal c.len.result c.len.ensures made grown c.known.ensures.sound _ news,
-      c.self.invariant.1 ∙ sym (ap length made.beside.loaded.residents),
+      declared_sound _ c.self.invariant.0 open_yet c.args.decl.now none c.make_declaration-made.new.self c.note.new.journal c.len.result c.len.ensures c.in_ok-made.ensures.ok grown c.known.ensures.sound _ news,
+      c.self.invariant.1 ∙ sym (ap length c.in_ok-made.ensures.ok.beside.loaded.residents),
     )
