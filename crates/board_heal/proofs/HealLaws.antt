@@ -257,8 +257,8 @@ module _ (cpu : ℕ) (whom : ThreadNo) (old b : Recorded) (s : FlatState) (forme
         loaded r there = subst (λ (rs : List Resident). Contains rs r) (sym places.loaded.residents) there
 
 -- what healed took exactly that step
-pub stepped : (cpu : ℕ) (whom : ThreadNo) (old new : Recorded) → IsHealed cpu whom old new → HasStepped whom old new
-stepped cpu whom old new healed = record {
+pub has_stepped : (cpu : ℕ) (whom : ThreadNo) (old new : Recorded) → IsHealed cpu whom old new → HasStepped whom old new
+has_stepped cpu whom old new healed = record {
   fits = healed.state;
   only =
       ap erase healed.entries.entries

@@ -9,7 +9,7 @@ use Rattle.flat_state.specs.State.{FlatState}
 use Rattle.board_core.specs.cached_machine.specs.Cached.{state_of, Cached}
 use Rattle.board_core.specs.Core.{contents_of}
 use Rattle.board_heal.specs.Healed.{IsHealed}
-use Rattle.board_heal.proofs.HealLaws.{can_heal, chain_so, formed_so, healed, here_still, may_come, may_step, not_full, not_refused, room_for_all, some_next, stepped, steps_still, thread_loaded, unmarked_still}
+use Rattle.board_heal.proofs.HealLaws.{can_heal, chain_so, formed_so, healed, here_still, may_come, may_step, not_full, not_refused, room_for_all, some_next, has_stepped, steps_still, thread_loaded, unmarked_still}
 use Rattle.board_heal.proofs.WayLaws.{none_yet, one_further, out_before}
 use Rattle.board_heal.proofs.healing.heal_step.Goals as goal
 
@@ -154,7 +154,7 @@ pub returns-clause-healed : goal.returns-clause-healed
 returns-clause-healed c = whole c
 
 pub returns-clause-promised : goal.returns-clause-promised
-returns-clause-promised c = λ can. (tt, stepped c.args.cpu c.args.no c.args.core.now c.step.new.self (whole c))
+returns-clause-promised c = λ can. (tt, has_stepped c.args.cpu c.args.no c.args.core.now c.step.new.self (whole c))
 
 pub returns-in_err-checked-clause-promised : goal.returns-in_err-checked-clause-promised
 returns-in_err-checked-clause-promised c = λ can. absurd (cc (c.in_err-checked.ensures, not_refused c.args.core.now c.args.no can))
