@@ -24,6 +24,7 @@ use Rattle.board_commits.specs.board_core.specs.desc_stores.specs.Contents.{Cont
 use Rattle.board_commits.specs.board_core.specs.desc_groups.specs.declared.departures.Gone.{Gone}
 use Rattle.board_commits.specs.board_core.specs.desc_groups.specs.Moves.{gone_as}
 use Rattle.board_commits.specs.desc_tables.specs.Tables.{Held}
+use Rattle.board_commits.specs.quantum.specs.Ahead.{Ahead}
 use Rattle.board_commits.specs.board_core.specs.board_laws.specs.Moves.{written_back}
 use Rattle.board_commits.specs.board_core.specs.cached_machine.specs.Cached.{state_of, Cached}
 use Rattle.board_commits.specs.board_core.specs.cached_machine.specs.Posts.{OnlyPosts}
@@ -186,10 +187,10 @@ module _ (old mid new : Recorded) (same : mid ≡ old) (was : IsSound old) (soun
   grew_or cpu (Ok x) refusal Done refused done grew = one_event cpu old mid new same was sound (grew_since cpu old mid new same was sound (grew x done))
   grew_or cpu (Err why) refusal Done refused done grew = room_event cpu old mid new same was sound refused.only
 
-  pub commit_event : (result : Result ℕ Refused) (refusal : Option Refused) (ticket : Ticket) (steps : ℕ) → IfErr result (IsRefused refusal mid new) → OnOk result (IsCommitted ticket steps mid new) → IsOneEvent ticket.cpu old new
-  commit_event result refusal ticket steps refused done =
-      grew_or ticket.cpu result refusal (λ _. IsCommitted ticket steps mid new) refused done (λ _ is.
-      by_entries ticket.cpu old mid new same was sound (entries_of_run is.whom steps ticket.cpu) (run_by is.whom steps ticket.cpu) is.entries)
+  pub commit_event : (result : Result ℕ Refused) (refusal : Option Refused) (ticket : Ticket) (a : Ahead) → IfErr result (IsRefused refusal mid new) → OnOk result (IsCommitted ticket a mid new) → IsOneEvent ticket.cpu old new
+  commit_event result refusal ticket a refused done =
+      grew_or ticket.cpu result refusal (λ _. IsCommitted ticket a mid new) refused done (λ _ is.
+      by_entries ticket.cpu old mid new same was sound (entries_of_run is.whom a.steps ticket.cpu) (run_by is.whom a.steps ticket.cpu) is.entries)
 
   pub declare_event : (result : Result (Unit {0}) Refused) (refusal : Option Refused) (d : Decl) → IfErr result (IsRefused refusal mid new) → OnOk result (IsDeclaring d mid new) → IsOneEvent 0 old new
   declare_event result refusal d refused done =

@@ -38,9 +38,10 @@ ghost use Rattle.board_commits.specs.board_threads.specs.Tests.{IsWanted};
 ghost use Rattle.board_commits.specs.board_threads.specs.Waiting.{IsChosenOf, IsWaiting};
 ghost use Rattle.board_commits.specs.Commits.{IsCommitted, IsPaged};
 ghost use Rattle.board_commits.specs.Refusals.{refusal_of_commit, refusal_of_page};
-ghost use Rattle.board_commits.specs.Tickets.{AreKept, AreOfTicket};
+ghost use Rattle.board_commits.specs.Tickets.{AreAllAsOf, AreOfTicket};
 ghost use Rattle.board_calls.specs.Calls.{refusal_of_declare, refusal_of_seal, IsCompletion, IsDeclaring, IsSealing};
 ghost use Rattle.board_heal.specs.Healed.{IsHealed};
+ghost use Rattle.board_heal.specs.Promise.{HasStepped, IsHealable};
 ghost use Rattle.board_heal.specs.Refusals.{refusal_of_heal};
 ghost use Rattle.cache_board.specs.Boards.{refusal_of_machine};
 
@@ -306,12 +307,12 @@ impl Board {
     /// journal: of a new quantum, of one that was only used with this board, or of one that forgot what it had.
     pub fn page(&self, ticket: &Ticket, vpn: Vpn, quantum: &mut Quantum) -> Result<(), Refused>
         requires room { IsTrue (can_fill quantum.old.views vpn) }
-        requires kept { AreKept self.now.journal.entries quantum.old }
+        requires kept { AreAllAsOf self.now.journal.entries quantum.old }
         ensures exact { result_err result ≡ refusal_of_page (contents_of self.now) ticket.now vpn }
         ensures refused { OnErr result (quantum.new ≡ quantum.old) }
         ensures filled { OnOk result (IsPaged self.now ticket.now vpn quantum.old quantum.new) }
         ensures views { AreOfTicket self.now.journal.entries ticket.now.thread quantum.old → AreOfTicket self.now.journal.entries ticket.now.thread quantum.new }
-        ensures kept { AreKept self.now.journal.entries quantum.new }
+        ensures kept { AreAllAsOf self.now.journal.entries quantum.new }
     {
         board_commits::page(&self.core, ticket, vpn, quantum)
     }
@@ -324,7 +325,7 @@ impl Board {
         ensures refused { IfErr result (IsRefused (refusal_of_commit self.old ticket.now quantum.now) self.old self.new) }
         ensures done { OnOk result (refusal_of_commit self.old ticket.now quantum.now ≡ None) }
         ensures steps { IfOk result (λ steps. steps ≡ quantum.now.steps) }
-        ensures committed { OnOk result (IsCommitted ticket.now quantum.now.steps self.old self.new) }
+        ensures committed { OnOk result (IsCommitted ticket.now quantum.now self.old self.new) }
         ensures enough { HasSpare self.old 22 → IfErr result (λ why. why ≢ NoMemory) }
         ensures event { IsOneEvent ticket.now.cpu self.old self.new }
     {
@@ -400,6 +401,7 @@ impl Board {
         ensures refused { IfErr result (IsRefused (refusal_of_heal self.old thread) self.old self.new) }
         ensures done { OnOk result (refusal_of_heal self.old thread ≡ None) }
         ensures healed { OnOk result (IsHealed cpu thread self.old self.new) }
+        ensures promised { IsHealable self.old thread → IfErr result (λ why. why ≡ NoMemory) × OnOk result (HasStepped thread self.old self.new) }
         ensures enough { HasSpare self.old 22 → IfErr result (λ why. why ≢ NoMemory) }
         ensures event { IsOneEvent cpu self.old self.new }
     {

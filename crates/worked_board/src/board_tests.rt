@@ -1,6 +1,6 @@
 //! One machine, from the seal to its journal.
 
-ghost use Rattle.cache_board.specs.board_commits.specs.Tickets.{AreKept};
+ghost use Rattle.cache_board.specs.board_commits.specs.Tickets.{AreAllAsOf};
 
 use crate::machines::*;
 use cache_board::{Board, Quantum, Refused, Ticket};
@@ -30,7 +30,7 @@ fn run_with(
     ticket: &Ticket,
     quantum: &mut Quantum,
 ) -> Result<u32, Refused>
-    requires { AreKept board.old.journal.entries quantum.old }
+    requires { AreAllAsOf board.old.journal.entries quantum.old }
 {
     quantum.begin(ticket.context);
     assert!(rt; quantum.can_fill(CODE));
