@@ -155,6 +155,7 @@ module _ (cpu : ℕ) (a b d : Recorded) (idents : List Ident) (whole : IsWhole (
       marks = same_marks_more c (contents_of d) (contents_of e) places.loaded.residents since.marks places.marks;
       sealed = places.sealed ∙ since.sealed;
       checkouts = places.checkouts ∙ since.checkouts;
+      spare = let before = since.spare in let same = places.spare in omega arith;
     }
 
 -- ---- refusals

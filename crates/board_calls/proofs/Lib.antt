@@ -1,7 +1,7 @@
-mod LoopLaws
-mod GoodLaws
-mod RowLaws
-mod BadLaws
-mod GroupLaws
-mod TurnLaws
-mod CompletionLaws
+pub mod LoopLaws
+pub mod GoodLaws
+pub mod RowLaws
+pub mod BadLaws
+pub mod GroupLaws
+pub mod TurnLaws
+pub mod CompletionLaws

@@ -73,6 +73,7 @@ departures_more es more a b c comes first second = record {
   marks = marks_more (contents_of a) (contents_of b) (contents_of c) comes first.marks second.marks;
   sealed = second.sealed ∙ first.sealed;
   checkouts = second.checkouts ∙ first.checkouts;
+  spare = let one = first.spare in let two = second.spare in omega arith;
 }
 
 no_departures : (b : Recorded) → OnlyLoadedAreOut (contents_of b) → AreDepartures [] b b
@@ -84,6 +85,7 @@ no_departures b out = record {
   marks = loaded_itself (contents_of b) out;
   sealed = refl;
   checkouts = refl;
+  spare = omega arith;
 }
 
 same_room : (b : Recorded) → KeepsRoom b b
@@ -111,8 +113,8 @@ count_all (r ∷ rest) =
 
 -- it left, with its group
 pub left_now : (cpu : ℕ) (ident : Ident) (a b : Recorded) (gone : List Gone) (at : ℕ) → IsWhole (contents_of a) → IsIdentResident (residents_of (contents_of a)) ident → GrowsBy (written_back cpu gone) a b → IsUnload (contents_of a) (contents_of b) ident at gone → HasLoadedMarks (contents_of a) (contents_of b)
-    → b.sealed ≡ a.sealed → b.checkouts ≡ a.checkouts → room_of (contents_of b) ≡ room_of (contents_of a) → b.machine.sets ≡ a.machine.sets → HasLeftIf cpu ident a b
-left_now cpu ident a b gone at whole r grows unload marks sealed checkouts room sets =
+    → b.sealed ≡ a.sealed → b.checkouts ≡ a.checkouts → (contents_of b).spare ≡ (contents_of a).spare → room_of (contents_of b) ≡ room_of (contents_of a) → b.machine.sets ≡ a.machine.sets → HasLeftIf cpu ident a b
+left_now cpu ident a b gone at whole r grows unload marks sealed checkouts issues room sets =
     let c = contents_of a in
     let one = whole.2.one in
     let group = unload.group r.0 r.1 r.2 in
@@ -140,6 +142,7 @@ left_now cpu ident a b gone at whole r grows unload marks sealed checkouts room 
         marks = marks;
         sealed = sealed;
         checkouts = checkouts;
+        spare = omega arith;
       };
       room = record { room = room; sets = sets };
     }
@@ -169,4 +172,5 @@ departures_since cpu idents a b c made left =
       marks = loaded_marks_before a b made (contents_of c) are.marks;
       sealed = are.sealed ∙ same_sealed a b made;
       checkouts = are.checkouts ∙ same_checkouts a b made;
+      spare = let more = made.only.spare in let still = are.spare in omega arith;
     }

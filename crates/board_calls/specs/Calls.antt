@@ -1,5 +1,5 @@
 -- Why a declaration and the seal are refused, and what the calls leave.
-use Rattle.std.specs.Prelude.{◌≡◌, ℕ, true, ◌==◌, if◌then◌else◌, List, [], ◌∷◌, ◌++◌, length, Option, Some, None}
+use Rattle.std.specs.Prelude.{◌≡◌, ℕ, ◌+◌, ◌≤◌, true, ◌==◌, if◌then◌else◌, List, [], ◌∷◌, ◌++◌, length, Option, Some, None}
 use Rattle.std.specs.List.Sorted.{IsNonDecreasingBy}
 use Rattle.std.specs.Option.{option_map}
 use Rattle.cache_ident.specs.declared.idents.Ident.{Ident}
@@ -32,14 +32,14 @@ use Rattle.board_calls.specs.Leaving.{AreBad}
 -- ---- refusals
 
 -- the seal has ended the declarations
-abbrev pub is_ended : Recorded → Option Refused
-is_ended b = if b.sealed then Some why.Sealed else None
+abbrev pub not_open : Recorded → Option Refused
+not_open b = if b.sealed then Some why.Sealed else None
 
 abbrev pub refusal_of_declare : Recorded → Decl → Option Refused
 refusal_of_declare b d = if b.sealed then Some why.Sealed else option_map why.BadDecl (broken_rule (state_of b.machine) d)
 
 abbrev pub refusal_of_seal : Recorded → Option Refused
-refusal_of_seal b = if length (state_of b.machine).kernels == 0 then Some (why.NotDeclared first_name) else is_ended b
+refusal_of_seal b = if length (state_of b.machine).kernels == 0 then Some (why.NotDeclared first_name) else not_open b
 
 -- ---- what is done
 
@@ -48,13 +48,14 @@ pub record IsDeclaring (d : Decl) (old new : Recorded) : Type 0 where
   pub grows : GrowsBy (entry.Declared d ∷ []) old new
   pub places : KeepsPlaces old new
 
--- the declarations ended, and the first kernel was loaded and locked
+-- the declarations ended, and the first kernel was loaded and locked, with the one identifier that was issued
 pub record IsSealing (old new : Recorded) (ident : Ident) : Type 0 where
   pub first : ident ≡ first_ident
   pub grows : GrowsBy (entry.Sealed ∷ entry.Loaded first_ident first_name 0 ∷ entry.Locked first_ident 0 ∷ []) old new
   pub sealed : new.sealed ≡ true
   pub marks : HasSameMarks (contents_of old) (contents_of new)
   pub checkouts : new.checkouts ≡ old.checkouts
+  pub spare : (contents_of old).spare ≤ (contents_of new).spare + 1
 
 -- The thread of that number is loaded with the identifier and in a call that can be completed, and these are what leaves first, in
 -- order of serial.
@@ -67,7 +68,7 @@ pub record IsPlanned (b : Recorded) (thread : Ident) (no : ThreadNo) (idents : L
   pub quiet : OfThread (state_of b.machine) no.0 (λ t. asked_of (state_of b.machine) t ≡ Nothing → idents ≡ [])
 
 -- The call of the thread that was loaded with the identifier was completed. What would have been bad then left first, in order
--- of serial, each with its group.
+-- of serial, each with its group. No fewer identifiers can be issued without memory.
 pub record IsCompletion (cpu : ℕ) (thread : Ident) (old new : Recorded) : Type 0 where
   pub no : ThreadNo
   pub its : IsResident (residents_of (contents_of old)) thread (Thread no)
@@ -81,3 +82,4 @@ pub record IsCompletion (cpu : ℕ) (thread : Ident) (old new : Recorded) : Type
   pub marks : HasLoadedMarks (contents_of old) (contents_of new)
   pub sealed : new.sealed ≡ old.sealed
   pub checkouts : new.checkouts ≡ old.checkouts
+  pub spare : (contents_of old).spare ≤ (contents_of new).spare

@@ -44,7 +44,7 @@ LeaveInTurn s cpu (ident ∷ idents) rs entries left =
     (first : List Entry) × (later : List Entry) × (between : List Resident) × (entries ≡ first ++ later) × LeavesIfThere s cpu ident rs first between × LeaveInTurn s cpu idents between later left
 
 -- Departures wrote these entries. The machine with unlimited tables stays, and what is loaded still is on the processors that it
--- was on.
+-- was on. No identifier was issued for them.
 pub record AreDepartures (entries : List Entry) (old new : Recorded) : Type 0 where
   pub grows : GrowsBy entries old new
   pub state : state_of new.machine ≡ state_of old.machine
@@ -53,6 +53,7 @@ pub record AreDepartures (entries : List Entry) (old new : Recorded) : Type 0 wh
   pub marks : HasLoadedMarks (contents_of old) (contents_of new)
   pub sealed : new.sealed ≡ old.sealed
   pub checkouts : new.checkouts ≡ old.checkouts
+  pub spare : (contents_of old).spare ≤ (contents_of new).spare
 
 -- there is as much room for what is declared
 pub record KeepsRoom (old new : Recorded) : Type 0 where

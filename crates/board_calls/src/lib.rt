@@ -6,7 +6,9 @@
 
 mod completions;
 mod declarations;
+mod laws;
 mod leaving;
 
 pub use completions::complete;
 pub use declarations::{declare, seal};
+pub use laws::{its_first_tests_are_those_of_a_call, what_is_unloaded_leaves_whole};

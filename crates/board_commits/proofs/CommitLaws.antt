@@ -26,6 +26,7 @@ use Rattle.board_threads.specs.board_ops.specs.declared.refusals.Refused.TheVari
 use Rattle.board_threads.specs.board_checks.specs.Identifiers.{not_live, thread_as}
 use Rattle.board_threads.specs.cached_machine.specs.Cached.{state_of}
 use Rattle.board_threads.specs.cached_machine.specs.Posts.{mark_of}
+use Rattle.board_threads.specs.board_laws.proofs.Growing.{formed_told}
 use Rattle.board_threads.specs.board_core.specs.Core.{contents_of, IsSound, Recorded}
 use Rattle.board_threads.specs.board_core.specs.Growth.{AreInMemory, AreOfLoaded}
 use Rattle.board_threads.specs.board_checks.proofs.FirstLemmas.{none_mapped, passes_if}
@@ -33,7 +34,7 @@ use Rattle.board_threads.specs.board_checks.proofs.WhyLaws.{by_each, by_either, 
 use Rattle.board_threads.specs.board_core.proofs.SealLaws.{sealed_if_live}
 use Rattle.board_threads.specs.declared.tickets.Ticket.{Ticket}
 use Rattle.board_threads.specs.board_core.proofs.CheckLaws.{enough_left, over_tells}
-use Rattle.board_commits.specs.Commits.{MayHappen}
+use Rattle.board_commits.specs.Commits.{MayBeCommitted}
 use Rattle.board_commits.specs.Refusals.{changed, is_changed, is_context, is_gone, is_in_place, moved, moved_from, not_loaded, refusal_of_commit}
 use Rattle.board_threads.specs.board_core.specs.Refusals.{over}
 use Rattle.board_commits.specs.Tickets.{AreOfTicket}
@@ -119,9 +120,12 @@ module _ (b : Recorded) (sound : IsSound b) (one : IsExactlyOne (contents_of b))
         let of = are.views v both.0 in
         (r.0, r.1, named_still b sound of.space v of.copied r.0 r.1 r.2 ∙ ap (λ (s : SpaceNo). name.Mapping s v.vpn) (sym (space_is b sound ticket.thread found.no named of.space of.of t is)))
 
-    pub may_happen : MayHappen b ticket a found.no
+    pub may_happen : MayBeCommitted b ticket a found.no
     may_happen = record {
       named = named;
+      thread = flat_thread found;
+      there = there_now;
+      formed = formed_told b.machine.machine b.machine.memory (contents_of b) b.sealed b.journal.entries sound.told;
       could = could_run;
       views = of_loaded;
       left = let left = enough_left b a.steps enough in let within = sound.limit in omega arith;

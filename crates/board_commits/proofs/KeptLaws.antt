@@ -24,7 +24,7 @@ use Rattle.board_threads.specs.board_core.specs.Core.{Recorded}
 use Rattle.board_threads.specs.board_core.specs.Stamps.{IsSince}
 use Rattle.board_commits.specs.Commits.{HasPage}
 use Rattle.board_commits.specs.Refusals.{is_changed}
-use Rattle.board_commits.specs.Tickets.{AreAsOf, AreKept, IsAsOf, IsDated}
+use Rattle.board_commits.specs.Tickets.{AreAsOf, AreAllAsOf, IsAsOf, IsDated}
 
 -- ---- what a frame has now
 
@@ -69,7 +69,7 @@ found_since vs kept frame place d is = by (is_some (find (is_touched_of frame) v
 
 -- what is kept since the frame's stamp is what the frame has
 module _ (b : Recorded) (vpn : Vpn) (frame : Frame) (flags : Flags) (row : Ident) (old new : Ahead) (stamp : ℕ) (since : IsSince b.journal.entries b.machine.memory frame stamp) where
-  pub has_kept : AreKept b.journal.entries old → (o : Option Dated) → kept_since old.views old.kept frame stamp ≡ o → is_some o ≡ true → new ≡ again_with vpn frame flags row o old → HasPage b vpn frame flags row old new
+  pub has_kept : AreAllAsOf b.journal.entries old → (o : Option Dated) → kept_since old.views old.kept frame stamp ≡ o → is_some o ≡ true → new ≡ again_with vpn frame flags row o old → HasPage b vpn frame flags row old new
   has_kept kept None is some fill = absurd (cc)
   has_kept kept (Some d) is some fill =
       let found = found_since old.views old.kept frame stamp d is in
@@ -109,14 +109,14 @@ from_more vs v kept o there = elim (Contains-append_cases (map dated (vs ++ v �
   | inr behind ↦ inl (Contains-append_right (map dated vs) kept o (behind_first kept o behind))
 ]
 
-pub kept_more : (j : List Entry) (a : Ahead) (v : View) → IsAsOf j (dated v) → AreKept j a → AreKept j (more_with v a)
+pub kept_more : (j : List Entry) (a : Ahead) (v : View) → IsAsOf j (dated v) → AreAllAsOf j a → AreAllAsOf j (more_with v a)
 kept_more j a v its kept o there = elim (from_more a.views v a.kept o there) [
   | inl before ↦ kept o before
   | inr now ↦ subst (IsAsOf j) now its
 ]
 
 -- each view's are among them
-pub as_of_views : (j : List Entry) (a : Ahead) → AreKept j a → AreAsOf j a.views
+pub as_of_views : (j : List Entry) (a : Ahead) → AreAllAsOf j a → AreAsOf j a.views
 as_of_views j a kept v there = kept (dated v) (Contains-append_left (map dated a.views) a.kept (dated v) (Contains-map dated a.views v there))
 
 -- ---- as the journal grows, and from one quantum to the next
@@ -131,10 +131,10 @@ dated_stays j es (Some d) is =
       bytes = ap (λ (front : List Entry). page_at (flat (erase front)).memory d.frame) (take-append-le d.place j es within) ∙ is.bytes;
     }
 
-pub kept_stays : (j es : List Entry) (a : Ahead) → AreKept j a → AreKept (j ++ es) a
+pub kept_stays : (j es : List Entry) (a : Ahead) → AreAllAsOf j a → AreAllAsOf (j ++ es) a
 kept_stays j es a kept o there = dated_stays j es o (kept o there)
 
-pub kept_begun : (j : List Entry) (context : Context) (a : Ahead) → AreKept j a → AreKept j (begun context a)
+pub kept_begun : (j : List Entry) (context : Context) (a : Ahead) → AreAllAsOf j a → AreAllAsOf j (begun context a)
 kept_begun j context a kept o there = kept o there
 
 none_kept : (j : List Entry) (n : ℕ) (o : Option Dated) → Contains (replicate n None) o → IsAsOf j o
@@ -144,7 +144,7 @@ none_kept j (suc n) o there = elim (Contains-cases None (replicate n None) o the
   | inr behind ↦ none_kept j n o behind
 ]
 
-pub kept_unbegun : (j : List Entry) → AreKept j unbegun
+pub kept_unbegun : (j : List Entry) → AreAllAsOf j unbegun
 kept_unbegun j o there = none_kept j 8 o there
 
 pub not_again : (vpn : Vpn) (frame : Frame) (flags : Flags) (row : Ident) (o : Option Dated) (a : Ahead) → is_some o ≡ false → again_with vpn frame flags row o a ≡ a

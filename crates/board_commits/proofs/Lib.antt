@@ -5,3 +5,4 @@ pub mod TicketLaws
 pub mod ThreadLaws
 pub mod PageLaws
 pub mod CommitLaws
+pub mod MadeLaws

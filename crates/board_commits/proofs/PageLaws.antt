@@ -23,7 +23,7 @@ use Rattle.board_threads.specs.board_core.specs.Core.{contents_of, IsSound, Reco
 use Rattle.board_threads.specs.declared.tickets.Ticket.{Ticket}
 use Rattle.board_threads.proofs.IdentLemmas.{content_named}
 use Rattle.board_commits.specs.Commits.{HasPage, IsPaged}
-use Rattle.board_commits.specs.Tickets.{AreKept, AreOfTicket, IsOfTicket}
+use Rattle.board_commits.specs.Tickets.{AreAllAsOf, AreOfTicket, IsOfTicket}
 use Rattle.board_commits.proofs.KeptLaws.{kept_more}
 use Rattle.board_commits.proofs.ThreadLaws.{thread_there}
 use Rattle.board_commits.proofs.TicketLaws.{copied_now, thread_now}
@@ -60,8 +60,8 @@ module _ (b : Recorded) (sound : IsSound b) (one : IsExactlyOne (contents_of b))
       copied = copied_now b sound ident found.space view r refl row (sym at) refl refl;
     }
 
-    pub all_kept : AreKept b.journal.entries old → AreKept b.journal.entries new
-    all_kept kept = subst (AreKept b.journal.entries) (sym has.views) (kept_more b.journal.entries old view has.dated kept)
+    pub all_kept : AreAllAsOf b.journal.entries old → AreAllAsOf b.journal.entries new
+    all_kept kept = subst (AreAllAsOf b.journal.entries) (sym has.views) (kept_more b.journal.entries old view has.dated kept)
 
     pub all_of_ticket : AreOfTicket b.journal.entries ticket.thread old → AreOfTicket b.journal.entries ticket.thread new
     all_of_ticket are = record {

@@ -63,12 +63,12 @@ abbrev pub AreAsOf : List Entry → List View → Type 0
 AreAsOf j vs = (v : View) → Contains vs v → IsAsOf j (dated v)
 
 -- .. and with all that a quantum has, from views or from earlier ones
-abbrev pub AreKept : List Entry → Ahead → Type 0
-AreKept j a = (o : Option Dated) → Contains (all_dated a.views a.kept) o → IsAsOf j o
+abbrev pub AreAllAsOf : List Entry → Ahead → Type 0
+AreAllAsOf j a = (o : Option Dated) → Contains (all_dated a.views a.kept) o → IsAsOf j o
 
 -- ---- a quantum for a ticket
 
 -- each view was copied for the thread that was loaded with the identifier, and what carries a place is of this journal
 pub record AreOfTicket (j : List Entry) (thread : Ident) (a : Ahead) : Type 0 where
   pub views : (v : View) → Contains a.views v → IsOfTicket j thread v
-  pub kept : AreKept j a
+  pub kept : AreAllAsOf j a

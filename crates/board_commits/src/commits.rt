@@ -9,7 +9,7 @@ ghost use Rattle.page_views.specs.Views.{dated};
 ghost use Rattle.board_threads.specs.board_ops.specs.declared.refusals.Refused.TheVariants.{NoMemory};
 ghost use Rattle.board_threads.specs.board_core.specs.Answers.{HasSpare, IsRefused};
 ghost use Rattle.board_threads.specs.board_core.specs.Core.{contents_of};
-ghost use Rattle.board_commits.specs.Commits.{IsCommitted, MayHappen};
+ghost use Rattle.board_commits.specs.Commits.{IsCommitted, MayBeCommitted};
 ghost use Rattle.board_commits.specs.Refusals.{changed, is_changed as is_changed_def, is_gone as is_gone_def, is_in_place as is_in_place_def, moved_from, not_loaded, refusal_of_commit};
 ghost use Rattle.board_commits.specs.Tickets.{AreAsOf, AreOfTicket, IsAsOf};
 
@@ -32,7 +32,7 @@ pub fn commit(core: &mut Core, ticket: &Ticket, quantum: &Quantum) -> Result<u32
     ensures refused { IfErr result (IsRefused (refusal_of_commit core.old ticket.now quantum.now) core.old core.new) }
     ensures done { OnOk result (refusal_of_commit core.old ticket.now quantum.now ≡ None) }
     ensures steps { IfOk result (λ steps. steps ≡ quantum.now.steps) }
-    ensures committed { OnOk result (IsCommitted ticket.now quantum.now.steps core.old core.new) }
+    ensures committed { OnOk result (IsCommitted ticket.now quantum.now core.old core.new) }
     ensures enough { HasSpare core.old 22 → IfErr result (λ why. why ≢ NoMemory) }
 {
     let checked = check_commit(core, ticket, quantum);
@@ -46,7 +46,7 @@ pub fn commit(core: &mut Core, ticket: &Ticket, quantum: &Quantum) -> Result<u32
 fn check_commit(core: &Core, ticket: &Ticket, quantum: &Quantum) -> Result<ThreadNo, Refused>
     requires views { AreOfTicket core.now.journal.entries ticket.now.thread quantum.now }
     ensures exact { result_err result ≡ refusal_of_commit core.now ticket.now quantum.now }
-    ensures may { IfOk result (MayHappen core.now ticket.now quantum.now) }
+    ensures may { IfOk result (MayBeCommitted core.now ticket.now quantum.now) }
 {
     let thread = thread_of(core, ticket)?;
     check_place(thread, ticket, quantum)?;

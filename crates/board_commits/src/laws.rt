@@ -5,13 +5,13 @@ ghost use Rattle.cache_ident.specs.declared.idents.Ident.{Ident};
 ghost use Rattle.rv32_exec.specs.declared.contexts.Context.{Context};
 ghost use Rattle.run_journal.specs.declared.entries.Entry.{Entry};
 ghost use Rattle.board_threads.specs.quantum.specs.Ahead.{begun, unbegun, Ahead};
-ghost use Rattle.board_commits.specs.Tickets.{AreKept, AreOfTicket};
+ghost use Rattle.board_commits.specs.Tickets.{AreAllAsOf, AreOfTicket};
 
 /// Views that were copied for a ticket stay those of that ticket, and what is kept stays so, however the journal grows. What a
 /// quantum has is kept where it begins anew, and a new quantum keeps nothing.
 pub fn what_is_of_a_ticket_stays_so()
     ensures views { (j es : List Entry) (thread : Ident) (a : Ahead) → AreOfTicket j thread a → AreOfTicket (j ++ es) thread a }
-    ensures kept { (j es : List Entry) (a : Ahead) → AreKept j a → AreKept (j ++ es) a }
-    ensures begun { (j : List Entry) (context : Context) (a : Ahead) → AreKept j a → AreKept j (begun context a) }
-    ensures new { (j : List Entry) → AreKept j unbegun }
+    ensures kept { (j es : List Entry) (a : Ahead) → AreAllAsOf j a → AreAllAsOf (j ++ es) a }
+    ensures begun { (j : List Entry) (context : Context) (a : Ahead) → AreAllAsOf j a → AreAllAsOf j (begun context a) }
+    ensures new { (j : List Entry) → AreAllAsOf j unbegun }
 {}

@@ -15,7 +15,7 @@ ghost use Rattle.board_threads.specs.cached_machine.specs.Cached.{state_of};
 ghost use Rattle.board_threads.specs.board_core.specs.Core.{contents_of};
 ghost use Rattle.board_commits.specs.Commits.{HasPage, IsPaged};
 ghost use Rattle.board_commits.specs.Refusals.{refusal_of_page};
-ghost use Rattle.board_commits.specs.Tickets.{AreKept, AreOfTicket};
+ghost use Rattle.board_commits.specs.Tickets.{AreAllAsOf, AreOfTicket};
 
 use board_threads::{Core, ItemRef, Quantum, Refused, Ticket, thread_as};
 use cache_ident::{Frame, Ident, Name, SpaceNo, Vpn};
@@ -31,12 +31,12 @@ use thread_cache::ThreadRec;
 /// takes no memory.
 pub fn page(core: &Core, ticket: &Ticket, vpn: Vpn, quantum: &mut Quantum) -> Result<(), Refused>
     requires room { IsTrue (can_fill quantum.old.views vpn) }
-    requires kept { AreKept core.now.journal.entries quantum.old }
+    requires kept { AreAllAsOf core.now.journal.entries quantum.old }
     ensures exact { result_err result ≡ refusal_of_page (contents_of core.now) ticket.now vpn }
     ensures refused { OnErr result (quantum.new ≡ quantum.old) }
     ensures filled { OnOk result (IsPaged core.now ticket.now vpn quantum.old quantum.new) }
     ensures views { AreOfTicket core.now.journal.entries ticket.now.thread quantum.old → AreOfTicket core.now.journal.entries ticket.now.thread quantum.new }
-    ensures kept { AreKept core.now.journal.entries quantum.new }
+    ensures kept { AreAllAsOf core.now.journal.entries quantum.new }
 {
     let space = thread_of(core, ticket)?.space;
     let Some(ident) = core.tables().resident(Name::Mapping(space, vpn)) else {
@@ -64,7 +64,7 @@ fn row_loaded(core: &Core, space: SpaceNo, vpn: Vpn, ident: Ident) -> &Row
 // Adds the view of a page to a quantum: of what it keeps, where the page's frame hasn't changed since, and else copied from memory.
 fn add_page(core: &Core, vpn: Vpn, frame: Frame, flags: Flags, row: Ident, quantum: &mut Quantum)
     requires room { IsTrue (can_fill quantum.old.views vpn) }
-    requires kept { AreKept core.now.journal.entries quantum.old }
+    requires kept { AreAllAsOf core.now.journal.entries quantum.old }
     requires frame { HasFrame core.now.machine.memory frame }
     ensures { HasPage core.now vpn frame flags row quantum.old quantum.new }
 {

@@ -28,6 +28,7 @@ use Rattle.board_core.proofs.OthersLaws.{one_set, OthersStay}
 use Rattle.cached_machine.proofs.AlikeLaws.{same_loaded, same_out}
 use Rattle.cached_machine.proofs.AsideLaws.{loaded_stays, marks_stay, residents_stay}
 use Rattle.board_core.proofs.RunningLaws.{entry_sound, others_ready, same_counts}
+use Rattle.board_core.proofs.SoundLaws.{HasSoundTables}
 
 all_steps : (whom : ThreadNo) (n : ℕ) → count_by is_step (replicate n (Step whom)) ≡ n
 all_steps whom zero = refl
@@ -52,13 +53,13 @@ module _ (old : Recorded) (machine : Cached) (whom : ThreadNo) (t : FlatThread) 
       (subst (λ (b : Bool). AreAsTold old.machine.machine old.machine.memory (contents_of old) b old.journal.entries) sealed sound.told) few some loaded local_run here could views
       (ap (λ (m : Machine). shown (Some m) machine.memory machine.held.contents) (sym same_machine) ∙ state) (loaded_stays old.machine machine aside)
 
-  pub ahead_sound : (w : Written) (at n taken : ℕ) (news : List ℕ) → n ≡ a.steps → taken ≡ a.steps → w.entries ≡ old.journal.entries ++ Ran whom n cpu ∷ [] → at ≡ length w.entries → old.steps + a.steps ≤ old.limit
+  pub ahead_sound : HasSoundTables machine → (w : Written) (at n taken : ℕ) (news : List ℕ) → n ≡ a.steps → taken ≡ a.steps → w.entries ≡ old.journal.entries ++ Ran whom n cpu ∷ [] → at ≡ length w.entries → old.steps + a.steps ≤ old.limit
       → AreStamped at old.machine.memory old.stamps machine.memory news → IsSound (record old { machine = machine; journal = w; steps = old.steps + taken; stamps = news })
-  ahead_sound w at n taken news all_told all_taken grown end left stamped =
+  ahead_sound tables w at n taken news all_told all_taken grown end left stamped =
       let marks = marks_stay old.machine machine aside in
       let u : FlatThread = record t { context = a.context; status = status_by a.paused } in
       let grown_so = grown ∙ ap (λ (k : ℕ). old.journal.entries ++ Ran whom k cpu ∷ []) all_told in
-      entry_sound old machine w (Ran whom a.steps cpu) sound sealed grown_so same_machine told_then (old.steps + taken) at news end
+      entry_sound old machine w (Ran whom a.steps cpu) sound sealed grown_so same_machine told_then tables (old.steps + taken) at news end
       (ap (λ (k : ℕ). old.steps + k) (all_taken ∙ sym (steps_of_run whom a.steps cpu))) (omega arith)
       (others_ready old machine whom sound marks unmarked (subst (λ (s : FlatState). OthersStay whom.0 (state_of old.machine).threads s.threads) (sym state) (one_set whom.0 (state_of old.machine).threads u)))
       (same_out (contents_of old) machine.held.contents marks (same_loaded (contents_of old) machine.held.contents (residents_stay old.machine machine aside)) sound.out)

@@ -18,3 +18,5 @@ pub mod ClearedLaws
 pub mod CommittedLaws
 pub mod AheadLaws
 pub mod CheckLaws
+pub mod GoingLaws
+pub mod OnePlaceLaws

@@ -18,7 +18,6 @@ use Rattle.cached_machine.specs.desc_stores.specs.declared.items.Item.{Item}
 use Rattle.cached_machine.specs.desc_stores.specs.declared.items.Item.TheVariants as item
 use Rattle.cached_machine.specs.desc_stores.specs.Changes.{IsNothing}
 use Rattle.cached_machine.specs.desc_stores.specs.Contents.{content_of}
-use Rattle.cached_machine.specs.desc_stores.specs.Sound.{IsExactlyOne}
 use Rattle.cached_machine.specs.shown_state.specs.Shown.{thread_of}
 use Rattle.cached_machine.specs.shown_state.proofs.LookupLemmas.{all_found}
 use Rattle.cached_machine.specs.board_laws.specs.Telling.{AreAsTold}
@@ -29,7 +28,7 @@ use Rattle.cached_machine.specs.Posts.{last_in, last_of, mark_in, mark_of}
 use Rattle.board_core.specs.Core.{IsSound}
 use Rattle.board_core.specs.Stamps.{AreStamps, IsSince}
 use Rattle.board_core.proofs.OpeningLaws.{memory_shown}
-use Rattle.board_core.proofs.SoundLaws.{told_again}
+use Rattle.board_core.proofs.SoundLaws.{told_again, HasSoundTables}
 
 first_rule : (m : Machine) → rule_of_machine m ≡ None → broken_rule nothing_declared (decls.Machine m) ≡ None
 unfolding broken_rule
@@ -49,7 +48,7 @@ mark_none (Some (item.Space space)) none = refl
 mark_none (Some (item.Mapping row)) none = refl
 mark_none None none = refl
 
-module _ (m : Machine) (machine : Cached) (rule : rule_of_machine m ≡ None) (is : machine.machine ≡ m) (nothing : IsNothing m.caps machine.held.contents) (one : IsExactlyOne machine.held.contents)
+module _ (m : Machine) (machine : Cached) (rule : rule_of_machine m ≡ None) (is : machine.machine ≡ m) (nothing : IsNothing m.caps machine.held.contents) (tables : HasSoundTables machine)
     (state : state_of machine ≡ record nothing_declared { machine = Some m; memory = replicate (524288 * m.groups) 0 }) where
   abbrev first : List Entry
   first = Declared (decls.Machine m) ∷ []
@@ -65,7 +64,7 @@ module _ (m : Machine) (machine : Cached) (rule : rule_of_machine m ≡ None) (i
 
   no_thread : (whom : ThreadNo) → thread_of (content_of machine.held.contents (name.Thread whom)) ≡ None
   no_thread whom =
-      let found = (all_found (Some machine.machine) machine.memory machine.held.contents one).threads whom.0 in
+      let found = (all_found (Some machine.machine) machine.memory machine.held.contents tables.1.whole.one).threads whom.0 in
       sym found ∙ ap (λ (s : FlatState). slice_get s.threads whom.0) state
 
   last_zero : (whom : ThreadNo) → last_of machine.held.contents whom ≡ 0
@@ -108,4 +107,5 @@ module _ (m : Machine) (machine : Cached) (rule : rule_of_machine m ≡ None) (i
     lasts = λ whom. let zero_yet = last_zero whom in omega arith;
     stamps = subst (λ (j : List Entry). AreStamps j machine.memory stamps) (sym begun)
         (subst (λ (xs : List ℕ). AreStamps first machine.memory xs) (sym (are ∙ ap (replicate frames) (ends ∙ ap length begun))) (first_stamps frames enough));
+    tables = tables;
   }

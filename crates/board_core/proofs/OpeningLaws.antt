@@ -52,7 +52,7 @@ use Rattle.cached_machine.proofs.AlikeLaws.{same_loaded, same_out}
 use Rattle.cached_machine.proofs.MoveLaws.{loaded_as_before}
 use Rattle.board_core.proofs.NamedLaws.{just_loaded, unloaded_unmarked}
 use Rattle.board_core.proofs.PlaceLaws.{same_shown, IsOnlyContents, IsOnlyHeld}
-use Rattle.board_core.proofs.SoundLaws.{loaded_marks, quiet_sound, same_marks, told_again}
+use Rattle.board_core.proofs.SoundLaws.{loaded_marks, quiet_sound, same_marks, told_again, HasSoundTables}
 use Rattle.board_core.proofs.StampLaws.{have_places, one_stamped, stamps_grow}
 
 -- ---- what a declaration changes of memory
@@ -172,8 +172,8 @@ module _ (old : Recorded) (sound : IsSound old) (open_yet : old.sealed ≡ false
           has_stamp
           (λ frame there apart. ap (λ (x : List ℕ). page_at x frame) memory_made ∙ declared_elsewhere (state_of old.machine) m d formed_now is none frame apart ∙ ap (λ (x : List ℕ). page_at x frame) was)
 
-      pub declared_sound : (news : List ℕ) → news ≡ stamped_at (frame_declared d) at old.stamps → IsSound (record old { machine = machine; journal = w; stamps = news })
-      declared_sound news is =
+      pub declared_sound : HasSoundTables machine → (news : List ℕ) → news ≡ stamped_at (frame_declared d) at old.stamps → IsSound (record old { machine = machine; journal = w; stamps = news })
+      declared_sound tables news is =
           let j = old.journal.entries in
           let ends = end ∙ ap length grown in
           let stamps = stamps_grow j (Declared d) old.machine.memory old.stamps machine.memory (stamped_at (frame_declared d) at old.stamps) memory_then at ends sound.stamps stamped in
@@ -189,6 +189,7 @@ module _ (old : Recorded) (sound : IsSound old) (open_yet : old.sealed ≡ false
             out = same_out (contents_of old) machine.held.contents made.beside.marks (same_loaded (contents_of old) machine.held.contents made.beside.loaded.residents) sound.out;
             lasts = λ whom. let last = made.beside.marks.lasts whom in let was = sound.lasts whom in omega arith;
             stamps = subst (λ (xs : List ℕ). AreStamps w.entries machine.memory xs) (sym is) (subst (λ (k : List Entry). AreStamps k machine.memory (stamped_at (frame_declared d) at old.stamps)) (sym grown) stamps);
+            tables = tables;
           }
 
 -- ---- the seal
@@ -244,11 +245,11 @@ module _ (old : Recorded) (pairs : List (Ident × Node)) (sound : IsSound old) (
       abbrev the_seal : List Entry
       the_seal = Sealed ∷ Loaded first_ident first_name 0 ∷ Locked first_ident 0 ∷ []
 
-      pub sealed_sound : w.entries ≡ old.journal.entries ++ the_seal → IsSound (record old { machine = machine; journal = w; sealed = true })
-      sealed_sound grown =
+      pub sealed_sound : HasSoundTables machine → w.entries ≡ old.journal.entries ++ the_seal → IsSound (record old { machine = machine; journal = w; sealed = true })
+      sealed_sound tables grown =
           let keeps = loaded_marks (contents_of old) mid.held.contents came in
           let then = same_marks mid.held.contents machine.held.contents (loaded_as_before mid.held machine.held ident true lock.residents) stay in
-          quiet_sound old machine w true the_seal sound (refl, (refl, (refl, tt))) grown
+          quiet_sound old machine w true the_seal sound (refl, (refl, (refl, tt))) tables grown
           (ap (λ (m : Cached). m.machine) only ∙ ap (λ (m : Cached). m.machine) held) (ap (λ (m : Cached). m.memory) only ∙ ap (λ (m : Cached). m.memory) held)
           (same ∙ same_shown old.machine mid held is.shows)
           (sealed_told old.machine.machine old.machine.memory old.machine.held.caps (contents_of old) mid.held.contents machine.held.contents pairs after old.journal.entries [] at mid.held.gone

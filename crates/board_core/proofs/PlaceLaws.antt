@@ -33,7 +33,7 @@ use Rattle.cached_machine.proofs.MoveLaws.{loaded_as_before}
 use Rattle.board_core.specs.Core.{contents_of, IsSound, Recorded}
 use Rattle.cached_machine.specs.desc_tables.proofs.Remaining.{IsClosed}
 use Rattle.board_core.specs.Growth.{MayWrite}
-use Rattle.board_core.proofs.SoundLaws.{loaded_marks, quiet_sound, same_marks}
+use Rattle.board_core.proofs.SoundLaws.{loaded_marks, quiet_sound, same_marks, HasSoundTables}
 use Rattle.board_core.proofs.StampLaws.{AreQuiet}
 use Rattle.board_core.proofs.UnkeptLaws.{group_few, is_unkept}
 
@@ -59,14 +59,14 @@ IsOnlyContents old new = new ≡ record old { held = record old.held { contents 
 
 module _ (old : Recorded) (machine : Cached) (w : Written) (pairs : List (Ident × Node)) (ident : Ident) (cpu : ℕ) (sound : IsSound old)
     (whole : AreWhole old.machine.held.caps (contents_of old) pairs) (may : MayWrite old cpu 1) (live : standing_in (contents_of old).issued ident ≡ Live)
-    (only : IsOnlyContents old.machine machine) (same : state_of machine ≡ state_of old.machine) (marks : HasSameMarks (contents_of old) machine.held.contents) where
+    (only : IsOnlyContents old.machine machine) (same : state_of machine ≡ state_of old.machine) (marks : HasSameMarks (contents_of old) machine.held.contents) (tables : HasSoundTables machine) where
   sealed_told : AreAsTold old.machine.machine old.machine.memory (contents_of old) true old.journal.entries
   sealed_told = subst (λ (b : Bool). AreAsTold old.machine.machine old.machine.memory (contents_of old) b old.journal.entries) may.sealed sound.told
 
   by_entry : (on : Bool) → IsLock (contents_of old) machine.held.contents ident on → (e : Entry) → AreQuiet (e ∷ []) → w.entries ≡ old.journal.entries ++ e ∷ [] → AreAsTold old.machine.machine old.machine.memory machine.held.contents true (old.journal.entries ++ e ∷ [])
       → IsSound (record old { machine = machine; journal = w })
   by_entry on is e quiet grown told =
-      quiet_sound old machine w old.sealed (e ∷ []) sound quiet grown (ap (λ (m : Cached). m.machine) only) (ap (λ (m : Cached). m.memory) only) same
+      quiet_sound old machine w old.sealed (e ∷ []) sound quiet tables grown (ap (λ (m : Cached). m.machine) only) (ap (λ (m : Cached). m.memory) only) same
       (subst (λ (b : Bool). AreAsTold old.machine.machine old.machine.memory machine.held.contents b (old.journal.entries ++ e ∷ [])) (sym may.sealed) told)
       (same_marks (contents_of old) machine.held.contents (loaded_as_before old.machine.held machine.held ident on is.residents) marks)
 
@@ -120,14 +120,14 @@ module _ (caps : Caps) (c : Contents) (pairs : List (Ident × Node)) (whole : Ar
 
 module _ (old : Recorded) (machine : Cached) (w : Written) (pairs : List (Ident × Node)) (cpu : ℕ) (sound : IsSound old)
     (whole : AreWhole old.machine.held.caps (contents_of old) pairs) (sealed : old.sealed ≡ true) (few_processors : cpu < 8)
-    (only : IsOnlyHeld old.machine machine) (marks : HasLoadedMarks (contents_of old) machine.held.contents) where
+    (only : IsOnlyHeld old.machine machine) (marks : HasLoadedMarks (contents_of old) machine.held.contents) (tables : HasSoundTables machine) where
   sealed_as_told : AreAsTold old.machine.machine old.machine.memory (contents_of old) true old.journal.entries
   sealed_as_told = subst (λ (b : Bool). AreAsTold old.machine.machine old.machine.memory (contents_of old) b old.journal.entries) sealed sound.told
 
   by_entries : (es : List Entry) → AreQuiet es → state_of machine ≡ state_of old.machine → w.entries ≡ old.journal.entries ++ es → AreAsTold old.machine.machine old.machine.memory machine.held.contents true (old.journal.entries ++ es)
       → IsSound (record old { machine = machine; journal = w })
   by_entries es quiet same grown told =
-      quiet_sound old machine w old.sealed es sound quiet grown (ap (λ (m : Cached). m.machine) only) (ap (λ (m : Cached). m.memory) only) same
+      quiet_sound old machine w old.sealed es sound quiet tables grown (ap (λ (m : Cached). m.machine) only) (ap (λ (m : Cached). m.memory) only) same
       (subst (λ (b : Bool). AreAsTold old.machine.machine old.machine.memory machine.held.contents b (old.journal.entries ++ es)) (sym sealed) told)
       (loaded_marks (contents_of old) machine.held.contents marks)
 

@@ -52,7 +52,7 @@ use Rattle.board_core.specs.Growth.{entry_of_step, KeepsPlaces}
 use Rattle.board_core.specs.Stamps.{frame_stored, stamped_at, AreStamped, AreStamps, IsWithin}
 use Rattle.board_core.proofs.OpeningLaws.{memory_shown}
 use Rattle.board_core.proofs.OthersLaws.{call_fits, call_memory, call_others, step_others, OthersStay}
-use Rattle.board_core.proofs.SoundLaws.{told_again}
+use Rattle.board_core.proofs.SoundLaws.{told_again, HasSoundTables}
 use Rattle.board_core.proofs.StampLaws.{have_places, one_stamped, stamps_grow}
 use Rattle.board_core.proofs.StoredLaws.{step_elsewhere, stored_within}
 
@@ -114,7 +114,7 @@ trapped_unmarked old whom t sound here able = by (mark_of (contents_of old) whom
 -- ---- one entry more
 
 module _ (old : Recorded) (machine : Cached) (w : Written) (e : Entry) (sound : IsSound old) (sealed : old.sealed ≡ true) (grown : w.entries ≡ old.journal.entries ++ e ∷ []) (same_machine : machine.machine ≡ old.machine.machine)
-    (told : AreAsTold old.machine.machine machine.memory machine.held.contents true (old.journal.entries ++ e ∷ [])) where
+    (told : AreAsTold old.machine.machine machine.memory machine.held.contents true (old.journal.entries ++ e ∷ [])) (tables : HasSoundTables machine) where
   memory_then : (flat (erase (old.journal.entries ++ e ∷ []))).memory ≡ machine.memory
   memory_then =
       ap (λ (s : FlatState). s.memory) (sym (state_is_flat old.machine.machine machine.memory machine.held.contents true (old.journal.entries ++ e ∷ []) told))
@@ -136,6 +136,7 @@ module _ (old : Recorded) (machine : Cached) (w : Written) (e : Entry) (sound : 
         out = out;
         lasts = counted;
         stamps = subst (λ (k : List Entry). AreStamps k machine.memory news) (sym grown) (stamps_grow j e old.machine.memory old.stamps machine.memory news memory_then at (end ∙ ap length grown) sound.stamps stamped);
+        tables = tables;
       }
 
 -- ---- a step
@@ -209,11 +210,11 @@ module _ (old : Recorded) (machine : Cached) (whom : ThreadNo) (next : NextStep)
       ∙ steps_elsewhere s whom.0 next formed_now is runs (after_step s whom.0) refl frame (subst (λ (m : List ℕ). HasFrame m frame) (sym was) there) apart
       ∙ ap (λ (x : List ℕ). page_at x frame) was)
 
-  pub step_sound : (w : Written) (at : ℕ) (news : List ℕ) → w.entries ≡ old.journal.entries ++ entry_of_step whom next.faults cpu ∷ [] → at ≡ length w.entries → old.steps + 1 ≤ old.limit
+  pub step_sound : HasSoundTables machine → (w : Written) (at : ℕ) (news : List ℕ) → w.entries ≡ old.journal.entries ++ entry_of_step whom next.faults cpu ∷ [] → at ≡ length w.entries → old.steps + 1 ≤ old.limit
       → news ≡ stamped_at (frame_stored (state_of old.machine) next) at old.stamps → IsSound (record old { machine = machine; journal = w; steps = old.steps + 1; stamps = news })
-  step_sound w at news grown end left are =
+  step_sound tables w at news grown end left are =
       let marks = marks_stay old.machine machine aside in
-      entry_sound old machine w (entry_of_step whom next.faults cpu) sound sealed grown same_machine_stepped (by_fault next.faults may) (old.steps + 1) at news end
+      entry_sound old machine w (entry_of_step whom next.faults cpu) sound sealed grown same_machine_stepped (by_fault next.faults may) tables (old.steps + 1) at news end
       (ap (λ (n : ℕ). old.steps + n) (sym (steps_of_entry next.faults))) left
       (others_ready old machine whom sound marks unmarked (subst (λ (s : FlatState). OthersStay whom.0 (state_of old.machine).threads s.threads) (sym state) (step_others (state_of old.machine) whom)))
       (same_out (contents_of old) machine.held.contents marks (same_loaded (contents_of old) machine.held.contents (residents_stay old.machine machine aside)) sound.out)
@@ -245,9 +246,9 @@ module _ (old : Recorded) (machine : Cached) (whom : ThreadNo) (cpu : ℕ) (caps
       sym (memory_shown old.machine.machine machine.memory machine.held.contents) ∙ ap (λ (s : FlatState). s.memory) shown_completed
       ∙ call_memory (state_of old.machine) whom ∙ memory_shown old.machine.machine old.machine.memory (contents_of old)
 
-  pub call_sound : (w : Written) → w.entries ≡ old.journal.entries ++ Completed whom cpu ∷ [] → IsSound (record old { machine = machine; journal = w })
-  call_sound w grown =
-      entry_sound old machine w (Completed whom cpu) sound sealed grown done.beside.machine call_told old.steps (length w.entries) old.stamps refl (omega arith) sound.limit
+  pub call_sound : HasSoundTables machine → (w : Written) → w.entries ≡ old.journal.entries ++ Completed whom cpu ∷ [] → IsSound (record old { machine = machine; journal = w })
+  call_sound tables w grown =
+      entry_sound old machine w (Completed whom cpu) sound sealed grown done.beside.machine call_told tables old.steps (length w.entries) old.stamps refl (omega arith) sound.limit
       (others_ready old machine whom sound done.beside.marks (trapped_unmarked old whom its_thread.0 sound its_thread.1 (able its_thread.0 its_thread.1))
       (subst (λ (s : FlatState). OthersStay whom.0 (state_of old.machine).threads s.threads) (sym done.state) (call_others (state_of old.machine) whom)))
       (same_out (contents_of old) machine.held.contents done.beside.marks (same_loaded (contents_of old) machine.held.contents done.beside.loaded.residents) sound.out)

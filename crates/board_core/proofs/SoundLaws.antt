@@ -2,9 +2,11 @@
 use Rattle.std.proofs.Common.{◌≡◌, ℕ, ◌+◌, ◌≤◌, Bool, true, false, List, [], ◌∷◌, ◌++◌, length, Option, Some, None, refl, ap, sym, ◌∙◌, subst, arith}
 use Rattle.std.specs.Prelude.{count_by, if◌then◌else◌}
 use Rattle.std.proofs.lemmas.List.{append-nil}
+use Rattle.cache_ident.specs.declared.idents.Ident.{Ident}
 use Rattle.cache_ident.specs.declared.names.Name.{Name}
 use Rattle.cache_ident.specs.declared.names.Name.TheVariants as name
 use Rattle.cache_ident.specs.declared.names.ThreadNo.{ThreadNo}
+use Rattle.depend_lists.specs.declared.nodes.Node.{Node}
 use Rattle.rv32_exec.specs.declared.statuses.Status.TheVariants.{Ready}
 use Rattle.flat_state.specs.declared.events.Event.{Event}
 use Rattle.flat_state.specs.declared.events.Machine.{Machine}
@@ -17,6 +19,7 @@ use Rattle.run_journal.proofs.Growth.{steps-append}
 use Rattle.run_journal.proofs.LegalGrowth.{flat-append}
 use Rattle.cached_machine.specs.desc_stores.specs.Contents.{Contents}
 use Rattle.cached_machine.specs.shown_state.specs.Shown.{shown}
+use Rattle.cached_machine.specs.desc_tables.specs.Tables.{AreSound}
 use Rattle.cached_machine.specs.board_laws.specs.Telling.{AreAsTold}
 use Rattle.cached_machine.specs.board_laws.proofs.Growing.{state_is_flat}
 use Rattle.cached_machine.specs.Cached.{is_loaded, state_of, Cached}
@@ -58,6 +61,12 @@ ready_in old new same whom cpu is = record {
 pub still_ready : (old new : Cached) → state_of new ≡ state_of old → KeepsMarks old.held.contents new.held.contents → AreReady old → AreReady new
 still_ready old new same keeps ready whom cpu is = ready_in old new same whom cpu (ready whom cpu (keeps.marks whom cpu is))
 
+-- ---- tables
+
+-- the tables are sound with some pairs
+abbrev pub HasSoundTables : Cached → Type 0
+HasSoundTables machine = (pairs : List (Ident × Node)) × AreSound machine.held pairs
+
 -- ---- entries without events
 
 pub quiet_erased : (es : List Entry) → AreQuiet es → erase es ≡ []
@@ -81,7 +90,7 @@ unfolding shown
 memory_told old sound = ap (λ (s : FlatState). s.memory) (sym (state_is_flat old.machine.machine old.machine.memory (contents_of old) old.sealed old.journal.entries sound.told))
 
 -- entries without events come, and the machine shows what it showed
-module _ (old : Recorded) (machine : Cached) (w : Written) (sealed : Bool) (es : List Entry) (sound : IsSound old) (quiet : AreQuiet es) where
+module _ (old : Recorded) (machine : Cached) (w : Written) (sealed : Bool) (es : List Entry) (sound : IsSound old) (quiet : AreQuiet es) (tables : HasSoundTables machine) where
   pub quiet_sound : w.entries ≡ old.journal.entries ++ es → machine.machine ≡ old.machine.machine → machine.memory ≡ old.machine.memory → state_of machine ≡ state_of old.machine
       → AreAsTold old.machine.machine old.machine.memory machine.held.contents sealed (old.journal.entries ++ es) → KeepsMarks (contents_of old) machine.held.contents
       → IsSound (record old { machine = machine; journal = w; sealed = sealed })
@@ -96,6 +105,7 @@ module _ (old : Recorded) (machine : Cached) (w : Written) (sealed : Bool) (es :
         out = keeps.out sound.out;
         lasts = λ whom. let last = keeps.lasts whom in let was = sound.lasts whom in omega arith;
         stamps = subst (λ (k : List Entry). AreStamps k machine.memory old.stamps) (sym grown) stamps;
+        tables = tables;
       }
 
 -- what the events of the entries make of the machine, when the journal tells of both

@@ -1,10 +1,13 @@
 -- A machine with its journal, and what holds of both.
 use Rattle.std.specs.Prelude.{◌≡◌, ℕ, ◌<◌, ◌≤◌, Bool, List, Some}
+use Rattle.cache_ident.specs.declared.idents.Ident.{Ident}
 use Rattle.cache_ident.specs.declared.names.ThreadNo.{ThreadNo}
+use Rattle.depend_lists.specs.declared.nodes.Node.{Node}
 use Rattle.rv32_exec.specs.declared.statuses.Status.TheVariants.{Ready}
 use Rattle.flat_rules.specs.Readings.{OfThread}
 use Rattle.run_journal.specs.Entries.{steps_in, Written}
 use Rattle.cached_machine.specs.desc_stores.specs.Contents.{Contents}
+use Rattle.cached_machine.specs.desc_tables.specs.Tables.{AreSound}
 use Rattle.cached_machine.specs.board_laws.specs.Telling.{AreAsTold}
 use Rattle.cached_machine.specs.Cached.{state_of, Cached}
 use Rattle.cached_machine.specs.Posts.{last_of, mark_of, OnlyLoadedAreOut}
@@ -39,8 +42,9 @@ abbrev pub AreCounted : Contents → ℕ → Type 0
 AreCounted c checkouts = (no : ThreadNo) → last_of c no ≤ checkouts
 
 -- The journal is legal, and tells what the machine shows and what is loaded. It has the steps that were taken, which are no
--- more than may be. Each thread that a processor has is ready and loaded, and no checkout has a number above the count. And
--- each frame has a stamp.
+-- more than may be. Each thread that a processor has is ready and loaded, and no checkout has a number above the count. Each
+-- frame has a stamp. And the tables are sound, with the pairs of what depends on what: each descriptor is in exactly one place,
+-- what is loaded has all that it depends on, and each kernel's counts of locks are right.
 pub record IsSound (b : Recorded) : Type 0 where
   pub told : AreAsTold b.machine.machine b.machine.memory (contents_of b) b.sealed b.journal.entries
   pub steps : b.steps ≡ steps_in b.journal.entries
@@ -49,3 +53,4 @@ pub record IsSound (b : Recorded) : Type 0 where
   pub out : OnlyLoadedAreOut (contents_of b)
   pub lasts : AreCounted (contents_of b) b.checkouts
   pub stamps : AreStamps b.journal.entries b.machine.memory b.stamps
+  pub tables : (pairs : List (Ident × Node)) × AreSound b.machine.held pairs

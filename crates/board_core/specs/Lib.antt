@@ -16,5 +16,7 @@ pub use Rattle.cached_machine.specs.thread_sets
 pub mod Stamps
 pub mod Core
 pub mod Growth
+pub mod Going
+pub mod Places
 pub mod Answers
 pub mod Refusals

@@ -4,6 +4,7 @@
 
 mod checks;
 mod core_record;
+mod laws;
 mod opening;
 mod places;
 mod processors;
@@ -17,3 +18,7 @@ pub use cached_machine::{
 };
 pub use checks::{check_away, check_ready, check_steps, check_waiting};
 pub use core_record::Core;
+pub use laws::{
+    each_descriptor_is_in_one_place, two_events_are_one, what_goes_on_twice_goes_on,
+    what_grows_twice_grew,
+};

@@ -27,7 +27,9 @@ impl Core {
         ensures enough { 1 ≤ self.old.journal.spare → 0 < room_of (contents_of self.old) → 0 < self.old.machine.sets.room → IsOk result }
     {
         self.journal.reserve(1)?;
-        self.machine.make_declaration(decl)?;
+        let made = self.machine.make_declaration(decl);
+        known(&self.machine);
+        made?;
         note(&mut self.journal, Entry::Declared { decl: *decl });
         put_stamp(&mut self.stamps, frame_declared(decl), self.journal.len());
         Ok(())
@@ -44,12 +46,14 @@ impl Core {
         ensures sealed { self.new.sealed ≡ true }
         ensures marks { HasSameMarks (contents_of self.old) (contents_of self.new) }
         ensures checkouts { self.new.checkouts ≡ self.old.checkouts }
+        ensures issues { (contents_of self.old).spare ≤ (contents_of self.new).spare + 1 }
     {
         known(&self.machine);
         let at = next_place(&self.journal);
         let ident = self.machine.load(Name::Kernel(KernelNo(0)), &[], at);
         known(&self.machine);
         self.machine.lock(ident);
+        known(&self.machine);
         note_seal(&mut self.journal, ident);
         self.sealed = true;
         self.loaded = 1;

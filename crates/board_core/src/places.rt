@@ -60,9 +60,9 @@ impl Core {
         ensures room { room_of (contents_of self.new) ≡ room_of (contents_of self.old) }
         ensures sets { self.new.machine.sets ≡ self.old.machine.sets }
     {
-        known(&self.machine);
         let at = next_place(&self.journal);
         self.machine.unload(ident, at);
+        known(&self.machine);
         let gone = self.machine.tables().gone();
         self.loaded -= gone.len();
         note_departures(&mut self.journal, gone, cpu);
@@ -80,9 +80,9 @@ impl Core {
         ensures sealed { self.new.sealed ≡ self.old.sealed }
         ensures checkouts { self.new.checkouts ≡ self.old.checkouts }
     {
-        known(&self.machine);
         if !self.machine.tables().is_locked(ident) {
             self.machine.lock(ident);
+            known(&self.machine);
             note(&mut self.journal, Entry::Locked { ident, cpu });
         }
     }
@@ -98,9 +98,9 @@ impl Core {
         ensures sealed { self.new.sealed ≡ self.old.sealed }
         ensures checkouts { self.new.checkouts ≡ self.old.checkouts }
     {
-        known(&self.machine);
         if self.machine.tables().is_locked(ident) {
             self.machine.unlock(ident);
+            known(&self.machine);
             note(&mut self.journal, Entry::Unlocked { ident, cpu });
         }
     }

@@ -10,7 +10,7 @@ ghost use Rattle.cached_machine.specs.Posts.{but_at, last_of, mark_of, OnlyPosts
 ghost use Rattle.board_core.specs.Core.{contents_of};
 ghost use Rattle.board_core.specs.Growth.{one_more};
 
-use crate::core_record::Core;
+use crate::core_record::{Core, known};
 use cache_ident::{Ident, Name, ThreadNo};
 
 impl Core {
@@ -27,6 +27,7 @@ impl Core {
     {
         self.checkouts = self.checkouts.saturating_add(1);
         self.machine.check_out(no, near, cpu, self.checkouts);
+        known(&self.machine);
     }
 
     /// A thread that there is comes away from its processor, if one has it. Where it is loaded with the identifier `near`, that
@@ -39,6 +40,7 @@ impl Core {
         ensures lasts { (other : ThreadNo) → last_of (contents_of self.new) other ≡ last_of (contents_of self.old) other }
     {
         self.machine.check_in(no, near);
+        known(&self.machine);
     }
 
     /// No thread is on a processor any more.
@@ -49,5 +51,6 @@ impl Core {
         ensures lasts { (no : ThreadNo) → last_of (contents_of self.new) no ≡ last_of (contents_of self.old) no }
     {
         self.machine.check_in_all();
+        known(&self.machine);
     }
 }

@@ -33,9 +33,13 @@ impl Core {
         // The fewer of both comes last, so that `spare` stays where memory is wanted.
         if self.machine.spare() < self.journal.spare() {
             self.journal.reserve(n)?;
-            self.machine.reserve(n)
+            let reserved = self.machine.reserve(n);
+            known(&self.machine);
+            reserved
         } else {
-            self.machine.reserve(n)?;
+            let reserved = self.machine.reserve(n);
+            known(&self.machine);
+            reserved?;
             self.journal.reserve(n)
         }
     }
@@ -50,7 +54,9 @@ impl Core {
     {
         known(&self.machine);
         let most = self.loaded + loads + entries;
-        self.machine.reserve(loads)?;
+        let reserved = self.machine.reserve(loads);
+        known(&self.machine);
+        reserved?;
         self.journal.reserve(most)
     }
 
@@ -69,6 +75,8 @@ impl Core {
         ensures ok { OnOk result ((0 < room_of (contents_of self.new)) × (0 < self.new.machine.sets.room)) }
         ensures enough { 0 < room_of (contents_of self.old) → 0 < self.old.machine.sets.room → IsOk result }
     {
-        self.machine.make_room()
+        let made = self.machine.make_room();
+        known(&self.machine);
+        made
     }
 }

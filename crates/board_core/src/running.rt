@@ -53,6 +53,7 @@ impl Core {
     {
         let stored = frame_stored(&self.machine, next);
         cached_machine::events::step(&mut self.machine, no);
+        known(&self.machine);
         self.steps += 1;
         note(&mut self.journal, entry_of_step(no, next.faults, cpu));
         put_stamp(&mut self.stamps, stored, self.journal.len());
@@ -74,8 +75,9 @@ impl Core {
         ensures steps { self.new.steps ≡ self.old.steps + quantum.now.steps }
         ensures checkouts { self.new.checkouts ≡ self.old.checkouts }
         ensures sealed { self.new.sealed ≡ self.old.sealed }
+        ensures spare { (contents_of self.new).spare ≡ (contents_of self.old).spare }
     {
-        known(&self.machine);
+        self.holds();
         self.check_in(no, near);
         if quantum.steps() != 0 {
             self.run_ahead(cpu, no, near, quantum);
@@ -95,7 +97,6 @@ impl Core {
         ensures places { KeepsPlaces self.old self.new }
         ensures steps { self.new.steps ≡ self.old.steps + quantum.now.steps }
     {
-        known(&self.machine);
         let steps = quantum.steps();
         self.steps += u64::from(steps);
         note(
@@ -114,6 +115,7 @@ impl Core {
             quantum,
             self.journal.len(),
         );
+        known(&self.machine);
     }
 
     /// Completes the call of a loaded thread, which can be completed. Afterwards what is loaded must still stand, be fit and have
@@ -128,9 +130,9 @@ impl Core {
         ensures err { OnErr result (OnlyMakesRoom self.old self.new) }
         ensures enough { OfThread (state_of self.old.machine) no.0 (λ t. asked_of (state_of self.old.machine) t ≢ Nothing) → 0 < room_of (contents_of self.old) → 0 < self.old.machine.sets.room → IsOk result }
     {
+        let completed = self.machine.complete(no);
         known(&self.machine);
-        self.machine.complete(no)?;
-        known(&self.machine);
+        completed?;
         note(&mut self.journal, Entry::Completed { thread: no, cpu });
         Ok(())
     }

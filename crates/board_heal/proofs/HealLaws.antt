@@ -1,7 +1,8 @@
 -- Why the chain may be loaded and the step taken, and what that leaves.
-use Rattle.std.proofs.Common.{◌≡◌, ℕ, ◌+◌, ◌<◌, ◌≤◌, Bool, true, false, not, List, [], ◌∷◌, ◌++◌, length, filter, count_by, take, Contains, Option, Some, None, slice_get, refl, ap, sym, ◌∙◌, subst, arith}
+use Rattle.std.proofs.Common.{◌≡◌, ℕ, ◌+◌, ◌-◌, ◌<◌, ◌≤◌, Bool, true, false, not, List, [], ◌∷◌, ◌++◌, length, filter, count_by, take, Contains, Option, Some, None, slice_get, refl, ap, sym, ◌∙◌, subst, arith}
 use Rattle.std.specs.Prelude.{if◌then◌else◌, ◌&&◌, is_some, unwrap_or, IsSome}
 use Rattle.std.specs.Option.{option_map, option_or}
+use Rattle.std.proofs.lemmas.Bool.{le-ltb}
 use Rattle.std.proofs.lemmas.List.{append-nil, take_all}
 use Rattle.std.proofs.lemmas.List.Elements.{Contains-append_right}
 use Rattle.std.proofs.lemmas.List.Sums.{count_by-le-length, length-filter}
@@ -40,23 +41,16 @@ use Rattle.board_chains.proofs.ChainLemmas.{closed_at}
 use Rattle.board_chains.proofs.WholeLemmas.{any_stays, any_there, if_ready, thread_there}
 use Rattle.board_core.specs.Core.{contents_of, IsSound, Recorded}
 use Rattle.board_core.specs.Growth.{count_loaded, entry_of_step, GrowsBy, KeepsPlaces, OnlyMakesRoom}
+use Rattle.board_core.specs.Refusals.{not_ready, not_waiting, over}
 use Rattle.board_core.proofs.CheckLaws.{enough_left, ready_is}
 use Rattle.board_core.proofs.GrowthLaws.{grows_more, same_marks_more}
 use Rattle.board_heal.specs.Healed.{IsHealed}
-use Rattle.board_heal.specs.Loads.{count_others, is_missing, AreLoadedTo, AreLoads, MayComeNext}
-use Rattle.board_heal.specs.Refusals.{refusal_of_found, refusal_of_heal}
+use Rattle.board_heal.specs.Loads.{count_others, is_to_load, AreLoadedTo, AreLoads, MayComeNext}
+use Rattle.board_heal.specs.Promise.{HasStepped, IsHealable}
+use Rattle.board_heal.specs.Refusals.{not_sealed, refusal_of_found, refusal_of_heal, refusal_of_step, refusal_of_waiting}
 use Rattle.board_heal.proofs.WayLaws.{erase_loads}
 
 -- ---- a step that isn't refused
-
-pub record CanHeal (b : Recorded) (whom : ThreadNo) : Type 0 where
-  pub thread : FlatThread
-  pub here : slice_get (state_of b.machine).threads whom.0 ≡ Some thread
-  pub ready : thread.status ≡ Ready
-  pub away : mark_of (contents_of b) whom ≡ None
-  pub left : b.steps < b.limit
-  pub free : full_receiver (state_of b.machine) thread ≡ None
-  pub sealed : b.sealed ≡ true
 
 neither : (a b : Option Refused) → option_or a b ≡ None → (a ≡ None) × (b ≡ None)
 neither None b none = (refl, none)
@@ -70,34 +64,72 @@ passed : (test : Bool) (refused : Refused) → (if test then None else Some refu
 passed true refused none = refl
 passed false refused none = absurd (cc)
 
-pub can_heal : (b : Recorded) (whom : ThreadNo) → refusal_of_heal b whom ≡ None → CanHeal b whom
+pub can_heal : (b : Recorded) (whom : ThreadNo) → refusal_of_heal b whom ≡ None → IsHealable b whom
 can_heal b whom none = by (slice_get (state_of b.machine).threads whom.0) refl none
   where
-    by : (o : Option FlatThread) → slice_get (state_of b.machine).threads whom.0 ≡ o → refusal_of_found b whom o ≡ None → CanHeal b whom
+    by : (o : Option FlatThread) → slice_get (state_of b.machine).threads whom.0 ≡ o → refusal_of_found b whom o ≡ None → IsHealable b whom
     by None is none = absurd (cc)
     by (Some t) is none =
         let first = neither _ _ none in
         let second = neither _ _ first.1 in
         let third = neither _ _ second.1 in
         let fourth = neither _ _ third.1 in
+        let ready = ready_is t.status (passed (is_ready t.status) _ first.0) in
         record {
           thread = t;
-          here = is;
-          ready = ready_is t.status (passed (is_ready t.status) _ first.0);
+          there = is;
+          ready = ready;
           away = no_value why.OnCpu (mark_of (contents_of b) whom) second.0;
           left = let enough = enough_left b 1 (sym third.0) in omega arith;
-          free = no_value why.Held (full_receiver (state_of b.machine) t) fourth.0;
+          not_held = ap (λ (status : Status). is_ready status && is_some (full_receiver (state_of b.machine) t)) ready ∙ ap is_some (no_value why.Held (full_receiver (state_of b.machine) t) fourth.0);
           sealed = passed b.sealed _ fourth.1;
         }
+
+-- where nobody is held there is room for what is sent
+pub not_full : (b : Recorded) (whom : ThreadNo) (can : IsHealable b whom) → full_receiver (state_of b.machine) can.thread ≡ None
+not_full b whom can = by (full_receiver (state_of b.machine) can.thread) (ap (λ (status : Status). is_ready status && is_some (full_receiver (state_of b.machine) can.thread)) (sym can.ready) ∙ can.not_held)
+  where
+    by : (o : Option ThreadNo) → is_some o ≡ false → o ≡ None
+    by None is = refl
+    by (Some x) is = absurd (cc)
+
+both_none : (a b : Option Refused) → a ≡ None → b ≡ None → option_or a b ≡ None
+both_none a b none rest = ap (λ (o : Option Refused). option_or o b) none ∙ rest
+
+one_left : (b : Recorded) → b.steps < b.limit → over b 1 ≡ None
+unfolding over
+one_left b left = ap (λ (fewer : Bool). if fewer then Some (why.Over (b.limit - b.steps)) else None) (le-ltb (b.limit - b.steps) 1 (omega arith))
+
+-- and so no test fails
+pub not_refused : (b : Recorded) (whom : ThreadNo) → IsHealable b whom → refusal_of_heal b whom ≡ None
+not_refused b whom can =
+    let t = can.thread in
+    ap (refusal_of_found b whom) can.there
+    ∙ both_none (not_ready t) _ (ap (λ (status : Status). if is_ready status then None else Some (why.NotRunnable status)) can.ready)
+    (both_none (option_map why.OnCpu (mark_of (contents_of b) whom)) _ (ap (option_map why.OnCpu) can.away)
+    (both_none (over b 1) _ (one_left b can.left)
+    (both_none (option_map why.Held (full_receiver (state_of b.machine) t)) (not_sealed b) (ap (option_map why.Held) (not_full b whom can))
+    (ap (λ (sealed : Bool). if sealed then None else Some why.NotSealed) can.sealed))))
+
+-- its first two tests are those of a thread that waits
+either_first : (a b c : Option Refused) → option_or a (option_or b c) ≡ option_or (option_or a b) c
+either_first None b c = refl
+either_first (Some x) b c = refl
+
+pub first_tests : (b : Recorded) (whom : ThreadNo) (t : FlatThread) → t.no ≡ whom → refusal_of_step b whom t ≡ option_or (not_waiting (contents_of b) t) (refusal_of_waiting b t)
+unfolding not_waiting
+first_tests b whom t named =
+    either_first (not_ready t) (option_map why.OnCpu (mark_of (contents_of b) whom)) (refusal_of_waiting b t)
+    ∙ ap (λ (no : ThreadNo). option_or (option_or (not_ready t) (option_map why.OnCpu (mark_of (contents_of b) no))) (refusal_of_waiting b t)) (sym named)
 
 some_kept : {X : Type 0} (o : Option X) (d x : X) → o ≡ Some x → o ≡ Some (unwrap_or o d)
 some_kept None d x is = absurd (cc)
 some_kept (Some y) d x is = refl
 
 -- the same holds behind room that was made
-module _ (old mid : Recorded) (whom : ThreadNo) (room : OnlyMakesRoom old mid) (can : CanHeal old whom) where
+module _ (old mid : Recorded) (whom : ThreadNo) (room : OnlyMakesRoom old mid) (can : IsHealable old whom) where
   pub here_still : slice_get (state_of mid.machine).threads whom.0 ≡ Some can.thread
-  here_still = ap (λ (s : FlatState). slice_get s.threads whom.0) room.only.state ∙ can.here
+  here_still = ap (λ (s : FlatState). slice_get s.threads whom.0) room.only.state ∙ can.there
 
   pub some_next : IsSome (next_step (state_of mid.machine) whom.0)
   unfolding next_step
@@ -108,6 +140,11 @@ module _ (old mid : Recorded) (whom : ThreadNo) (room : OnlyMakesRoom old mid) (
       let few = count_by-le-length (λ (r : Resident). not (has chain r.name)) (residents_of (contents_of mid)) in
       let same = ap (λ (rs : List Resident). length rs) room.only.loaded.residents in
       omega arith
+
+-- the entry of a step is that event
+step_event : (cpu : ℕ) (whom : ThreadNo) (faults : Bool) → erase (entry_of_step whom faults cpu ∷ []) ≡ Step whom ∷ []
+step_event cpu whom true = refl
+step_event cpu whom false = refl
 
 -- ---- each load
 
@@ -183,10 +220,6 @@ module _ (cpu : ℕ) (whom : ThreadNo) (old b : Recorded) (s : FlatState) (forme
     unfolding after_step
     fits = some_kept (after_event s (Step whom)) s (stepped s whom.0 t (outcome s t)) (ap (step_of s whom.0) here ∙ ap (λ (runnable : Bool). step_if runnable s whom.0 t) runs_so)
 
-    step_event : (faults : Bool) → erase (entry_of_step whom faults cpu ∷ []) ≡ Step whom ∷ []
-    step_event true = refl
-    step_event false = refl
-
     pub healed : IsFewByKind chain → length chain ≤ 21 → (new : Recorded) → GrowsBy (entry_of_step whom next.faults cpu ∷ []) b new → KeepsPlaces b new → new.steps ≡ b.steps + 1 → b.steps ≡ old.steps → IsHealed cpu whom old new
     healed few short new grows places steps still = record {
       next = next;
@@ -198,18 +231,19 @@ module _ (cpu : ℕ) (whom : ThreadNo) (old b : Recorded) (s : FlatState) (forme
       begins = way.begins;
       loaded = contents_of b;
       loads = way.loads;
-      are = subst (λ (names : List Name). AreLoads cpu old.machine.held.caps chain (filter (is_missing (contents_of old)) names) (contents_of way.begun) (length old.journal.entries) (contents_of b) way.loads) whole way.are;
+      are = subst (λ (names : List Name). AreLoads cpu old.machine.held.caps chain (filter (is_to_load (contents_of old)) names) (contents_of way.begun) (length old.journal.entries) (contents_of b) way.loads) whole way.are;
       keeps = places.loaded;
+      spare = let before = way.spare in let same = places.spare in let names = ap (λ (ns : List Name). length (filter (is_to_load (contents_of old)) ns)) whole in omega arith;
       most =
-          let counted = length-filter (is_missing (contents_of old)) chain in
-          let fewer = count_by-le-length (is_missing (contents_of old)) chain in
+          let counted = length-filter (is_to_load (contents_of old)) chain in
+          let fewer = count_by-le-length (is_to_load (contents_of old)) chain in
           omega arith;
       entries = grows_more way.loads (entry_of_step whom next.faults cpu ∷ []) old b new way.grows grows;
       state =
           ap (λ (x : FlatState). after_event x (Step whom)) same
           ∙ fits
           ∙ ap (λ (x : FlatState). Some (applied x (Step whom))) state_is
-          ∙ ap (λ (events : List Event). Some (after_events (state_of b.machine) events)) (sym (step_event next.faults))
+          ∙ ap (λ (events : List Event). Some (after_events (state_of b.machine) events)) (sym (step_event cpu whom next.faults))
           ∙ ap (λ (x : FlatState). Some x) (sym grows.state);
       steps = steps ∙ ap (λ (n : ℕ). n + 1) still;
       there = λ name listed. let found = there name listed in (found.0, loaded found.0 found.1, found.2);
@@ -221,6 +255,21 @@ module _ (cpu : ℕ) (whom : ThreadNo) (old b : Recorded) (s : FlatState) (forme
       where
         loaded : (r : Resident) → Contains (residents_of (contents_of b)) r → Contains (residents_of (contents_of new)) r
         loaded r there = subst (λ (rs : List Resident). Contains rs r) (sym places.loaded.residents) there
+
+-- what healed took exactly that step
+pub has_stepped : (cpu : ℕ) (whom : ThreadNo) (old new : Recorded) → IsHealed cpu whom old new → HasStepped whom old new
+has_stepped cpu whom old new healed = record {
+  fits = healed.state;
+  only =
+      ap erase healed.entries.entries
+      ∙ erase-append old.journal.entries (healed.loads ++ entry_of_step whom healed.next.faults cpu ∷ [])
+      ∙ ap (λ (es : List Event). erase old.journal.entries ++ es) (erase-append healed.loads (entry_of_step whom healed.next.faults cpu ∷ [])
+      ∙ ap (λ (es : List Event). es ++ erase (entry_of_step whom healed.next.faults cpu ∷ [])) (erase_loads cpu _ healed.chain _ _ _ _ healed.loads healed.are)
+      ∙ step_event cpu whom healed.next.faults);
+  steps = healed.steps;
+  stay = λ r here listed. healed.stay r here ((healed.order.each r.name).1 listed);
+  there = λ name listed. healed.there name ((healed.order.each name).1 listed);
+}
 
 -- ---- the chain that was collected
 

@@ -1,4 +1,3 @@
-mod GoneLaws
-mod NextLaws
-mod WayLaws
-mod HealLaws
+pub mod NextLaws
+pub mod WayLaws
+pub mod HealLaws

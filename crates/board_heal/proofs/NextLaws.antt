@@ -37,8 +37,8 @@ use Rattle.board_chains.specs.Lists.{has}
 use Rattle.board_chains.proofs.ListLemmas.{has_not, has_there}
 use Rattle.board_core.specs.Core.{contents_of, Recorded}
 use Rattle.board_core.specs.Growth.{count_unkept, is_kept}
+use Rattle.board_loads.proofs.GoneLaws.{fewer_pass, kept_is_there, loaded_there, new_cases, not_gone}
 use Rattle.board_heal.specs.Loads.{count_others, MayComeNext}
-use Rattle.board_heal.proofs.GoneLaws.{fewer_pass, kept_is_there, new_cases, new_there, not_gone}
 
 -- ---- identifiers that are kept
 
@@ -178,7 +178,7 @@ module _ (b : Recorded) (pairs : List (Ident × Node)) (sound : AreSound b.machi
     stays r there listed = kept_is_there b.machine.held.caps c pairs sound.whole new name keep at gone ident is closed_in r there (in_keep r there listed)
 
     pub comes : IsNameResident (residents_of new) name
-    comes = new_there b.machine.held.caps c pairs sound.whole new name keep at gone ident is
+    comes = let there = loaded_there b.machine.held.caps c pairs sound.whole new name keep at gone ident is in (there.0, there.1, there.3)
 
     pub were : (r : Resident) → Contains (residents_of new) r → Contains rs r ⊎ (r.name ≡ name)
     were = new_cases b.machine.held.caps c pairs sound.whole new name keep at gone ident is

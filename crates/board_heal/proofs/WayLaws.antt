@@ -30,9 +30,10 @@ use Rattle.board_chains.specs.Lists.{AreApart}
 use Rattle.board_chains.proofs.ListLemmas.{apart_before}
 use Rattle.board_core.specs.Core.{contents_of, Recorded}
 use Rattle.board_core.specs.Growth.{OnlyMakesRoom}
-use Rattle.board_core.proofs.GrowthLaws.{erase_back, grows_more}
+use Rattle.board_core.proofs.GrowthLaws.{grows_more}
 use Rattle.board_core.proofs.RoomLaws.{grows_nothing, loaded_marks_still, same_residents}
-use Rattle.board_heal.specs.Loads.{count_others, entries_of_load, is_missing, AreLoadedTo, AreLoads, IsLoadedBeside, IsLoadOfChain, IsThereNow}
+use Rattle.board_loads.proofs.GoneLaws.{erase_load}
+use Rattle.board_heal.specs.Loads.{count_others, entries_of_load, is_to_load, AreLoadedTo, AreLoads, IsLoadedBeside, IsLoadOfChain, IsThereNow}
 
 -- ---- what is loaded
 
@@ -47,9 +48,6 @@ module _ (c : Contents) (n : Name) where
   there_so is = loaded_by (residents_of c) n is
 
 -- ---- entries
-
-erase_load : (cpu : ℕ) (gone : List Gone) (ident : Ident) (name : Name) → erase (entries_of_load cpu gone ident name) ≡ []
-erase_load cpu gone ident name = erase-append (written_back cpu gone) (Loaded ident name cpu ∷ []) ∙ ap (λ (es : List Event). es ++ []) (erase_back cpu gone)
 
 -- loads are no events
 pub erase_loads : (cpu : ℕ) (caps : Caps) (chain names : List Name) (old : Contents) (at : ℕ) (new : Contents) (es : List Entry) → AreLoads cpu caps chain names old at new es → erase es ≡ []
@@ -127,6 +125,7 @@ module _ (cpu : ℕ) (chain : List Name) (old mid : Recorded) (room : OnlyMakesR
     only = λ r there. inl (subst (λ (rs : List Resident). Contains rs r) (same_residents old mid room) there);
     room = omega (arith, fits);
     issues = omega (arith, issues);
+    spare = let more = room.only.spare in omega arith;
     marks = loaded_marks_still old mid room out;
     sealed = ap (λ (b : Recorded). b.sealed) room.rest;
     checkouts = ap (λ (b : Recorded). b.checkouts) room.rest;
@@ -180,8 +179,8 @@ module _ (cpu : ℕ) (chain : List Name) (old mid new : Recorded) (i : ℕ) (nam
   is_loaded_still : IsNameResident (residents_of (contents_of old)) name → IsNameResident (residents_of (contents_of mid)) name
   is_loaded_still found = (found.0, way.stay found.0 found.1 (subst (Contains chain) (sym found.2) listed), found.2)
 
-  missing_so : (b : Bool) → is_missing (contents_of old) name ≡ b → filter (is_missing (contents_of old)) (take (i + 1) chain) ≡ filter (is_missing (contents_of old)) first ++ (if b then name ∷ [] else [])
-  missing_so b is = ap (filter (is_missing (contents_of old))) taken ∙ filter-append (is_missing (contents_of old)) first (name ∷ []) ∙ ap (λ (k : Bool). filter (is_missing (contents_of old)) first ++ (if k then name ∷ [] else [])) is
+  missing_so : (b : Bool) → is_to_load (contents_of old) name ≡ b → filter (is_to_load (contents_of old)) (take (i + 1) chain) ≡ filter (is_to_load (contents_of old)) first ++ (if b then name ∷ [] else [])
+  missing_so b is = ap (filter (is_to_load (contents_of old))) taken ∙ filter-append (is_to_load (contents_of old)) first (name ∷ []) ∙ ap (λ (k : Bool). filter (is_to_load (contents_of old)) first ++ (if k then name ∷ [] else [])) is
 
   -- it was there
   was_there : IsNameResident (residents_of (contents_of mid)) name → AreLoadedTo cpu chain (i + 1) old mid
@@ -203,6 +202,10 @@ module _ (cpu : ℕ) (chain : List Name) (old mid new : Recorded) (i : ℕ) (nam
     ];
     room = let fits = way.room in omega arith;
     issues = let fits = way.issues in omega arith;
+    spare =
+        let before = way.spare in
+        let long = ap length (missing_so false (ap not (is_there (contents_of old) name (was_loaded found))) ∙ append-nil _) in
+        omega arith;
     marks = way.marks;
     sealed = way.sealed;
     checkouts = way.checkouts;
@@ -216,7 +219,7 @@ module _ (cpu : ℕ) (chain : List Name) (old mid new : Recorded) (i : ℕ) (nam
     loads = way.loads ++ entries_of_load cpu load.gone load.ident name;
     are = subst (λ (ns : List Name). AreLoads cpu caps chain ns (contents_of way.begun) place (contents_of new) (way.loads ++ entries_of_load cpu load.gone load.ident name))
         (sym (missing_so true (ap not (is_not (contents_of old) name (λ found. never (is_loaded_still found))))))
-        (one_load_more cpu caps chain (filter (is_missing (contents_of old)) first) (contents_of way.begun) place (contents_of mid) way.loads (contents_of new) name load.gone load.ident way.are
+        (one_load_more cpu caps chain (filter (is_to_load (contents_of old)) first) (contents_of way.begun) place (contents_of mid) way.loads (contents_of new) name load.gone load.ident way.are
         (load_here load.gone load.ident load.load));
     grows = grows_more way.loads (entries_of_load cpu load.gone load.ident name) old mid new way.grows load.grows;
     state = load.grows.state ∙ ap (after_events (state_of mid.machine)) (erase_load cpu load.gone load.ident name) ∙ way.state;
@@ -239,6 +242,12 @@ module _ (cpu : ℕ) (chain : List Name) (old mid new : Recorded) (i : ℕ) (nam
         let long = length_load cpu load.gone load.ident name in
         omega arith;
     issues = let fits = way.issues in let one = load.issues in omega arith;
+    spare =
+        let before = way.spare in
+        let one = load.issues in
+        let more = ap length (missing_so true (ap not (is_not (contents_of old) name (λ found. never (is_loaded_still found))))) in
+        let long = length-append (filter (is_to_load (contents_of old)) first) (name ∷ []) in
+        omega arith;
     marks = marks_further (contents_of old) (contents_of mid) (contents_of new) out way.marks load.marks (λ whom now was.
         let found = there_so (contents_of new) (Thread whom) now in
         elim (load.only found.0 found.1) [

@@ -15,11 +15,12 @@ use Rattle.board_core.specs.cached_machine.specs.Posts.{HasLoadedMarks}
 use Rattle.board_chains.specs.Chains.{IsChainInOrder, IsFewByKind}
 use Rattle.board_core.specs.Core.{contents_of, Recorded}
 use Rattle.board_core.specs.Growth.{entry_of_step, GrowsBy, OnlyMakesRoom}
-use Rattle.board_heal.specs.Loads.{is_missing, AreLoads}
+use Rattle.board_heal.specs.Loads.{is_to_load, AreLoads}
 
 -- A processor loaded what was missing of the chain of a thread's next step, in order, and took the step, which fits. Before the
 -- loads nothing changed but room, and the step changed nothing of what is loaded. The chain has at most 5 kernels, 5 spaces,
--- 5 threads and 6 rows. All of it is loaded, and nothing of it has left. A thread that is still loaded is where it was.
+-- 5 threads and 6 rows. All of it is loaded, and nothing of it has left. A thread that is still loaded is where it was. At most an
+-- identifier fewer for each load can be issued without memory.
 pub record IsHealed (cpu : ℕ) (whom : ThreadNo) (old new : Recorded) : Type 0 where
   pub next : NextStep
   pub its : next_step (state_of old.machine) whom.0 ≡ Some next
@@ -30,9 +31,9 @@ pub record IsHealed (cpu : ℕ) (whom : ThreadNo) (old new : Recorded) : Type 0 
   pub begins : OnlyMakesRoom old begun
   pub loaded : Contents
   pub loads : List Entry
-  pub are : AreLoads cpu old.machine.held.caps chain (filter (is_missing (contents_of old)) chain) (contents_of begun) (length old.journal.entries) loaded loads
+  pub are : AreLoads cpu old.machine.held.caps chain (filter (is_to_load (contents_of old)) chain) (contents_of begun) (length old.journal.entries) loaded loads
   pub keeps : KeepsLoaded loaded (contents_of new)
-  pub most : length (filter (is_missing (contents_of old)) chain) ≤ 21
+  pub most : length (filter (is_to_load (contents_of old)) chain) ≤ 21
   pub entries : GrowsBy (loads ++ entry_of_step whom next.faults cpu ∷ []) old new
   pub state : after_event (state_of old.machine) (Step whom) ≡ Some (state_of new.machine)
   pub steps : new.steps ≡ old.steps + 1
@@ -41,3 +42,4 @@ pub record IsHealed (cpu : ℕ) (whom : ThreadNo) (old new : Recorded) : Type 0 
   pub marks : HasLoadedMarks (contents_of old) (contents_of new)
   pub sealed : new.sealed ≡ old.sealed
   pub checkouts : new.checkouts ≡ old.checkouts
+  pub spare : (contents_of old).spare ≤ (contents_of new).spare + length (filter (is_to_load (contents_of old)) chain)

@@ -1,3 +1,4 @@
 pub mod Refusals
 pub mod Loads
 pub mod Healed
+pub mod Promise

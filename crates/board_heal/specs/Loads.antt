@@ -22,8 +22,8 @@ use Rattle.board_core.specs.Core.{contents_of, Recorded}
 use Rattle.board_core.specs.Growth.{GrowsBy, OnlyMakesRoom}
 
 -- the name isn't loaded
-abbrev pub is_missing : Contents → Name → Bool
-is_missing c name = not (is_loaded c name)
+abbrev pub is_to_load : Contents → Name → Bool
+is_to_load c name = not (is_loaded c name)
 
 -- what a processor writes as it loads a name: what left for it, and the load
 abbrev pub entries_of_load : ℕ → List Gone → Ident → Name → List Entry
@@ -87,7 +87,7 @@ pub record AreLoadedTo (cpu : ℕ) (chain : List Name) (i : ℕ) (old new : Reco
   pub begun : Recorded
   pub begins : OnlyMakesRoom old begun
   pub loads : List Entry
-  pub are : AreLoads cpu old.machine.held.caps chain (filter (is_missing (contents_of old)) (take i chain)) (contents_of begun) (length old.journal.entries) (contents_of new) loads
+  pub are : AreLoads cpu old.machine.held.caps chain (filter (is_to_load (contents_of old)) (take i chain)) (contents_of begun) (length old.journal.entries) (contents_of new) loads
   pub grows : GrowsBy loads old new
   pub state : state_of new.machine ≡ state_of old.machine
   pub there : (name : Name) → Contains (take i chain) name → IsNameResident (residents_of (contents_of new)) name
@@ -95,6 +95,7 @@ pub record AreLoadedTo (cpu : ℕ) (chain : List Name) (i : ℕ) (old new : Reco
   pub only : (r : Resident) → Contains (residents_of (contents_of new)) r → Contains (residents_of (contents_of old)) r ⊎ Contains (take i chain) r.name
   pub room : count_others new chain + length chain + 1 ≤ new.journal.spare + i
   pub issues : length chain ≤ (contents_of new).spare + i
+  pub spare : (contents_of old).spare ≤ (contents_of new).spare + length (filter (is_to_load (contents_of old)) (take i chain))
   pub marks : HasLoadedMarks (contents_of old) (contents_of new)
   pub sealed : new.sealed ≡ old.sealed
   pub checkouts : new.checkouts ≡ old.checkouts

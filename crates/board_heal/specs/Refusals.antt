@@ -16,19 +16,23 @@ use Rattle.board_core.specs.Refusals.{not_ready, over}
 abbrev pub not_sealed : Recorded → Option Refused
 not_sealed b = if b.sealed then None else Some why.NotSealed
 
--- of a thread that there is: it isn't ready, a processor has it, no step is left, a receiver has no room for what the step
--- signals, or declarations haven't ended
-abbrev pub refusal_of_thread : Recorded → ThreadNo → FlatThread → Option Refused
-refusal_of_thread b whom t =
+-- of a thread that waits: no step is left, a receiver has no room for what the step signals, or declarations haven't ended
+abbrev pub refusal_of_waiting : Recorded → FlatThread → Option Refused
+refusal_of_waiting b t =
+    option_or (over b 1)
+    (option_or (option_map why.Held (full_receiver (state_of b.machine) t))
+    (not_sealed b))
+
+-- of a thread that there is: it isn't ready, or a processor has it, and then as one that waits
+abbrev pub refusal_of_step : Recorded → ThreadNo → FlatThread → Option Refused
+refusal_of_step b whom t =
     option_or (not_ready t)
     (option_or (option_map why.OnCpu (mark_of (contents_of b) whom))
-    (option_or (over b 1)
-    (option_or (option_map why.Held (full_receiver (state_of b.machine) t))
-    (not_sealed b))))
+    (refusal_of_waiting b t))
 
 abbrev pub refusal_of_found : Recorded → ThreadNo → Option FlatThread → Option Refused
 refusal_of_found b whom None = Some (why.NotDeclared (name.Thread whom))
-refusal_of_found b whom (Some t) = refusal_of_thread b whom t
+refusal_of_found b whom (Some t) = refusal_of_step b whom t
 
 abbrev pub refusal_of_heal : Recorded → ThreadNo → Option Refused
 refusal_of_heal b whom = refusal_of_found b whom (slice_get (state_of b.machine).threads whom.0)

@@ -6,6 +6,7 @@ ghost use Rattle.board_core.specs.cached_machine.specs.Cached.{state_of};
 ghost use Rattle.board_core.specs.board_ops.specs.declared.refusals.Refused.TheVariants.{NoMemory};
 ghost use Rattle.board_core.specs.Answers.{HasSpare, IsRefused};
 ghost use Rattle.board_heal.specs.Healed.{IsHealed};
+ghost use Rattle.board_heal.specs.Promise.{HasStepped, IsHealable};
 ghost use Rattle.board_heal.specs.Refusals.{refusal_of_heal};
 
 use crate::checks::check_heal;
@@ -21,13 +22,15 @@ use flat_state::NextStep;
 ///
 /// It is refused where there is no such thread (`NotDeclared`), the thread isn't ready (`NotRunnable`), a processor has it
 /// (`OnCpu`), no step is left (`Over`), a receiver of what the step signals has no room (`Held`), and before the seal
-/// (`NotSealed`). It costs some searches for each descriptor of the chain, and as many for each that leaves.
+/// (`NotSealed`). So on a sealed board with a step left it does this, or wants memory (`NoMemory`), for each thread that there is
+/// and that is ready, on no processor and not held, whatever is loaded. It costs some searches for each descriptor of the chain, and as many for each that leaves.
 #[tactic(auto, unfolding(board_core::specs::Refusals::over))]
 pub fn heal_step(core: &mut Core, cpu: u32, no: ThreadNo) -> Result<(), Refused>
     requires processor { cpu < 8 }
     ensures refused { IfErr result (IsRefused (refusal_of_heal core.old no) core.old core.new) }
     ensures done { OnOk result (refusal_of_heal core.old no ≡ None) }
     ensures healed { OnOk result (IsHealed cpu no core.old core.new) }
+    ensures promised { IsHealable core.old no → IfErr result (λ why. why ≡ NoMemory) × OnOk result (HasStepped no core.old core.new) }
     ensures enough { HasSpare core.old 22 → IfErr result (λ why. why ≢ NoMemory) }
 {
     let checked = check_heal(core, no);

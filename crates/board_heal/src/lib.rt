@@ -5,6 +5,8 @@
 
 mod checks;
 mod healing;
+mod laws;
 mod loads;
 
 pub use healing::heal_step;
+pub use laws::its_first_tests_are_those_of_waiting;

@@ -1,5 +1,5 @@
 -- What an unload, a lock and the end of one did behind room that was made, they did to the board as it was before.
-use Rattle.std.proofs.Common.{◌≡◌, ◌≢◌, ℕ, ◌<◌, Bool, true, List, Contains, Some, length, sym, ◌∙◌, ap, subst}
+use Rattle.std.proofs.Common.{◌≡◌, ◌≢◌, ℕ, ◌<◌, ◌≤◌, Bool, true, List, Contains, Some, length, sym, ◌∙◌, ap, subst, arith}
 use Rattle.std.proofs.lemmas.Option.{same_Some}
 use Rattle.cache_ident.specs.declared.idents.Ident.{Ident}
 use Rattle.cache_ident.specs.declared.names.Name.{Name}
@@ -7,20 +7,24 @@ use Rattle.cache_ident.specs.declared.rolls.Issued.{Issued}
 use Rattle.cache_ident.specs.Names.{first_name}
 use Rattle.cache_ident.specs.Residents.{with_lock, IsResident, Resident}
 use Rattle.flat_state.specs.Dependence.{owner}
+use Rattle.flat_state.specs.Events.{after_events}
 use Rattle.flat_state.specs.State.{FlatState}
 use Rattle.run_journal.specs.Groups.{IsGroup}
 use Rattle.run_journal.specs.Legal.{first_ident, limit_of, locked_by}
 use Rattle.board_core.specs.desc_stores.specs.Contents.{resident_as, residents_of, Contents, LockIs}
 use Rattle.board_core.specs.store_residents.proofs.ResidentLemmas.{resident_loaded}
+use Rattle.board_core.specs.shown_state.specs.Shown.{shown}
 use Rattle.board_core.specs.desc_parents.specs.Seen.{seen}
 use Rattle.board_core.specs.desc_groups.specs.Moves.{departed_all, idents_of, MayBeLocked}
 use Rattle.board_core.specs.group_laws.specs.Leaving.{without_all}
 use Rattle.board_core.specs.board_laws.specs.Moves.{written_back, IsLock, IsUnload}
 use Rattle.board_core.specs.board_laws.proofs.First.{first, first_there}
+use Rattle.board_core.specs.cached_machine.specs.Cached.{state_of}
 use Rattle.board_core.specs.cached_machine.specs.Posts.{HasLoadedMarks, HasSameMarks}
 use Rattle.board_core.specs.Core.{contents_of, IsSound, Recorded}
 use Rattle.board_core.specs.Growth.{GrowsBy, OnlyMakesRoom}
 use Rattle.board_loads.specs.Holds.{entries_of_lock, IsLockedAs, IsUnloadedAs}
+use Rattle.board_core.proofs.GrowthLaws.{erase_back}
 use Rattle.board_core.proofs.RoomLaws.{grows_before, loaded_marks_before, same_checkouts, same_entries, same_issued, same_marks_before, same_residents, same_sealed, same_seen}
 
 -- what is loaded with an identifier
@@ -70,6 +74,7 @@ module _ (old mid : Recorded) (room : OnlyMakesRoom old mid) (ident : Ident) (n 
     marks = same_marks_before old mid room (contents_of new) marks;
     sealed = sealed ∙ same_sealed old mid room;
     checkouts = checkouts ∙ same_checkouts old mid room;
+    spare = let same = lock.contents.spare in let more = room.only.spare in omega arith;
   }
 
   -- ---- unloads
@@ -79,8 +84,9 @@ module _ (old mid : Recorded) (room : OnlyMakesRoom old mid) (ident : Ident) (n 
       → IsUnload (contents_of mid) (contents_of new) ident (length mid.journal.entries) new.machine.held.gone
       → HasLoadedMarks (contents_of mid) (contents_of new)
       → new.sealed ≡ mid.sealed → new.checkouts ≡ mid.checkouts
+      → (contents_of new).spare ≡ (contents_of mid).spare
       → IsUnloadedAs cpu ident old new
-  unloaded_before cpu new grows unload marks sealed checkouts = record {
+  unloaded_before cpu new grows unload marks sealed checkouts issues = record {
     root = r.0;
     there = r.1;
     its = r.2;
@@ -92,7 +98,27 @@ module _ (old mid : Recorded) (room : OnlyMakesRoom old mid) (ident : Ident) (n 
     issued = unload.issued
         ∙ ap (λ (issued : List Issued). departed_all issued (idents_of new.machine.held.gone) (length mid.journal.entries)) (same_issued old mid room)
         ∙ ap (departed_all (contents_of old).issued (idents_of new.machine.held.gone)) (ap length (same_entries old mid room));
+    state = grows.state ∙ ap (after_events (state_of mid.machine)) (erase_back cpu new.machine.held.gone) ∙ room.only.state;
     marks = loaded_marks_before old mid room (contents_of new) marks;
     sealed = sealed ∙ same_sealed old mid room;
     checkouts = checkouts ∙ same_checkouts old mid room;
+    spare = let more = room.only.spare in omega arith;
   }
+
+-- ---- what the core says
+
+pub core_unload : (cpu : ℕ) (ident : Ident) (old new : Recorded) → IsUnloadedAs cpu ident old new → IsUnload (contents_of old) (contents_of new) ident (length old.journal.entries) new.machine.held.gone
+unfolding shown
+core_unload cpu ident old new is = record {
+  group = λ r there its.
+      let one : r ≡ is.root = same_Some r is.root (sym (loaded_as (contents_of old) ident r there its) ∙ loaded_as (contents_of old) ident is.root is.there is.its) in
+      subst (λ (x : Resident). IsGroup (seen (contents_of old)) (residents_of (contents_of old)) x (idents_of new.machine.held.gone)) (sym one) is.group;
+  causes = is.causes;
+  residents = is.residents;
+  issued = is.issued;
+  shows = λ machine memory. ap (λ (s : FlatState). let x : FlatState = record s { machine = machine; memory = memory } in x) is.state;
+}
+
+pub core_lock : (cpu : ℕ) (ident : Ident) (on was : Bool) (old new : Recorded) → IsLockedAs cpu ident on old new → LockIs (contents_of old) ident was → GrowsBy (entries_of_lock on was ident cpu) old new
+core_lock cpu ident on was old new is locked =
+    subst (λ (b : Bool). GrowsBy (entries_of_lock on b ident cpu) old new) (locked is.found (loaded_as (contents_of old) ident is.found is.there is.its)) is.entries

@@ -1,3 +1,4 @@
 pub mod SealLaws
+pub mod GoneLaws
 pub mod LoadLaws
 pub mod HoldLaws

@@ -1,12 +1,17 @@
 -- What a load did behind room that was made, it did to the board as it was before.
-use Rattle.std.proofs.Common.{◌≡◌, ℕ, ◌<◌, List, [], ◌∷◌, ◌++◌, Contains, Some, None, length, sym, ◌∙◌, ap, subst}
-use Rattle.std.specs.Prelude.{IsSome}
+use Rattle.std.proofs.Common.{◌≡◌, ℕ, ◌<◌, ◌≤◌, ◌+◌, List, [], ◌∷◌, ◌++◌, Contains, Option, Some, None, Result, Ok, Err, length, refl, sym, ◌∙◌, ap, subst, arith}
+use Rattle.std.specs.Prelude.{IfOk, IsSome, OnOk}
+use Rattle.std.specs.Option.{option_map}
+use Rattle.std.specs.Result.{result_err}
+use Rattle.std.proofs.lemmas.Option.{same_Some}
 use Rattle.cache_ident.specs.declared.idents.Ident.{Ident}
 use Rattle.cache_ident.specs.declared.idents.Kind.{Kind}
 use Rattle.cache_ident.specs.declared.names.Caps.{Caps}
 use Rattle.cache_ident.specs.declared.names.Name.{Name}
 use Rattle.cache_ident.specs.declared.names.Name.TheVariants as name
+use Rattle.cache_ident.specs.declared.names.SpaceNo.{SpaceNo}
 use Rattle.cache_ident.specs.declared.names.ThreadNo.{ThreadNo}
+use Rattle.cache_ident.specs.declared.names.Vpn.{Vpn}
 use Rattle.cache_ident.specs.declared.rolls.Issued.{Issued}
 use Rattle.cache_ident.specs.Names.{amount_of, kind_of}
 use Rattle.cache_ident.specs.Residents.{with_loaded, Resident}
@@ -14,12 +19,13 @@ use Rattle.cache_ident.specs.Rolls.{just_issued}
 use Rattle.depend_lists.specs.declared.nodes.Node.{Node}
 use Rattle.flat_state.specs.Dependence.{Depends, DependsFar}
 use Rattle.flat_state.specs.Names.{is_fit_name, stands}
+use Rattle.flat_state.specs.Events.{after_events}
 use Rattle.flat_state.specs.State.{FlatState}
 use Rattle.run_journal.specs.declared.entries.Entry.TheVariants.{Loaded}
 use Rattle.run_journal.specs.Groups.{HasParents, IsGroup}
 use Rattle.run_journal.specs.Legal.{count_of, IsTaken}
 use Rattle.board_core.specs.group_laws.specs.Leaving.{without_all}
-use Rattle.board_core.specs.desc_stores.specs.Contents.{content_of, residents_of, IsFullOf, IsShelved}
+use Rattle.board_core.specs.desc_stores.specs.Contents.{content_of, residents_of, Contents, IsFullOf, IsShelved}
 use Rattle.board_core.specs.shown_state.proofs.LookupLemmas.{name_stands}
 use Rattle.board_core.specs.store_residents.specs.Victims.{IsOldest}
 use Rattle.board_core.specs.store_residents.proofs.ContentLemmas.{shelved_iff}
@@ -30,13 +36,17 @@ use Rattle.board_core.specs.desc_groups.specs.Moves.{departed_all, idents_of}
 use Rattle.board_core.specs.desc_admits.specs.May.{MayBeLoaded}
 use Rattle.board_core.specs.desc_tables.specs.Tables.{AreSound}
 use Rattle.board_core.specs.board_laws.specs.Moves.{written_back, IsLoad}
+use Rattle.board_core.specs.cached_machine.specs.Cached.{state_of}
 use Rattle.board_core.specs.cached_machine.specs.Posts.{mark_of, HasLoadedMarks}
 use Rattle.board_core.specs.board_laws.proofs.Growing.{formed_told}
+use Rattle.board_core.specs.board_ops.specs.declared.refusals.Refused.{Refused}
 use Rattle.board_checks.specs.Facts.{IsFormed, IsLoadable}
+use Rattle.board_checks.specs.Identifiers.{space_as}
 use Rattle.board_checks.specs.Keeps.{IsAbove}
 use Rattle.board_core.specs.Core.{contents_of, IsSound, Recorded}
 use Rattle.board_core.specs.Growth.{GrowsBy, OnlyMakesRoom}
 use Rattle.board_loads.specs.Loads.{IsLoadedAs}
+use Rattle.board_loads.proofs.GoneLaws.{erase_load, kept_is_there, loaded_there}
 use Rattle.board_core.proofs.RoomLaws.{grows_before, loaded_marks_before, same_checkouts, same_entries, same_issued, same_residents, same_sealed, same_seen, same_shows}
 
 -- what a board shows is as events can make it
@@ -141,21 +151,47 @@ module _ (old mid : Recorded) (room : OnlyMakesRoom old mid) (were are : List (I
       shows = λ machine memory. load.shows machine memory ∙ same_shows old mid room machine memory;
     }
 
+    -- loads and departures are no events
+    same_state : (cpu : ℕ) → GrowsBy (written_back cpu gone ++ Loaded ident n cpu ∷ []) mid new → state_of new.machine ≡ state_of old.machine
+    same_state cpu grows =
+        grows.state
+        ∙ ap (after_events (state_of mid.machine)) (erase_load cpu gone ident n)
+        ∙ room.only.state
+
     pub loaded_before : (cpu : ℕ) → IsLoadable (contents_of old) n → MayBeLoaded (contents_of mid) n keep → ((kept : Ident) → Contains keep kept → IsAbove (contents_of mid) n kept)
         → GrowsBy (written_back cpu gone ++ Loaded ident n cpu ∷ []) mid new
         → IsLoad mid.machine.held.caps (contents_of mid) (contents_of new) n keep (length mid.journal.entries) gone ident
         → HasLoadedMarks (contents_of mid) (contents_of new)
         → ((no : ThreadNo) → n ≡ name.Thread no → mark_of (contents_of new) no ≡ None)
         → new.sealed ≡ mid.sealed → new.checkouts ≡ mid.checkouts
+        → (contents_of mid).spare ≤ (contents_of new).spare + 1
         → IsLoadedAs cpu n ident old new
-    loaded_before cpu loadable may only grows load marks unmarked sealed checkouts = record {
+    loaded_before cpu loadable may only grows load marks unmarked sealed checkouts issues = let was = load_before load in let kept = may_before n keep loadable may in record {
       keep = keep;
-      may = may_before n keep loadable may;
-      only = λ kept there. above_before n kept (only kept there);
+      may = kept;
+      only = λ above there. above_before n above (only above there);
       entries = grows_before old mid room (written_back cpu gone ++ Loaded ident n cpu ∷ []) new grows;
-      load = load_before load;
+      load = was;
+      there = loaded_there old.machine.held.caps (contents_of old) were was_sound.whole (contents_of new) n keep (length old.journal.entries) gone ident was;
+      stay = kept_is_there old.machine.held.caps (contents_of old) were was_sound.whole (contents_of new) n keep (length old.journal.entries) gone ident was kept.kept.closed;
+      state = same_state cpu grows;
       marks = loaded_marks_before old mid room (contents_of new) marks;
       unmarked = unmarked;
       sealed = sealed ∙ same_sealed old mid room;
       checkouts = checkouts ∙ same_checkouts old mid room;
+      spare = let more = room.only.spare in omega arith;
     }
+
+-- a row that was loaded is that of the page in the space that was asked for
+pub row_loaded : (c : Contents) (parent : Ident) (vpn : Vpn) (checked : Result Name Refused) (result : Result Ident Refused) (cpu : ℕ) (old new : Recorded)
+    → IfOk checked (λ n. option_map (λ (space : SpaceNo). name.Mapping space vpn) (space_as c parent) ≡ Some n)
+    → OnOk result (result_err checked ≡ None)
+    → IfOk result (λ ident. IfOk checked (λ n. IsLoadedAs cpu n ident old new))
+    → IfOk result (λ ident. (space : SpaceNo) × (space_as c parent ≡ Some space) × IsLoadedAs cpu (name.Mapping space vpn) ident old new)
+row_loaded c parent vpn checked (Err w) cpu old new named done loaded = tt
+row_loaded c parent vpn (Err w) (Ok ident) cpu old new named done loaded = absurd (cc)
+row_loaded c parent vpn (Ok n) (Ok ident) cpu old new named done loaded = by (space_as c parent) refl named
+  where
+    by : (o : Option SpaceNo) → space_as c parent ≡ o → option_map (λ (space : SpaceNo). name.Mapping space vpn) o ≡ Some n → (space : SpaceNo) × (space_as c parent ≡ Some space) × IsLoadedAs cpu (name.Mapping space vpn) ident old new
+    by None is none = absurd (cc)
+    by (Some space) is same = (space, is, subst (λ (x : Name). IsLoadedAs cpu x ident old new) (sym (same_Some (name.Mapping space vpn) n same)) loaded)

@@ -1,5 +1,5 @@
 -- What an unload, a lock and the end of a lock leave of the board.
-use Rattle.std.specs.Prelude.{◌≡◌, ℕ, Bool, true, false, if◌then◌else◌, List, [], ◌∷◌, Contains, length}
+use Rattle.std.specs.Prelude.{◌≡◌, ℕ, ◌≤◌, Bool, true, false, if◌then◌else◌, List, [], ◌∷◌, Contains, length}
 use Rattle.cache_ident.specs.declared.idents.Cause.TheVariants.{Unloaded}
 use Rattle.cache_ident.specs.declared.idents.Ident.{Ident}
 use Rattle.cache_ident.specs.Residents.{Resident, with_lock}
@@ -11,12 +11,14 @@ use Rattle.board_core.specs.desc_parents.specs.Seen.{seen}
 use Rattle.board_core.specs.desc_groups.specs.Moves.{departed_all, gone_as, idents_of}
 use Rattle.board_core.specs.group_laws.specs.Leaving.{without_all}
 use Rattle.board_core.specs.board_laws.specs.Moves.{written_back}
+use Rattle.board_core.specs.cached_machine.specs.Cached.{state_of}
 use Rattle.board_core.specs.cached_machine.specs.Posts.{HasLoadedMarks, HasSameMarks}
 use Rattle.board_core.specs.Core.{contents_of, Recorded}
 use Rattle.board_core.specs.Growth.{GrowsBy}
 
 -- A processor unloaded what had the identifier, and before it all that depends on it, which is in the journal, and is stale from
--- there on. A thread that is still loaded is where it was.
+-- there on. The machine shows what it showed. A thread that is still loaded is where it was. No fewer identifiers can be issued
+-- without memory.
 pub record IsUnloadedAs (cpu : ℕ) (ident : Ident) (old new : Recorded) : Type 0 where
   pub root : Resident
   pub there : Contains (residents_of (contents_of old)) root
@@ -26,9 +28,11 @@ pub record IsUnloadedAs (cpu : ℕ) (ident : Ident) (old new : Recorded) : Type 
   pub entries : GrowsBy (written_back cpu new.machine.held.gone) old new
   pub residents : residents_of (contents_of new) ≡ without_all (idents_of new.machine.held.gone) (residents_of (contents_of old))
   pub issued : (contents_of new).issued ≡ departed_all (contents_of old).issued (idents_of new.machine.held.gone) (length old.journal.entries)
+  pub state : state_of new.machine ≡ state_of old.machine
   pub marks : HasLoadedMarks (contents_of old) (contents_of new)
   pub sealed : new.sealed ≡ old.sealed
   pub checkouts : new.checkouts ≡ old.checkouts
+  pub spare : (contents_of old).spare ≤ (contents_of new).spare
 
 -- the entry of a lock, or of its end, of what was locked or not: none where it is as it was
 abbrev pub entries_of_lock : Bool → Bool → Ident → ℕ → List Entry
@@ -46,3 +50,4 @@ pub record IsLockedAs (cpu : ℕ) (ident : Ident) (on : Bool) (old new : Recorde
   pub marks : HasSameMarks (contents_of old) (contents_of new)
   pub sealed : new.sealed ≡ old.sealed
   pub checkouts : new.checkouts ≡ old.checkouts
+  pub spare : (contents_of old).spare ≤ (contents_of new).spare

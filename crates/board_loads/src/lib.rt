@@ -5,7 +5,9 @@
 #![tactic(auto)]
 
 mod holds;
+mod laws;
 mod loads;
 
 pub use holds::{lock, unload, unlock};
+pub use laws::{a_lock_is_one_of_the_core, an_unload_is_one_of_the_core};
 pub use loads::{load_kernel, load_mapping, load_space, load_thread};

@@ -12,7 +12,7 @@ use Rattle.board_commits.specs.board_core.specs.Core.{Recorded}
 use Rattle.board_commits.specs.board_core.specs.Growth.{GrowsBy, OnlyMakesRoom}
 use Rattle.board_commits.specs.board_threads.specs.declared.tickets.Ticket.{Ticket}
 use Rattle.board_commits.specs.board_threads.specs.Posts.{OnlyMarks}
-use Rattle.board_commits.specs.Tickets.{AreKept, AreOfTicket}
+use Rattle.board_commits.specs.Tickets.{AreAllAsOf, AreOfTicket}
 use Rattle.board_commits.proofs.KeptLaws.{kept_begun, kept_stays, kept_unbegun}
 use Rattle.board_commits.proofs.TicketLaws.{views_stay}
 use Rattle.cache_board.specs.declared.place.Place.{Place}
@@ -80,8 +80,8 @@ module _ (b b′ : Recorded) (grown : HasGrown b b′) where
     views = subst (λ (j : List Entry). AreOfTicket j ticket.thread place.quantum) (sym grown.1) (views_stay b.journal.entries grown.0 ticket.thread place.quantum of.views);
   }
 
-  kept_then : (a : Ahead) → AreKept b.journal.entries a → AreKept b′.journal.entries a
-  kept_then a kept = subst (λ (j : List Entry). AreKept j a) (sym grown.1) (kept_stays b.journal.entries grown.0 a kept)
+  kept_then : (a : Ahead) → AreAllAsOf b.journal.entries a → AreAllAsOf b′.journal.entries a
+  kept_then a kept = subst (λ (j : List Entry). AreAllAsOf j a) (sym grown.1) (kept_stays b.journal.entries grown.0 a kept)
 
   own_stays : (cpu : ℕ) (place : Place) → IsItsOwn b.journal.entries cpu place → IsItsOwn b′.journal.entries cpu place
   own_stays cpu place own = record { its = λ ticket is. its_stays cpu place ticket (own.its ticket is); kept = kept_then place.quantum own.kept }
@@ -120,7 +120,7 @@ module _ (cpu : ℕ) (b : Recorded) (old : Place) (own : IsItsOwn b.journal.entr
   checkout_keeps (answers.Out (Some whom)) after new done =
       let grown = not_grown b after (ap (λ (x : Recorded). x.journal.entries) done.4.rest) in
       let begins = begun done.0.context old.quantum in
-      let kept : AreKept after.journal.entries begins = kept_begun after.journal.entries done.0.context old.quantum (kept_then b after grown old.quantum own.kept) in
+      let kept : AreAllAsOf after.journal.entries begins = kept_begun after.journal.entries done.0.context old.quantum (kept_then b after grown old.quantum own.kept) in
       let fresh : IsItsOwn after.journal.entries cpu (record { ticket = Some done.0; quantum = begins }) = record {
         its = λ ticket is.
             let same : done.0 ≡ ticket = same_Some done.0 ticket is in

@@ -11,7 +11,7 @@ use Rattle.run_journal.specs.declared.entries.Entry.{Entry}
 use Rattle.run_journal.specs.declared.entries.Entry.TheVariants.{Loaded}
 use Rattle.page_views.specs.Views.{copied, copies_of, dated, Copied, Dated, View}
 use Rattle.board_commits.specs.quantum.specs.Ahead.{further, one_ahead, outcome, views_with, Ahead}
-use Rattle.board_commits.specs.Tickets.{state_at, AreKept, AreOfTicket, IsCopiedIn, IsOfTicket}
+use Rattle.board_commits.specs.Tickets.{state_at, AreAllAsOf, AreOfTicket, IsCopiedIn, IsOfTicket}
 
 -- steps leave what was copied
 with_copies : (vs : List View) (ps : List Page) → copies_of (views_with vs ps) ≡ copies_of vs
@@ -36,7 +36,7 @@ unfolding dated_copy
 dated_copies [] = refl
 dated_copies (v ∷ vs) = ap (λ (os : List (Option Dated)). dated v ∷ os) (dated_copies vs)
 
-pub kept_as : (j : List Entry) (a b : Ahead) → copies_of b.views ≡ copies_of a.views → b.kept ≡ a.kept → AreKept j a → AreKept j b
+pub kept_as : (j : List Entry) (a b : Ahead) → copies_of b.views ≡ copies_of a.views → b.kept ≡ a.kept → AreAllAsOf j a → AreAllAsOf j b
 kept_as j a b same behind kept o there =
     let dates : map dated b.views ≡ map dated a.views = dated_copies b.views ∙ ap (map dated_copy) same ∙ sym (dated_copies a.views) in
     kept o (subst (λ (os : List (Option Dated)). Contains os o) (ap₂ (λ (xs ys : List (Option Dated)). xs ++ ys) dates behind) there)

@@ -2,7 +2,7 @@
 use Rattle.std.specs.Prelude.{◌≡◌, ℕ, List, None, Some, slice_get, slice_set}
 use Rattle.run_journal.specs.declared.entries.Entry.{Entry}
 use Rattle.board_commits.specs.board_threads.specs.declared.tickets.Ticket.{Ticket}
-use Rattle.board_commits.specs.Tickets.{AreKept, AreOfTicket}
+use Rattle.board_commits.specs.Tickets.{AreAllAsOf, AreOfTicket}
 use Rattle.board_commits.specs.quantum.specs.Ahead.{unbegun}
 use Rattle.cache_board.specs.declared.place.Place.{Place}
 
@@ -22,7 +22,7 @@ pub record IsOfIts (j : List Entry) (cpu : ℕ) (place : Place) (ticket : Ticket
 -- this is so of a ticket that the processor has, and what carries a place in its quantum is of this journal
 pub record IsItsOwn (j : List Entry) (cpu : ℕ) (place : Place) : Type 0 where
   pub its : (ticket : Ticket) → place.ticket ≡ Some ticket → IsOfIts j cpu place ticket
-  pub kept : AreKept j place.quantum
+  pub kept : AreAllAsOf j place.quantum
 
 -- .. for each processor
 abbrev pub AreOfTickets : List Entry → Desktop → Type 0

@@ -27,7 +27,7 @@ use Rattle.board_commits.specs.board_threads.specs.Refusals.{refusal_of_fault}
 use Rattle.board_commits.specs.board_threads.specs.Waiting.{IsChosenOf, IsWaiting}
 use Rattle.board_commits.specs.Commits.{IsCommitted, IsPaged}
 use Rattle.board_commits.specs.Refusals.{refusal_of_commit, refusal_of_page}
-use Rattle.board_commits.specs.Tickets.{AreKept, AreOfTicket}
+use Rattle.board_commits.specs.Tickets.{AreAllAsOf, AreOfTicket}
 use Rattle.board_loads.specs.Holds.{IsLockedAs, IsUnloadedAs}
 use Rattle.board_loads.specs.Loads.{IsLoadedAs}
 use Rattle.board_calls.specs.Calls.{refusal_of_declare, refusal_of_seal, IsCompletion, IsDeclaring, IsSealing}
@@ -111,7 +111,7 @@ IsViewWith ticket b vpn old answers.NoView new = (can_fill old.quantum.views vpn
 IsViewWith ticket b vpn old answers.Did new =
     (can_fill old.quantum.views vpn ≡ true) × (refusal_of_page (contents_of b) ticket vpn ≡ None) × (new.ticket ≡ old.ticket) × IsPaged b ticket vpn old.quantum new.quantum
     × (AreOfTicket b.journal.entries ticket.thread old.quantum → AreOfTicket b.journal.entries ticket.thread new.quantum)
-    × AreKept b.journal.entries new.quantum
+    × AreAllAsOf b.journal.entries new.quantum
 IsViewWith ticket b vpn old (answers.Refused why) new =
     (can_fill old.quantum.views vpn ≡ true) × (refusal_of_page (contents_of b) ticket vpn ≡ Some why) × (new ≡ old)
 IsViewWith ticket b vpn old _ new = ⊥
@@ -131,7 +131,7 @@ IsRunAhead limit old answer new = MatchOption old.ticket ((answer ≡ answers.No
 -- With the ticket, the steps of the quantum happened, and the ticket is gone; or they are refused, and the place is as it was.
 abbrev pub IsCommitWith : Ticket → Recorded → Place → Answer → Recorded → Place → Type 0
 IsCommitWith ticket b old (answers.Stepped steps) after new =
-    (refusal_of_commit b ticket old.quantum ≡ None) × (steps ≡ old.quantum.steps) × IsCommitted ticket old.quantum.steps b after × (new ≡ record old { ticket = None })
+    (refusal_of_commit b ticket old.quantum ≡ None) × (steps ≡ old.quantum.steps) × IsCommitted ticket old.quantum b after × (new ≡ record old { ticket = None })
 IsCommitWith ticket b old (answers.Refused why) after new = IsRefused (refusal_of_commit b ticket old.quantum) b after why × (new ≡ old)
 IsCommitWith ticket b old _ after new = ⊥
 

@@ -3,21 +3,22 @@
 ghost use Rattle.std.specs.Prelude.{◌≡◌, ◌≢◌, ℕ, List, ◌+◌, ◌<◌, ◌≤◌, ◌∷◌, ◌⊎◌, [], false, true, min, None, Some, IfErr, IfNone, IfOk, IfSome, IsOk, IsTrue, OnErr, OnOk, option_copied, slice_get};
 ghost use Rattle.std.specs.Option.{option_map};
 ghost use Rattle.std.specs.Result.{result_err};
+ghost use Rattle.cache_ident.specs.Names.{first_name};
+ghost use Rattle.cache_ident.specs.Residents.{IsResident};
 ghost use Rattle.cache_ident.specs.declared.idents.Ident.{Ident};
 ghost use Rattle.cache_ident.specs.declared.names.Name.{Name};
 ghost use Rattle.cache_ident.specs.declared.names.SpaceNo.{SpaceNo};
 ghost use Rattle.cache_ident.specs.declared.names.ThreadNo.{ThreadNo};
-ghost use Rattle.depend_lists.specs.declared.nodes.Node.{Node};
 ghost use Rattle.phys_groups.specs.Translation.{row_of};
 ghost use Rattle.flat_state.specs.declared.events.Decl.TheVariants as decls;
 ghost use Rattle.flat_state.specs.Declaration.{rule_of_machine};
 ghost use Rattle.flat_state.specs.Settling.{settled_of};
+ghost use Rattle.run_journal.specs.Legal.{first_ident};
 ghost use Rattle.run_journal.specs.declared.entries.Entry.TheVariants.{Declared};
 ghost use Rattle.page_views.specs.Views.{can_fill};
 ghost use Rattle.ready_queue.specs.declared.Candidate.{Candidate};
 ghost use Rattle.board_commits.specs.board_ops.specs.declared.refusals.Refused.TheVariants.{NoMemory};
-ghost use Rattle.board_commits.specs.board_core.specs.desc_stores.specs.Contents.{names_of};
-ghost use Rattle.board_commits.specs.desc_tables.specs.Tables.{AreSound};
+ghost use Rattle.board_commits.specs.board_core.specs.desc_stores.specs.Contents.{names_of, residents_of};
 ghost use Rattle.board_commits.specs.shown_state.specs.Shown.{flat_thread};
 ghost use Rattle.board_commits.specs.cached_machine.specs.Cached.{is_loaded, state_of};
 ghost use Rattle.board_commits.specs.cached_machine.specs.Posts.{last_of, mark_of};
@@ -25,7 +26,9 @@ ghost use Rattle.board_commits.specs.board_checks.specs.Identifiers.{space_as};
 ghost use Rattle.board_commits.specs.board_checks.specs.Refusals.{refusal_of_complete, refusal_of_load_kernel, refusal_of_load_mapping, refusal_of_load_space, refusal_of_load_thread, refusal_of_lock, refusal_of_unload, refusal_of_unlock};
 ghost use Rattle.board_commits.specs.board_core.specs.Answers.{HasSpare, IsRefused};
 ghost use Rattle.board_commits.specs.board_core.specs.Core.{contents_of, IsSound};
+ghost use Rattle.board_commits.specs.board_core.specs.Going.{GoesOn, IsOneEvent};
 ghost use Rattle.board_commits.specs.board_core.specs.Growth.{count_loaded, OnlyMakesRoom};
+ghost use Rattle.board_commits.specs.board_core.specs.Places.{IsInOnePlace};
 ghost use Rattle.board_loads.specs.Holds.{IsLockedAs, IsUnloadedAs};
 ghost use Rattle.board_loads.specs.Loads.{IsLoadedAs};
 ghost use Rattle.board_commits.specs.board_threads.specs.Faults.{HasEnded};
@@ -35,17 +38,19 @@ ghost use Rattle.board_commits.specs.board_threads.specs.Tests.{IsWanted};
 ghost use Rattle.board_commits.specs.board_threads.specs.Waiting.{IsChosenOf, IsWaiting};
 ghost use Rattle.board_commits.specs.Commits.{IsCommitted, IsPaged};
 ghost use Rattle.board_commits.specs.Refusals.{refusal_of_commit, refusal_of_page};
-ghost use Rattle.board_commits.specs.Tickets.{AreKept, AreOfTicket};
+ghost use Rattle.board_commits.specs.Tickets.{AreAllAsOf, AreOfTicket};
 ghost use Rattle.board_calls.specs.Calls.{refusal_of_declare, refusal_of_seal, IsCompletion, IsDeclaring, IsSealing};
 ghost use Rattle.board_heal.specs.Healed.{IsHealed};
+ghost use Rattle.board_heal.specs.Promise.{HasStepped, IsHealable};
 ghost use Rattle.board_heal.specs.Refusals.{refusal_of_heal};
 ghost use Rattle.cache_board.specs.Boards.{refusal_of_machine};
-ghost use Rattle.cache_board.specs.Events.{IsOneEvent};
 
 use board_commits::{Core, Names, Quantum, Refused, Ticket, threads};
+use board_core::each_descriptor_is_in_one_place;
 use cache_ident::{Ident, KernelNo, Kind, NoMemory, SpaceNo, ThreadNo, Vpn};
 use flat_rules::{Records, rule_of_machine};
 use flat_state::{Decl, Machine, Settled};
+use legal_laws::the_first_kernel_stays_loaded;
 use phys_groups::Row;
 use run_journal::Journal;
 use std::alloc::Global;
@@ -98,12 +103,16 @@ impl Board {
     }
 
     /// Does nothing. A proof has from it what holds of every board: its journal is legal, and tells what the machine shows and
-    /// what is loaded; only loaded threads are on processors; and each descriptor is in its cache or with its owner, never in both.
+    /// what is loaded; only loaded threads are on processors; and the tables are sound. So each descriptor is in its cache or with
+    /// its owner, never in both, and behind the seal the first kernel is loaded.
     pub fn holds(&self)
         ensures sound { IsSound self.now }
-        ensures tables { (pairs : List (Ident × Node)) × AreSound self.now.machine.held pairs }
+        ensures places { IsInOnePlace self.now }
+        ensures first { self.now.sealed ≡ true → IsResident (residents_of (contents_of self.now)) first_ident first_name }
     {
-        let _ = self.core.tables();
+        self.core.holds();
+        each_descriptor_is_in_one_place();
+        the_first_kernel_stays_loaded();
     }
 
     /// Makes a declaration, before the seal (`Sealed`), with the first rule that it breaks as its refusal (`BadDecl`).
@@ -149,6 +158,7 @@ impl Board {
         ensures done { OnOk result (refusal_of_load_kernel (contents_of self.old) caller kernel ≡ None) }
         ensures loaded { IfOk result (λ ident. IsLoadedAs cpu (Name.Kernel kernel) ident self.old self.new) }
         ensures enough { HasSpare self.old 22 → IfErr result (λ why. why ≢ NoMemory) }
+        ensures on { GoesOn cpu self.old self.new }
         ensures event { IsOneEvent cpu self.old self.new }
     {
         self.holds();
@@ -164,6 +174,7 @@ impl Board {
         ensures done { OnOk result (refusal_of_load_space (contents_of self.old) caller space ≡ None) }
         ensures loaded { IfOk result (λ ident. IsLoadedAs cpu (Name.Space space) ident self.old self.new) }
         ensures enough { HasSpare self.old 22 → IfErr result (λ why. why ≢ NoMemory) }
+        ensures on { GoesOn cpu self.old self.new }
         ensures event { IsOneEvent cpu self.old self.new }
     {
         self.holds();
@@ -185,6 +196,7 @@ impl Board {
         ensures done { OnOk result (refusal_of_load_thread (contents_of self.old) caller parent thread ≡ None) }
         ensures loaded { IfOk result (λ ident. IsLoadedAs cpu (Name.Thread thread) ident self.old self.new) }
         ensures enough { HasSpare self.old 22 → IfErr result (λ why. why ≢ NoMemory) }
+        ensures on { GoesOn cpu self.old self.new }
         ensures event { IsOneEvent cpu self.old self.new }
     {
         self.holds();
@@ -209,6 +221,7 @@ impl Board {
         ensures done { OnOk result (refusal_of_load_mapping (contents_of self.old) caller parent vpn receiver ≡ None) }
         ensures loaded { IfOk result (λ ident. (space : SpaceNo) × (space_as (contents_of self.old) parent ≡ Some space) × IsLoadedAs cpu (Name.Mapping space vpn) ident self.old self.new) }
         ensures enough { HasSpare self.old 22 → IfErr result (λ why. why ≢ NoMemory) }
+        ensures on { GoesOn cpu self.old self.new }
         ensures event { IsOneEvent cpu self.old self.new }
     {
         self.holds();
@@ -225,6 +238,7 @@ impl Board {
         ensures done { OnOk result (refusal_of_unload (contents_of self.old) caller ident ≡ None) }
         ensures unloaded { OnOk result (IsUnloadedAs cpu ident self.old self.new) }
         ensures enough { HasSpare self.old 22 → IfErr result (λ why. why ≢ NoMemory) }
+        ensures on { GoesOn cpu self.old self.new }
         ensures event { IsOneEvent cpu self.old self.new }
     {
         self.holds();
@@ -241,6 +255,7 @@ impl Board {
         ensures done { OnOk result (refusal_of_lock (contents_of self.old) caller ident ≡ None) }
         ensures locked { OnOk result (IsLockedAs cpu ident true self.old self.new) }
         ensures enough { HasSpare self.old 22 → IfErr result (λ why. why ≢ NoMemory) }
+        ensures on { GoesOn cpu self.old self.new }
         ensures event { IsOneEvent cpu self.old self.new }
     {
         self.holds();
@@ -257,6 +272,7 @@ impl Board {
         ensures done { OnOk result (refusal_of_unlock (contents_of self.old) caller ident ≡ None) }
         ensures unlocked { OnOk result (IsLockedAs cpu ident false self.old self.new) }
         ensures enough { HasSpare self.old 22 → IfErr result (λ why. why ≢ NoMemory) }
+        ensures on { GoesOn cpu self.old self.new }
         ensures event { IsOneEvent cpu self.old self.new }
     {
         self.holds();
@@ -291,12 +307,12 @@ impl Board {
     /// journal: of a new quantum, of one that was only used with this board, or of one that forgot what it had.
     pub fn page(&self, ticket: &Ticket, vpn: Vpn, quantum: &mut Quantum) -> Result<(), Refused>
         requires room { IsTrue (can_fill quantum.old.views vpn) }
-        requires kept { AreKept self.now.journal.entries quantum.old }
+        requires kept { AreAllAsOf self.now.journal.entries quantum.old }
         ensures exact { result_err result ≡ refusal_of_page (contents_of self.now) ticket.now vpn }
         ensures refused { OnErr result (quantum.new ≡ quantum.old) }
         ensures filled { OnOk result (IsPaged self.now ticket.now vpn quantum.old quantum.new) }
         ensures views { AreOfTicket self.now.journal.entries ticket.now.thread quantum.old → AreOfTicket self.now.journal.entries ticket.now.thread quantum.new }
-        ensures kept { AreKept self.now.journal.entries quantum.new }
+        ensures kept { AreAllAsOf self.now.journal.entries quantum.new }
     {
         board_commits::page(&self.core, ticket, vpn, quantum)
     }
@@ -309,7 +325,7 @@ impl Board {
         ensures refused { IfErr result (IsRefused (refusal_of_commit self.old ticket.now quantum.now) self.old self.new) }
         ensures done { OnOk result (refusal_of_commit self.old ticket.now quantum.now ≡ None) }
         ensures steps { IfOk result (λ steps. steps ≡ quantum.now.steps) }
-        ensures committed { OnOk result (IsCommitted ticket.now quantum.now.steps self.old self.new) }
+        ensures committed { OnOk result (IsCommitted ticket.now quantum.now self.old self.new) }
         ensures enough { HasSpare self.old 22 → IfErr result (λ why. why ≢ NoMemory) }
         ensures event { IsOneEvent ticket.now.cpu self.old self.new }
     {
@@ -350,6 +366,7 @@ impl Board {
         ensures refused { IfErr result (IsRefused (refusal_of_complete (contents_of self.old) caller thread) self.old self.new) }
         ensures done { OnOk result (refusal_of_complete (contents_of self.old) caller thread ≡ None) }
         ensures completed { OnOk result (IsCompletion cpu thread self.old self.new) }
+        ensures on { GoesOn cpu self.old self.new }
         ensures event { IsOneEvent cpu self.old self.new }
     {
         self.holds();
@@ -367,6 +384,7 @@ impl Board {
         ensures done { OnOk result (refusal_of_fault self.old caller thread ≡ None) }
         ensures enough { HasSpare self.old 22 → IfErr result (λ why. why ≢ NoMemory) }
         ensures ended { OnOk result (HasEnded thread cpu self.old self.new) }
+        ensures on { GoesOn cpu self.old self.new }
         ensures event { IsOneEvent cpu self.old self.new }
     {
         self.holds();
@@ -383,6 +401,7 @@ impl Board {
         ensures refused { IfErr result (IsRefused (refusal_of_heal self.old thread) self.old self.new) }
         ensures done { OnOk result (refusal_of_heal self.old thread ≡ None) }
         ensures healed { OnOk result (IsHealed cpu thread self.old self.new) }
+        ensures promised { IsHealable self.old thread → IfErr result (λ why. why ≡ NoMemory) × OnOk result (HasStepped thread self.old self.new) }
         ensures enough { HasSpare self.old 22 → IfErr result (λ why. why ≢ NoMemory) }
         ensures event { IsOneEvent cpu self.old self.new }
     {

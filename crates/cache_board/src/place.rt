@@ -3,7 +3,7 @@
 ghost use Rattle.std.specs.Prelude.{◌≡◌, ◌<◌, IfOk, None, Some};
 ghost use Rattle.board_commits.specs.board_threads.specs.declared.tickets.Ticket.{Ticket};
 ghost use Rattle.board_commits.specs.quantum.specs.Ahead.{unbegun};
-ghost use Rattle.board_commits.specs.Tickets.{AreKept, AreOfTicket};
+ghost use Rattle.board_commits.specs.Tickets.{AreAllAsOf, AreOfTicket};
 ghost use Rattle.cache_board.specs.Drive.{IsCheckout, IsCommit, IsLeave, IsRunAhead, IsView};
 
 use crate::answers::did;
@@ -46,7 +46,7 @@ impl Place {
 
     /// Copies a page into the quantum.
     pub(crate) fn view(&mut self, board: &Board, vpn: Vpn) -> Answer
-        requires kept { AreKept board.now.journal.entries self.old.quantum }
+        requires kept { AreAllAsOf board.now.journal.entries self.old.quantum }
         ensures { IsView board.now vpn self.old result self.new }
     {
         let Some(ticket) = &self.ticket else {

@@ -11,7 +11,7 @@ returns-in-Live c =
     let held = c.tables.ensures.tables ∙ ap (λ (m : Cached). m.held) c.machine.ensures in
     let there = subst (λ (h : Held). IsIdentResident (residents_of h.contents) c.args.ident) held (c.in-Live.ensures.live.0 refl) in
     let done = c.unload.ensures in
-    record { left = left_now c.args.cpu c.args.ident c.args.core.now c.unload.new.self c.unload.new.self.machine.held.gone _ c.known.ensures.whole there done.entries done.unload done.marks done.sealed done.checkouts done.room done.sets }
+    record { left = left_now c.args.cpu c.args.ident c.args.core.now c.unload.new.self c.unload.new.self.machine.held.gone _ c.known.ensures.whole there done.entries done.unload done.marks done.sealed done.checkouts done.issues done.room done.sets }
 
 pub returns-in_default : goal.returns-in_default
 returns-in_default c =

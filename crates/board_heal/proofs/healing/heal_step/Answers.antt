@@ -8,7 +8,8 @@ use Rattle.flat_state.specs.Signals.{full_receiver}
 use Rattle.flat_state.specs.State.{FlatState}
 use Rattle.board_core.specs.cached_machine.specs.Cached.{state_of, Cached}
 use Rattle.board_core.specs.Core.{contents_of}
-use Rattle.board_heal.proofs.HealLaws.{can_heal, chain_so, formed_so, healed, here_still, may_come, may_step, room_for_all, some_next, steps_still, thread_loaded, unmarked_still}
+use Rattle.board_heal.specs.Healed.{IsHealed}
+use Rattle.board_heal.proofs.HealLaws.{can_heal, chain_so, formed_so, healed, here_still, may_come, may_step, not_full, not_refused, room_for_all, some_next, has_stepped, steps_still, thread_loaded, unmarked_still}
 use Rattle.board_heal.proofs.WayLaws.{none_yet, one_further, out_before}
 use Rattle.board_heal.proofs.healing.heal_step.Goals as goal
 
@@ -111,7 +112,7 @@ step-requires c =
     let here = here_still old mid whom room can in
     let loop = c.loop-name in
     let way = loop.invariant.way in
-    let free : full_receiver s can.thread ≡ None = ap (λ (x : FlatState). full_receiver x can.thread) room.only.state ∙ can.free in
+    let free : full_receiver s can.thread ≡ None = ap (λ (x : FlatState). full_receiver x can.thread) room.only.state ∙ not_full old whom can in
     let still = steps_still c.args.cpu whom old loop.core s formed same next names chain.order loop.name-index way c.loop-name-test.false can.thread here c.known_step-next.ensures can.ready free mid room c.machine_of.ensures.known c.holds.ensures in
     record {
       next = ap (λ (x : FlatState). next_step x whom.0) (way.state ∙ same) ∙ c.known_step-next.ensures;
@@ -126,8 +127,9 @@ step-requires c =
       };
     }
 
-pub returns-clause-healed : goal.returns-clause-healed
-returns-clause-healed c =
+-- all of it
+whole : (c : goal.After-step) → IsHealed c.args.cpu c.args.no c.args.core.now c.step.new.self
+whole c =
     let old = c.args.core.now in
     let mid = c.make_room.new.self in
     let whom = c.args.no in
@@ -143,7 +145,16 @@ returns-clause-healed c =
     let here = here_still old mid whom room can in
     let loop = c.loop-name in
     let way = loop.invariant.way in
-    let free : full_receiver s can.thread ≡ None = ap (λ (x : FlatState). full_receiver x can.thread) room.only.state ∙ can.free in
+    let free : full_receiver s can.thread ≡ None = ap (λ (x : FlatState). full_receiver x can.thread) room.only.state ∙ not_full old whom can in
     let still = steps_still c.args.cpu whom old loop.core s formed same next names chain.order loop.name-index way c.loop-name-test.false can.thread here c.known_step-next.ensures can.ready free mid room c.machine_of.ensures.known c.holds.ensures in
     let short = c.as_slice-names.ensures.fits in
     healed c.args.cpu whom old loop.core s formed same next names chain.order loop.name-index way c.loop-name-test.false can.thread here c.known_step-next.ensures can.ready free chain.few (omega (arith, short)) c.step.new.self c.step.ensures.entries c.step.ensures.places c.step.ensures.steps still
+
+pub returns-clause-healed : goal.returns-clause-healed
+returns-clause-healed c = whole c
+
+pub returns-clause-promised : goal.returns-clause-promised
+returns-clause-promised c = λ can. (tt, has_stepped c.args.cpu c.args.no c.args.core.now c.step.new.self (whole c))
+
+pub returns-in_err-checked-clause-promised : goal.returns-in_err-checked-clause-promised
+returns-in_err-checked-clause-promised c = λ can. absurd (cc (c.in_err-checked.ensures, not_refused c.args.core.now c.args.no can))

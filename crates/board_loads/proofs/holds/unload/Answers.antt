@@ -35,4 +35,4 @@ pub returns-clause-unloaded : goal.returns-clause-unloaded
 returns-clause-unloaded c =
     let named = subst (λ (h : Held). IsResident (residents_of h.contents) c.args.ident c.in_ok-checked.field-0) c.tables.ensures.tables c.in_ok-checked.ensures.named in
     unloaded_before c.args.core.now c.make_room.new.self c.make_room.ensures.only c.args.ident c.in_ok-checked.field-0 named c.args.cpu c.unload.new.self
-    c.unload.ensures.entries c.unload.ensures.unload c.unload.ensures.marks c.unload.ensures.sealed c.unload.ensures.checkouts
+    c.unload.ensures.entries c.unload.ensures.unload c.unload.ensures.marks c.unload.ensures.sealed c.unload.ensures.checkouts c.unload.ensures.issues

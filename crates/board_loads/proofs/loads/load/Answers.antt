@@ -35,4 +35,4 @@ returns-clause-loaded c =
     subst (λ (r : Result Name Refused). IfOk r (λ (name : Name). IsLoadedAs c.args.cpu name c.load.result c.args.core.now c.load.new.self)) (sym c.in_ok-name.was)
     (loaded_before c.args.core.now c.make_room.new.self c.make_room.ensures.only c.tables.ensures.sound.0 c.tables-2.ensures.sound.0 c.tables.ensures.sound.1 c.tables-2.ensures.sound.1
     c.in_ok-name.name c.as_slice.result.now c.load.result c.load.new.self c.args.cpu loadable may only
-    c.load.ensures.entries c.load.ensures.load c.load.ensures.marks c.load.ensures.unmarked c.load.ensures.sealed c.load.ensures.checkouts)
+    c.load.ensures.entries c.load.ensures.load c.load.ensures.marks c.load.ensures.unmarked c.load.ensures.sealed c.load.ensures.checkouts c.load.ensures.issues)

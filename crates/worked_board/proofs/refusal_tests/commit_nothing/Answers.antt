@@ -1,7 +1,7 @@
 use Rattle.std.proofs.Common.{◌≡◌, ◌<◌, List, [], Contains, ap, sym, subst, ◌∙◌, arith}
 use Rattle.page_views.specs.Views.{View}
 use Rattle.quantum.specs.Ahead.{begun, Ahead}
-use Rattle.cache_board.specs.board_commits.specs.Tickets.{AreKept}
+use Rattle.cache_board.specs.board_commits.specs.Tickets.{AreAllAsOf}
 use Rattle.cache_board.specs.board_commits.proofs.KeptLaws.{kept_begun, kept_unbegun}
 use Rattle.worked_board.proofs.refusal_tests.commit_nothing.Goals as goal
 
@@ -15,6 +15,6 @@ commit-requires c =
     record {
       views = record {
         views = λ v there. let nowhere : Contains [] v = subst (λ (vs : List View). Contains vs v) none there in let below : nowhere.0 < 0 = nowhere.1 in absurd (omega arith);
-        kept = subst (AreKept j) (sym c.begin.ensures) (kept_begun j c.args.ticket.now.context from (subst (AreKept j) (sym c.forget.ensures) (kept_unbegun j)));
+        kept = subst (AreAllAsOf j) (sym c.begin.ensures) (kept_begun j c.args.ticket.now.context from (subst (AreAllAsOf j) (sym c.forget.ensures) (kept_unbegun j)));
       };
     }

@@ -15,15 +15,15 @@ use Rattle.board_core.specs.Growth.{MayWrite}
 use Rattle.board_core.proofs.RunningLaws.{call_sound, loaded_stands, thread_of_some}
 use Rattle.board_core.proofs.core_record.Core.complete.Goals as goal
 
-pub complete-requires-clause-there : goal.complete-requires-clause-there
-complete-requires-clause-there c =
+pub complete-completed-requires-clause-there : goal.complete-completed-requires-clause-there
+complete-completed-requires-clause-there c =
     let loaded = subst (λ (b : Recorded). IsNameResident (residents_of (contents_of b)) (name.Thread c.args.no)) (sym c.self.view_is) c.requires.loaded in
     let m = c.self.inside.machine in
-    let found = thread_of_some _ (loaded_stands m.machine m.memory m.held.contents c.args.no c.known.ensures.sound.1.whole.one loaded) in
+    let found = thread_of_some _ (loaded_stands m.machine m.memory m.held.contents c.args.no c.self.invariant.0.tables.1.whole.one loaded) in
     slice_get_within (state_of m).threads c.args.no.0 found.0 found.1
 
-pub complete-requires-clause-good : goal.complete-requires-clause-good
-complete-requires-clause-good c = subst (λ (b : Recorded). AreGood (applied (state_of b.machine) (Complete c.args.no)) (residents_of (contents_of b))) (sym c.self.view_is) c.requires.good
+pub complete-completed-requires-clause-good : goal.complete-completed-requires-clause-good
+complete-completed-requires-clause-good c = subst (λ (b : Recorded). AreGood (applied (state_of b.machine) (Complete c.args.no)) (residents_of (contents_of b))) (sym c.self.view_is) c.requires.good
 
 pub invariant_of-self-2 : goal.invariant_of-self-2
 invariant_of-self-2 c =
@@ -31,6 +31,6 @@ invariant_of-self-2 c =
     let write = subst (λ (b : Recorded). MayWrite b c.args.cpu 1) back c.requires.write in
     let loaded = subst (λ (b : Recorded). IsNameResident (residents_of (contents_of b)) (name.Thread c.args.no)) back c.requires.loaded in
     let able = subst (λ (b : Recorded). OfThread (state_of b.machine) c.args.no.0 (λ t. is_completable t ≡ true)) back c.requires.completable in (
-      call_sound _ c.complete.new.self c.args.no c.args.cpu _ _ c.self.invariant.0 write.sealed write.processor c.known.ensures.sound.1.whole.one c.known-2.ensures.sound.1.whole loaded able c.in_ok-complete.ensures.ok c.note.new.journal c.note.ensures.entries,
-      c.self.invariant.1 ∙ sym (ap length c.in_ok-complete.ensures.ok.beside.loaded.residents),
+      call_sound _ c.complete-completed.new.self c.args.no c.args.cpu _ _ c.self.invariant.0 write.sealed write.processor c.self.invariant.0.tables.1.whole.one c.known.ensures.sound.1.whole loaded able c.in_ok-completed.ensures.ok c.known.ensures.sound c.note.new.journal c.note.ensures.entries,
+      c.self.invariant.1 ∙ sym (ap length c.in_ok-completed.ensures.ok.beside.loaded.residents),
     )

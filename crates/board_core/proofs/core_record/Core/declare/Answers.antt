@@ -10,8 +10,8 @@ use Rattle.board_core.specs.Stamps.{stamped_at, IsWithin}
 use Rattle.board_core.proofs.OpeningLaws.{declared_sound, has_stamp, may_be_made}
 use Rattle.board_core.proofs.core_record.Core.declare.Goals as goal
 
-pub make_declaration-requires : goal.make_declaration-requires
-make_declaration-requires c =
+pub make_declaration-made-requires : goal.make_declaration-made-requires
+make_declaration-made-requires c =
     let open_yet = subst (λ (b : Recorded). b.sealed ≡ false) (sym c.self.view_is) c.requires.open in
     let none = subst (λ (b : Recorded). broken_rule (state_of b.machine) c.args.decl.now ≡ None) (sym c.self.view_is) c.requires.fits in
     may_be_made _ c.self.invariant.0 open_yet c.args.decl.now none
@@ -28,6 +28,6 @@ invariant_of-self-2 c =
     let none = subst (λ (b : Recorded). broken_rule (state_of b.machine) c.args.decl.now ≡ None) (sym c.self.view_is) c.requires.fits in
     let grown = c.note.ensures.entries ∙ ap (λ (es : List Entry). es ++ Declared c.args.decl.now ∷ []) c.reserve.ensures.entries in
     let news = c.put_stamp.ensures ∙ ap (λ (f : Option Frame). stamped_at f c.len.result c.self.inside.stamps.items) c.frame_declared.ensures in (
-      declared_sound _ c.self.invariant.0 open_yet c.args.decl.now none c.make_declaration.new.self c.note.new.journal c.len.result c.len.ensures c.in_ok-make_declaration.ensures.ok grown _ news,
-      c.self.invariant.1 ∙ sym (ap length c.in_ok-make_declaration.ensures.ok.beside.loaded.residents),
+      declared_sound _ c.self.invariant.0 open_yet c.args.decl.now none c.make_declaration-made.new.self c.note.new.journal c.len.result c.len.ensures c.in_ok-made.ensures.ok grown c.known.ensures.sound _ news,
+      c.self.invariant.1 ∙ sym (ap length c.in_ok-made.ensures.ok.beside.loaded.residents),
     )

@@ -65,7 +65,7 @@ invariant_of-self c =
     let is = subst (λ (at : ℕ). IsLoad c.self.inside.machine.held.caps c.self.inside.machine.held.contents c.load-ident.new.self.held.contents c.args.name c.args.keep.now at c.load-ident.new.self.held.gone c.load-ident.result) c.next_place-at.ensures.place c.load-ident.ensures.load in
     let whole = subst (λ (caps : Caps). AreWhole caps c.load-ident.new.self.held.contents c.known-2.ensures.sound.0) c.load-ident.ensures.caps c.known-2.ensures.sound.1.whole in (
       loaded_sound _ c.load-ident.new.self c.note.new.journal c.known.ensures.sound.0 c.args.cpu c.self.invariant.0 c.known.ensures.sound.1.whole may.sealed may.processor
-          c.load-ident.ensures.rest c.load-ident.ensures.marks c.known-2.ensures.sound.0 c.args.name c.args.keep.now c.load-ident.result whole c.known.ensures.caps is (grown c),
+          c.load-ident.ensures.rest c.load-ident.ensures.marks c.known-2.ensures.sound c.known-2.ensures.sound.0 c.args.name c.args.keep.now c.load-ident.result whole c.known.ensures.caps is (grown c),
       (let all = loaded_counted _ _ _ c.known.ensures.sound.1.whole _ _ _ _ _ _ c.load-ident.ensures.load in
           let here = c.self.invariant.1 in
           let gone = ap length c.gone-gone.ensures ∙ ap (λ (h : Held). length h.gone) c.tables.ensures.tables in

@@ -23,8 +23,8 @@ invariant_of-self c =
     let owner = subst (λ (b : Recorded). MayBeLocked (contents_of b) c.args.ident) back c.requires.may in
     let unlocked = subst (λ (l : Bool). LockIs c.self.inside.machine.held.contents c.args.ident l) c.if-not-is_locked.true
     (subst (λ (h : Held). LockIs h.contents c.args.ident c.is_locked.result) c.tables.ensures.tables c.is_locked.ensures) in (
-      locked_sound _ c.lock.new.self c.note.new.journal c.known.ensures.sound.0 c.args.ident c.args.cpu c.self.invariant.0 c.known.ensures.sound.1.whole may live
-          c.lock.ensures.rest c.lock.ensures.state c.lock.ensures.marks unlocked owner c.lock.ensures.lock c.note.ensures.entries,
+      locked_sound _ c.lock.new.self c.note.new.journal c.self.invariant.0.tables.0 c.args.ident c.args.cpu c.self.invariant.0 c.self.invariant.0.tables.1.whole may live
+          c.lock.ensures.rest c.lock.ensures.state c.lock.ensures.marks c.known.ensures.sound unlocked owner c.lock.ensures.lock c.note.ensures.entries,
       c.self.invariant.1 ∙ sym (lock_counted _ _ c.args.ident true c.lock.ensures.lock),
     )
 
@@ -35,7 +35,7 @@ returns-then-not-is_locked-clause-entries c = λ on is.
     let unlocked = subst (λ (l : Bool). LockIs c.self.inside.machine.held.contents c.args.ident l) c.if-not-is_locked.true
     (subst (λ (h : Held). LockIs h.contents c.args.ident c.is_locked.result) c.tables.ensures.tables c.is_locked.ensures) in
     grown_else on [] (Locked c.args.ident c.args.cpu ∷ []) _ _ _ c.self.view_is
-    (locks_agree c.self.inside.machine.held.contents c.args.ident on false c.known.ensures.sound.1.whole.one.sound live was unlocked)
+    (locks_agree c.self.inside.machine.held.contents c.args.ident on false c.self.invariant.0.tables.1.whole.one.sound live was unlocked)
     (grows _ _ (Locked c.args.ident c.args.cpu ∷ []) c.self.invariant.0 (invariant_of-self c).0 c.note.ensures.entries refl
     (ap (λ (m : Cached). m.machine) c.lock.ensures.rest) (ap (λ (m : Cached). m.held.caps) c.lock.ensures.rest) c.note.ensures.spare)
 
@@ -46,10 +46,10 @@ returns-else-not-is_locked-clause-entries c = λ on is.
     let locked = subst (λ (l : Bool). LockIs c.self.inside.machine.held.contents c.args.ident l) c.if-not-is_locked.false
     (subst (λ (h : Held). LockIs h.contents c.args.ident c.is_locked.result) c.tables.ensures.tables c.is_locked.ensures) in
     grown_where on [] (Locked c.args.ident c.args.cpu ∷ []) _ _ _ refl
-    (locks_agree c.self.inside.machine.held.contents c.args.ident on true c.known.ensures.sound.1.whole.one.sound live was locked) (grows_by_none c.args.self.now)
+    (locks_agree c.self.inside.machine.held.contents c.args.ident on true c.self.invariant.0.tables.1.whole.one.sound live was locked) (grows_by_none c.args.self.now)
 
 pub returns-else-not-is_locked-clause-lock : goal.returns-else-not-is_locked-clause-lock
 returns-else-not-is_locked-clause-lock c =
     let locked = subst (λ (l : Bool). LockIs c.self.inside.machine.held.contents c.args.ident l) c.if-not-is_locked.false
     (subst (λ (h : Held). LockIs h.contents c.args.ident c.is_locked.result) c.tables.ensures.tables c.is_locked.ensures) in
-    subst (λ (b : Recorded). IsLock (contents_of b) (contents_of b) c.args.ident true) c.self.view_is (stays_locked c.self.inside.machine.held.contents c.args.ident true c.known.ensures.sound.1.whole.one.sound locked)
+    subst (λ (b : Recorded). IsLock (contents_of b) (contents_of b) c.args.ident true) c.self.view_is (stays_locked c.self.inside.machine.held.contents c.args.ident true c.self.invariant.0.tables.1.whole.one.sound locked)

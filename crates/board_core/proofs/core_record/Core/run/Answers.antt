@@ -4,7 +4,7 @@ use Rattle.cache_ident.specs.declared.names.Name.{Name}
 use Rattle.cache_ident.specs.declared.names.Name.TheVariants as name
 use Rattle.cache_ident.specs.Residents.{IsNameResident, Resident}
 use Rattle.flat_state.specs.State.{FlatState}
-use Rattle.cached_machine.specs.desc_stores.specs.Contents.{content_of, residents_of}
+use Rattle.cached_machine.specs.desc_stores.specs.Contents.{content_of}
 use Rattle.cached_machine.specs.store_residents.proofs.ContentLemmas.{resident_content}
 use Rattle.board_core.specs.Core.{contents_of, Recorded}
 use Rattle.board_core.proofs.AheadLaws.{same_posted}
@@ -12,10 +12,9 @@ use Rattle.board_core.proofs.core_record.Core.run.Goals as goal
 
 pub check_in-requires : goal.check_in-requires
 check_in-requires c =
-    let loaded = subst (λ (b : Recorded). IsNameResident (residents_of (contents_of b)) (name.Thread c.args.no)) (sym c.self.view_is) c.requires.loaded in
-    let h = c.self.inside.machine.held.contents in
-    let there = subst (λ (n : Name). IsSome (content_of h n)) loaded.2 (resident_content h c.known.ensures.sound.1.whole.one loaded.0 loaded.1) in
-    record { there = subst (λ (b : Recorded). IsSome (content_of (contents_of b) (name.Thread c.args.no))) c.self.view_is there }
+    let h = contents_of c.args.self.now in
+    let loaded = c.requires.loaded in
+    record { there = subst (λ (n : Name). IsSome (content_of h n)) loaded.2 (resident_content h c.holds.ensures.tables.1.whole.one loaded.0 loaded.1) }
 
 pub run_ahead-requires-clause-views : goal.run_ahead-requires-clause-views
 run_ahead-requires-clause-views c = λ t here v within.

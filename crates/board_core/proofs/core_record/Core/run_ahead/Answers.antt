@@ -22,7 +22,7 @@ pub take_over-requires-clause-there : goal.take_over-requires-clause-there
 take_over-requires-clause-there c =
     let loaded = subst (λ (b : Recorded). IsNameResident (residents_of (contents_of b)) (name.Thread c.args.no)) (sym c.self.view_is) c.requires.loaded in
     let m = c.self.inside.machine in
-    let found = thread_of_some _ (loaded_stands m.machine m.memory m.held.contents c.args.no c.known.ensures.sound.1.whole.one loaded) in
+    let found = thread_of_some _ (loaded_stands m.machine m.memory m.held.contents c.args.no c.self.invariant.0.tables.1.whole.one loaded) in
     slice_get_within (state_of m).threads c.args.no.0 found.0 found.1
 
 pub take_over-requires-clause-could : goal.take_over-requires-clause-could
@@ -41,10 +41,10 @@ invariant_of-self c =
     let could = subst (λ (b : Recorded). OfThread (state_of b.machine) c.args.no.0 (λ t. CouldRun (state_of b.machine) t c.args.quantum.now)) back c.requires.could in
     let views = subst (λ (b : Recorded). OfThread (state_of b.machine) c.args.no.0 (λ t. AreOfLoaded b t (touched_views c.args.quantum.now.views))) back c.requires.views in
     let left = subst (λ (b : Recorded). b.steps + c.args.quantum.now.steps ≤ b.limit) back c.requires.left in
-    let found = thread_of_some _ (loaded_stands m.machine m.memory m.held.contents c.args.no c.known.ensures.sound.1.whole.one loaded) in (
+    let found = thread_of_some _ (loaded_stands m.machine m.memory m.held.contents c.args.no c.self.invariant.0.tables.1.whole.one loaded) in (
       ahead_sound _ c.take_over.new.machine c.args.no found.0 c.args.quantum.now c.args.cpu c.self.invariant.0 write.sealed write.processor c.requires.some loaded unmarked
           found.1 (could found.0 found.1) c.steps-steps.ensures.local_run (views found.0 found.1) (c.take_over.ensures.state found.0 found.1) c.take_over.ensures.rest
-          c.note.new.journal c.len.result c.steps-steps.result c.from.result _ c.steps-steps.ensures.steps (c.from.ensures ∙ c.steps-steps.ensures.steps) c.note.ensures.entries c.len.ensures left c.take_over.ensures.stamps,
+          c.known.ensures.sound c.note.new.journal c.len.result c.steps-steps.result c.from.result _ c.steps-steps.ensures.steps (c.from.ensures ∙ c.steps-steps.ensures.steps) c.note.ensures.entries c.len.ensures left c.take_over.ensures.stamps,
       c.self.invariant.1 ∙ sym (ap (λ (a : Aside). length a.residents) c.take_over.ensures.rest),
     )
 

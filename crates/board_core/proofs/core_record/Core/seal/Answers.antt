@@ -56,7 +56,7 @@ invariant_of-self c =
     let kernel = subst (λ (b : Recorded). 0 < length (state_of b.machine).kernels) (sym c.self.view_is) c.requires.kernel in
     let whole = subst (λ (caps : Caps). AreWhole caps c.load-ident.new.self.held.contents c.known-2.ensures.sound.0) c.load-ident.ensures.caps c.known-2.ensures.sound.1.whole in (
       sealed_sound _ _ c.self.invariant.0 open_yet c.known.ensures.sound.1.whole c.known.ensures.caps kernel c.load-ident.new.self c.known-2.ensures.sound.0 c.load-ident.result _ whole c.load-ident.ensures.load
-          c.lock.new.self c.note_seal.new.journal c.lock.ensures.lock c.load-ident.ensures.rest c.lock.ensures.rest c.lock.ensures.state c.load-ident.ensures.marks c.lock.ensures.marks (grown c),
+          c.lock.new.self c.note_seal.new.journal c.lock.ensures.lock c.load-ident.ensures.rest c.lock.ensures.rest c.lock.ensures.state c.load-ident.ensures.marks c.lock.ensures.marks c.known-3.ensures.sound (grown c),
       sym (lock_counted _ _ c.load-ident.result true c.lock.ensures.lock ∙ first_counted _ _ _ _ [] _ _ _ (none_resident _ c.self.invariant.0 open_yet) c.load-ident.ensures.load),
     )
 

@@ -39,7 +39,7 @@ invariant_of-self c =
     let grown = c.note.ensures.entries ∙ ap (λ (e : Entry). c.self.inside.journal.entries ++ e ∷ []) c.entry_of_step.ensures in
     let news = c.put_stamp.ensures ∙ ap (λ (f : Option Frame). stamped_at f c.len.result c.self.inside.stamps.items) c.frame_stored-stored.ensures in (
       step_sound _ c.step.new.tables c.args.no c.args.next.now c.args.cpu c.self.invariant.0 write.sealed write.processor is may loaded unmarked c.step.ensures.state c.step.ensures.rest
-          c.note.new.journal c.len.result _ grown c.len.ensures (omega arith) news,
+          c.known.ensures.sound c.note.new.journal c.len.result _ grown c.len.ensures (omega arith) news,
       c.self.invariant.1 ∙ sym (ap (λ (a : Aside). length a.residents) c.step.ensures.rest),
     )
 

@@ -21,12 +21,12 @@ unload-requires-clause-places c =
     let may = subst (λ (b : Recorded). MayWrite b c.args.cpu (count_loaded b)) (sym c.self.view_is) c.requires.write in
     let room = may.room in
     let fits = c.next_place-at.ensures.fits in
-    there_are_places _ _ _ c.known.ensures.sound.1.whole c.args.ident c.next_place-at.result (omega arith)
+    there_are_places _ _ _ c.self.invariant.0.tables.1.whole c.args.ident c.next_place-at.result (omega arith)
 
 pub overflow_sub-self : goal.overflow_sub-self
 overflow_sub-self c =
     let live = subst (λ (b : Recorded). standing_in (contents_of b).issued c.args.ident ≡ Live) (sym c.self.view_is) c.requires.live in
-    let all = unloaded_counted _ _ _ c.known.ensures.sound.1.whole _ c.args.ident _ _ live c.unload.ensures.unload in
+    let all = unloaded_counted _ _ _ c.self.invariant.0.tables.1.whole _ c.args.ident _ _ live c.unload.ensures.unload in
     let here = c.self.invariant.1 in
     let gone = ap length c.gone-gone.ensures ∙ ap (λ (h : Held). length h.gone) c.tables.ensures.tables in
     omega arith
@@ -35,7 +35,7 @@ pub note_departures-requires : goal.note_departures-requires
 note_departures-requires c =
     let may = subst (λ (b : Recorded). MayWrite b c.args.cpu (count_loaded b)) (sym c.self.view_is) c.requires.write in
     let live = subst (λ (b : Recorded). standing_in (contents_of b).issued c.args.ident ≡ Live) (sym c.self.view_is) c.requires.live in
-    let all = unloaded_counted _ _ _ c.known.ensures.sound.1.whole _ c.args.ident _ _ live c.unload.ensures.unload in
+    let all = unloaded_counted _ _ _ c.self.invariant.0.tables.1.whole _ c.args.ident _ _ live c.unload.ensures.unload in
     let room = may.room in
     let is = ap length c.gone-gone.ensures ∙ ap (λ (h : Held). length h.gone) c.tables.ensures.tables in
     omega arith
@@ -48,9 +48,9 @@ invariant_of-self c =
     let may = subst (λ (b : Recorded). MayWrite b c.args.cpu (count_loaded b)) (sym c.self.view_is) c.requires.write in
     let live = subst (λ (b : Recorded). standing_in (contents_of b).issued c.args.ident ≡ Live) (sym c.self.view_is) c.requires.live in
     let is = subst (λ (at : ℕ). IsUnload c.self.inside.machine.held.contents c.unload.new.self.held.contents c.args.ident at c.unload.new.self.held.gone) c.next_place-at.ensures.place c.unload.ensures.unload in (
-      unloaded_sound _ c.unload.new.self c.note_departures.new.journal c.known.ensures.sound.0 c.args.cpu c.self.invariant.0 c.known.ensures.sound.1.whole may.sealed may.processor
-          c.unload.ensures.rest c.unload.ensures.marks c.args.ident live c.requires.not_first is (grown c),
-      (let all = unloaded_counted _ _ _ c.known.ensures.sound.1.whole _ c.args.ident _ _ live c.unload.ensures.unload in
+      unloaded_sound _ c.unload.new.self c.note_departures.new.journal c.self.invariant.0.tables.0 c.args.cpu c.self.invariant.0 c.self.invariant.0.tables.1.whole may.sealed may.processor
+          c.unload.ensures.rest c.unload.ensures.marks c.known.ensures.sound c.args.ident live c.requires.not_first is (grown c),
+      (let all = unloaded_counted _ _ _ c.self.invariant.0.tables.1.whole _ c.args.ident _ _ live c.unload.ensures.unload in
           let here = c.self.invariant.1 in
           let gone = ap length c.gone-gone.ensures ∙ ap (λ (h : Held). length h.gone) c.tables.ensures.tables in
           omega arith),

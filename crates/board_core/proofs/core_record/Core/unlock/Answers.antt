@@ -21,8 +21,8 @@ invariant_of-self c =
     let live = subst (λ (b : Recorded). standing_in (contents_of b).issued c.args.ident ≡ Live) back c.requires.live in
     let locked = subst (λ (l : Bool). LockIs c.self.inside.machine.held.contents c.args.ident l) c.if-is_locked.true
     (subst (λ (h : Held). LockIs h.contents c.args.ident c.is_locked.result) c.tables.ensures.tables c.is_locked.ensures) in (
-      unlocked_sound _ c.unlock.new.self c.note.new.journal c.known.ensures.sound.0 c.args.ident c.args.cpu c.self.invariant.0 c.known.ensures.sound.1.whole may live
-          c.unlock.ensures.rest c.unlock.ensures.state c.unlock.ensures.marks locked c.requires.not_first c.unlock.ensures.lock c.note.ensures.entries,
+      unlocked_sound _ c.unlock.new.self c.note.new.journal c.self.invariant.0.tables.0 c.args.ident c.args.cpu c.self.invariant.0 c.self.invariant.0.tables.1.whole may live
+          c.unlock.ensures.rest c.unlock.ensures.state c.unlock.ensures.marks c.known.ensures.sound locked c.requires.not_first c.unlock.ensures.lock c.note.ensures.entries,
       c.self.invariant.1 ∙ sym (lock_counted _ _ c.args.ident false c.unlock.ensures.lock),
     )
 
@@ -33,7 +33,7 @@ returns-then-is_locked-clause-entries c = λ on is.
     let locked = subst (λ (l : Bool). LockIs c.self.inside.machine.held.contents c.args.ident l) c.if-is_locked.true
     (subst (λ (h : Held). LockIs h.contents c.args.ident c.is_locked.result) c.tables.ensures.tables c.is_locked.ensures) in
     grown_where on (Unlocked c.args.ident c.args.cpu ∷ []) [] _ _ _ c.self.view_is
-    (locks_agree c.self.inside.machine.held.contents c.args.ident on true c.known.ensures.sound.1.whole.one.sound live was locked)
+    (locks_agree c.self.inside.machine.held.contents c.args.ident on true c.self.invariant.0.tables.1.whole.one.sound live was locked)
     (grows _ _ (Unlocked c.args.ident c.args.cpu ∷ []) c.self.invariant.0 (invariant_of-self c).0 c.note.ensures.entries refl
     (ap (λ (m : Cached). m.machine) c.unlock.ensures.rest) (ap (λ (m : Cached). m.held.caps) c.unlock.ensures.rest) c.note.ensures.spare)
 
@@ -44,10 +44,10 @@ returns-else-is_locked-clause-entries c = λ on is.
     let unlocked = subst (λ (l : Bool). LockIs c.self.inside.machine.held.contents c.args.ident l) c.if-is_locked.false
     (subst (λ (h : Held). LockIs h.contents c.args.ident c.is_locked.result) c.tables.ensures.tables c.is_locked.ensures) in
     grown_else on (Unlocked c.args.ident c.args.cpu ∷ []) [] _ _ _ refl
-    (locks_agree c.self.inside.machine.held.contents c.args.ident on false c.known.ensures.sound.1.whole.one.sound live was unlocked) (grows_by_none c.args.self.now)
+    (locks_agree c.self.inside.machine.held.contents c.args.ident on false c.self.invariant.0.tables.1.whole.one.sound live was unlocked) (grows_by_none c.args.self.now)
 
 pub returns-else-is_locked-clause-lock : goal.returns-else-is_locked-clause-lock
 returns-else-is_locked-clause-lock c =
     let unlocked = subst (λ (l : Bool). LockIs c.self.inside.machine.held.contents c.args.ident l) c.if-is_locked.false
     (subst (λ (h : Held). LockIs h.contents c.args.ident c.is_locked.result) c.tables.ensures.tables c.is_locked.ensures) in
-    subst (λ (b : Recorded). IsLock (contents_of b) (contents_of b) c.args.ident false) c.self.view_is (stays_locked c.self.inside.machine.held.contents c.args.ident false c.known.ensures.sound.1.whole.one.sound unlocked)
+    subst (λ (b : Recorded). IsLock (contents_of b) (contents_of b) c.args.ident false) c.self.view_is (stays_locked c.self.inside.machine.held.contents c.args.ident false c.self.invariant.0.tables.1.whole.one.sound unlocked)

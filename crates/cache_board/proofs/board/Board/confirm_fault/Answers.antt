@@ -1,8 +1,11 @@
 use Rattle.std.proofs.Common.{◌∙◌}
-use Rattle.cache_board.proofs.EventLaws.{fault_event}
+use Rattle.cache_board.proofs.EventLaws.{fault_goes_on}
 use Rattle.cache_board.proofs.board.Board.confirm_fault.Goals as goal
 
-pub returns-clause-event : goal.returns-clause-event
-returns-clause-event c =
+pub returns-clause-on : goal.returns-clause-on
+returns-clause-on c =
     let same = c.deref_mut.ensures.value ∙ c.self.view_is in
-    fault_event c.args.cpu c.args.self.now c.deref_mut.result.now c.confirm_fault-confirmed.new.core same c.holds.ensures.sound c.holds-2.ensures.sound c.confirm_fault-confirmed.result _ c.args.thread c.confirm_fault-confirmed.ensures.refused c.confirm_fault-confirmed.ensures.ended
+    fault_goes_on c.args.cpu c.args.self.now c.deref_mut.result.now c.confirm_fault-confirmed.new.core same c.holds.ensures.sound c.holds-2.ensures.sound c.confirm_fault-confirmed.result _ c.args.thread c.confirm_fault-confirmed.ensures.refused c.confirm_fault-confirmed.ensures.ended
+
+pub returns-clause-event : goal.returns-clause-event
+returns-clause-event c = record { grew = (returns-clause-on c).grew; was = c.holds.ensures.sound; sound = c.holds-2.ensures.sound }

@@ -1,9 +1,12 @@
 use Rattle.std.proofs.Common.{◌∙◌}
 use Rattle.cache_ident.specs.declared.names.Name.TheVariants as name
-use Rattle.cache_board.proofs.EventLaws.{load_event}
+use Rattle.cache_board.proofs.EventLaws.{load_goes_on}
 use Rattle.cache_board.proofs.board.Board.load_kernel.Goals as goal
 
-pub returns-clause-event : goal.returns-clause-event
-returns-clause-event c =
+pub returns-clause-on : goal.returns-clause-on
+returns-clause-on c =
     let same = c.deref_mut.ensures.value ∙ c.self.view_is in
-    load_event c.args.cpu c.args.self.now c.deref_mut.result.now c.load_kernel-loaded.new.core same c.holds.ensures.sound c.holds-2.ensures.sound c.load_kernel-loaded.result _ (name.Kernel c.args.kernel) c.load_kernel-loaded.ensures.refused c.load_kernel-loaded.ensures.loaded
+    load_goes_on c.args.cpu c.args.self.now c.deref_mut.result.now c.load_kernel-loaded.new.core same c.holds.ensures.sound c.holds-2.ensures.sound c.load_kernel-loaded.result _ (name.Kernel c.args.kernel) c.load_kernel-loaded.ensures.refused c.load_kernel-loaded.ensures.loaded
+
+pub returns-clause-event : goal.returns-clause-event
+returns-clause-event c = record { grew = (returns-clause-on c).grew; was = c.holds.ensures.sound; sound = c.holds-2.ensures.sound }

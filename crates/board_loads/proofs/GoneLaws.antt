@@ -1,5 +1,5 @@
--- What leaves for a load isn't kept, and leaves fewer behind.
-use Rattle.std.proofs.Common.{◌≡◌, ℕ, ◌+◌, ◌≤◌, Bool, true, false, cond, eqb, List, [], length, count_by, Contains, refl, ap, sym, subst, ◌⊎◌, inl, inr, arith}
+-- What leaves for a load isn't kept, and leaves fewer behind. What came, and what is kept, is loaded.
+use Rattle.std.proofs.Common.{◌≡◌, ℕ, ◌+◌, ◌≤◌, Bool, true, false, cond, eqb, List, [], ◌∷◌, ◌++◌, length, count_by, Contains, refl, ap, sym, ◌∙◌, subst, ◌⊎◌, inl, inr, arith}
 use Rattle.std.proofs.lemmas.Bool.{cases_Bool, eqb-false, eqb-true}
 use Rattle.std.proofs.lemmas.List.{length-map}
 use Rattle.std.proofs.lemmas.List.Elements.{Contains-append_left, Contains-push, Contains-push_cases}
@@ -8,10 +8,14 @@ use Rattle.cache_ident.specs.declared.idents.Ident.{Ident}
 use Rattle.cache_ident.specs.declared.names.Caps.{Caps}
 use Rattle.cache_ident.specs.declared.names.Name.{Name}
 use Rattle.cache_ident.specs.Names.{kind_of}
-use Rattle.cache_ident.specs.Residents.{Resident}
+use Rattle.cache_ident.specs.Residents.{Resident, IsResident}
 use Rattle.depend_lists.specs.declared.nodes.Node.{Node}
+use Rattle.flat_state.specs.declared.events.Event.{Event}
+use Rattle.run_journal.specs.declared.entries.Entry.TheVariants.{Loaded}
+use Rattle.run_journal.specs.Entries.{erase}
 use Rattle.run_journal.specs.Groups.{IsGroup}
 use Rattle.run_journal.specs.Legal.{count_of}
+use Rattle.run_journal.proofs.Growth.{erase-append}
 use Rattle.board_core.specs.group_laws.specs.Leaving.{without_all}
 use Rattle.board_core.specs.group_laws.proofs.Counting.{count-loaded, one}
 use Rattle.board_core.specs.group_laws.proofs.Remaining.{stays_without_all, without_all_cases}
@@ -23,9 +27,14 @@ use Rattle.board_core.specs.desc_parents.specs.Seen.{seen}
 use Rattle.board_core.specs.desc_groups.specs.declared.departures.Gone.{Gone}
 use Rattle.board_core.specs.desc_groups.specs.Moves.{idents_of}
 use Rattle.board_core.specs.desc_groups.specs.Whole.{AreWhole}
-use Rattle.board_core.specs.board_laws.specs.Moves.{IsLoad}
+use Rattle.board_core.specs.board_laws.specs.Moves.{written_back, IsLoad}
 use Rattle.board_core.specs.desc_tables.proofs.Remaining.{kept_stays, IsClosed}
+use Rattle.board_core.proofs.GrowthLaws.{erase_back}
 use Rattle.board_core.proofs.UnkeptLaws.{group_counts}
+
+-- loads and departures are no events
+pub erase_load : (cpu : ℕ) (gone : List Gone) (ident : Ident) (name : Name) → erase (written_back cpu gone ++ Loaded ident name cpu ∷ []) ≡ []
+erase_load cpu gone ident name = erase-append (written_back cpu gone) (Loaded ident name cpu ∷ []) ∙ ap (λ (es : List Event). es ++ []) (erase_back cpu gone)
 
 module _ (caps : Caps) (c : Contents) (pairs : List (Ident × Node)) (whole : AreWhole caps c pairs) where
   abbrev rs : List Resident
@@ -48,14 +57,16 @@ module _ (caps : Caps) (c : Contents) (pairs : List (Ident × Node)) (whole : Ar
       | inr some ↦ kept_stays (seen c) rs keep closed some.0 (idents_of gone) some.2 some.1.may_go.not_kept kept there left
     ]
 
+    -- .. and so is still loaded
     pub kept_is_there : IsClosed (seen c) rs keep → (r : Resident) → Contains rs r → Contains keep r.ident → Contains (residents_of new) r
     kept_is_there closed r there kept =
         subst (λ (all : List Resident). Contains all r) (sym is.residents) (Contains-append_left (without_all (idents_of gone) rs) _ r (stays_without_all (idents_of gone) rs r there (not_gone closed r.ident kept)))
 
-    pub new_there : (r : Resident) × Contains (residents_of new) r × (r.name ≡ name)
-    new_there =
+    -- what came is there
+    pub loaded_there : IsResident (residents_of new) ident name
+    loaded_there =
         let it : Resident = record { ident = ident; name = name; locked = false } in
-        (it, subst (λ (all : List Resident). Contains all it) (sym is.residents) (Contains-push (without_all (idents_of gone) rs) it), refl)
+        (it, subst (λ (all : List Resident). Contains all it) (sym is.residents) (Contains-push (without_all (idents_of gone) rs) it), refl, refl)
 
     pub new_cases : (r : Resident) → Contains (residents_of new) r → Contains rs r ⊎ (r.name ≡ name)
     new_cases r there =
