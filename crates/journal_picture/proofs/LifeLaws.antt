@@ -1,5 +1,5 @@
 -- Lives, an entry at a time.
-use Rattle.std.proofs.Common.{◌≡◌, ℕ, ◌+◌, ◌<◌, suc, List, [], ◌∷◌, ◌++◌, length, drop, get_or, map, refl, sym, ap, ap₂, ◌∙◌, append_assoc, append-nil, drop-cons, arith}
+use Rattle.std.proofs.Common.{◌≡◌, ℕ, ◌+◌, ◌<◌, suc, List, ◌∷◌, ◌++◌, length, drop, get_or, map, refl, sym, ap, ◌∙◌, append_assoc, drop-cons, arith}
 use Rattle.std.proofs.Common.{All, Some, slice_get, slice_index_or, slice_set}
 use Rattle.std.proofs.Math.Seq.{map-set_same}
 use Rattle.std.proofs.lemmas.List.Elements.{All-set}
@@ -24,10 +24,6 @@ one_more es old new i place e within made so_far =
     ∙ append_assoc (map load_of old) (loads_at place (get_or es i e)) (loads_from (place + 1) (drop (i + 1) es))
     ∙ ap (λ (xs : List Entry). map load_of old ++ loads_from place xs) (sym (cut es i e within))
     ∙ so_far
-
-pub all_taken : (es rest : List Entry) (lives : List Life) (place : ℕ) → rest ≡ [] → map load_of lives ++ loads_from place rest ≡ loads_from 0 es → map load_of lives ≡ loads_from 0 es
-all_taken es rest lives place none so_far =
-    sym (append-nil (map load_of lives)) ∙ ap (λ (xs : List Entry). map load_of lives ++ loads_from place xs) (sym none) ∙ so_far
 
 -- ---- the end of a life
 

@@ -54,7 +54,9 @@ fn loaded_at(alloc: Global, entries: &[Entry], place: u64) -> Result<String, NoM
 // What left at a place, in words.
 fn left_at(alloc: Global, entries: &[Entry], place: u64) -> Result<String, NoMemory> {
     match entries.get(place as usize) {
-        Some(Entry::WrittenBack { ident, cause, .. }) => format!(in alloc; " of {ident}, which was {cause}"),
+        Some(Entry::WrittenBack { ident, cause, .. }) => format!(in alloc;
+            " of {ident}, which was {cause}"
+        ),
         _ => String::from_str(alloc, ""),
     }
 }

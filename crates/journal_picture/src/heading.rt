@@ -2,8 +2,8 @@
 
 use crate::frame::Frame;
 use crate::numbers::sums;
-use crate::whole::Judged;
 use crate::sentences::sentence;
+use crate::whole::Judged;
 use cache_ident::NoMemory;
 use flat_state::Settled;
 use page_markup::{Element, Tag};
@@ -46,7 +46,9 @@ fn verdict(alloc: Global, journal: &Journal, judged: Judged) -> Result<String, N
         Judged::Broken { at, point } => {
             let rule = sentence(point);
             let entry = entry_text(alloc, journal.get(at))?;
-            format!(in alloc; "The journal is not legal. Entry {at}, {entry}, breaks rule {point}: {rule}. What stands before it is drawn.")
+            format!(in alloc;
+                "The journal is not legal. Entry {at}, {entry}, breaks rule {point}: {rule}. What stands before it is drawn."
+            )
         }
     }
 }
@@ -56,7 +58,12 @@ fn part(alloc: Global, frame: &Frame) -> Result<String, NoMemory> {
     format!(in alloc; "Drawn are the entries from {from} on and before {to}")
 }
 
-fn paragraph(alloc: Global, class: &str, text: &str, out: &mut Vec<Element>) -> Result<(), NoMemory> {
+fn paragraph(
+    alloc: Global,
+    class: &str,
+    text: &str,
+    out: &mut Vec<Element>,
+) -> Result<(), NoMemory> {
     let element = Element::new(alloc, Tag::Paragraph, class)?.saying(text)?;
     out.push(element)?;
     Ok(())

@@ -7,7 +7,11 @@ use page_markup::{AttributeName, Element, Tag};
 use std::alloc::Global;
 
 /// The class by which something of a kernel is coloured.
-pub(crate) fn colour(alloc: Global, class: &str, kernel: Option<KernelNo>) -> Result<String, NoMemory> {
+pub(crate) fn colour(
+    alloc: Global,
+    class: &str,
+    kernel: Option<KernelNo>,
+) -> Result<String, NoMemory> {
     match kernel {
         Some(kernel) => {
             let number = kernel.0 % 8;
@@ -63,13 +67,19 @@ fn told(alloc: Global, moment: &Moment) -> Result<String, NoMemory> {
     let whose = whose(alloc, moment.kernel)?;
     match &moment.act {
         Act::Ran(steps) => {
-            format!(in alloc; "thread {thread}{whose} took {steps} steps on processor {cpu}, entry {place}")
+            format!(in alloc;
+                "thread {thread}{whose} took {steps} steps on processor {cpu}, entry {place}"
+            )
         }
         Act::Ended(how) => {
-            format!(in alloc; "thread {thread}{whose} ended on processor {cpu} with {how}, entry {place}")
+            format!(in alloc;
+                "thread {thread}{whose} ended on processor {cpu} with {how}, entry {place}"
+            )
         }
         Act::Completed(call) => {
-            format!(in alloc; "call {call} of thread {thread}{whose} was completed on processor {cpu}, entry {place}")
+            format!(in alloc;
+                "call {call} of thread {thread}{whose} was completed on processor {cpu}, entry {place}"
+            )
         }
     }
 }
@@ -88,14 +98,18 @@ fn shape(alloc: Global, frame: &Frame, moment: &Moment) -> Result<Element, NoMem
         }
         Act::Ended(_) => {
             let element = Element::new(alloc, Tag::Path, "fault")?;
-            at_place(element, alloc, frame, place, y)?
-                .with(AttributeName::Shape, "M0 3l6 6-6 6 2 2 6-6 6 6 2-2-6-6 6-6-2-2-6 6-6-6z")?
+            at_place(element, alloc, frame, place, y)?.with(
+                AttributeName::Shape,
+                "M0 3l6 6-6 6 2 2 6-6 6 6 2-2-6-6 6-6-2-2-6 6-6-6z",
+            )?
         }
         Act::Completed(_) => {
             let class = colour(alloc, "call", moment.kernel)?;
             let element = Element::new(alloc, Tag::Path, class.as_str())?;
-            at_place(element, alloc, frame, place, y)?
-                .with(AttributeName::Shape, "M0 9l5-5 5 5-5 5z")?
+            at_place(element, alloc, frame, place, y)?.with(
+                AttributeName::Shape,
+                "M0 9l5-5 5 5-5 5z",
+            )?
         }
     };
     let name = format!(in alloc; "thread {}", moment.thread.0)?;
@@ -105,17 +119,23 @@ fn shape(alloc: Global, frame: &Frame, moment: &Moment) -> Result<Element, NoMem
         .titled(told.as_str())
 }
 
-// Whose it was, in few letters.
-fn thread_name(alloc: Global, frame: &Frame, moment: &Moment) -> Result<Element, NoMemory> {
-    let class = match moment.act {
-        Act::Ran(_) if frame.unit >= 18 => "in",
-        _ => "in small",
-    };
+// Adds whose a run was, in few letters, where there is room, or could be once the page's script draws it wider.
+fn draw_name(
+    alloc: Global,
+    frame: &Frame,
+    moment: &Moment,
+    out: &mut Vec<Element>,
+) -> Result<(), NoMemory> {
+    if !frame.is_short() {
+        return Ok(());
+    }
+    let class = if frame.unit >= 18 { "in" } else { "in small" };
     let text = format!(in alloc; "t{}", moment.thread.0)?;
     let label = Element::new(alloc, Tag::Text, class)?.saying(text.as_str())?;
     let y = frame.lane_y(moment.cpu).saturating_add(16);
     let label = at_place(label, alloc, frame, moment.place, y)?;
-    label.at(AttributeName::To, moment.place.saturating_add(1))
+    out.push(label.at(AttributeName::To, moment.place.saturating_add(1))?)?;
+    Ok(())
 }
 
 /// Adds what processors did.
@@ -128,8 +148,8 @@ pub(crate) fn draw_moments(
     for moment in moments {
         let shape = shape(alloc, frame, moment)?;
         out.push(shape)?;
-        if frame.is_short() {
-            out.push(thread_name(alloc, frame, moment)?)?;
+        if let Act::Ran(_) = moment.act {
+            draw_name(alloc, frame, moment, out)?;
         }
     }
     Ok(())

@@ -13,9 +13,11 @@ const LINE: u64 = HEAD - 14;
 /// The capacities that the journal declares.
 pub(crate) fn caps_of(entries: &[Entry]) -> Caps {
     match entries.first() {
-        Some(Entry::Declared {
-            decl: Decl::Machine { machine },
-        }) => machine.caps,
+        Some(
+            Entry::Declared {
+                decl: Decl::Machine { machine },
+            },
+        ) => machine.caps,
         _ => Caps::default(),
     }
 }
@@ -53,7 +55,13 @@ fn line_of(
 }
 
 // The points of a line whose highest number is drawn at full height.
-fn points(alloc: Global, frame: &Frame, line: &[(u64, u64)], most: u64, y: u64) -> Result<String, NoMemory> {
+fn points(
+    alloc: Global,
+    frame: &Frame,
+    line: &[(u64, u64)],
+    most: u64,
+    y: u64,
+) -> Result<String, NoMemory> {
     let mut text = String::new(alloc);
     let mut before = y.saturating_add(LINE);
     for (place, level) in line {

@@ -19,5 +19,5 @@ mod whole;
 pub use bars::Bar;
 pub use lives::{Departure, Life};
 pub use page::Drawing;
-pub use whole::{Judged, Part, picture};
 pub use std::alloc::AllocError as NoMemory;
+pub use whole::{Judged, Part, picture};

@@ -137,7 +137,9 @@ pub(crate) fn sums(alloc: Global, entries: &[Entry]) -> Result<String, NoMemory>
     let (steps, runs, faults, calls) = (doings.steps, doings.runs, doings.faults, doings.calls);
     let entries = entries.len() as u64;
     let each = per(alloc, steps, entries)?;
-    format!(in alloc; "{entries} entries, {steps} steps ({each} an entry), {runs} runs, {faults} faults, {calls} completed calls")
+    format!(in alloc;
+        "{entries} entries, {steps} steps ({each} an entry), {runs} runs, {faults} faults, {calls} completed calls"
+    )
 }
 
 /// A table of what came and left, cell by cell.

@@ -100,7 +100,9 @@ fn add(
 ) -> Result<(), NoMemory> {
     let (loads, displaced, steps) = (stretch.loads, stretch.displaced, stretch.steps);
     let end = first.saturating_add(stretch.entries);
-    let title = format!(in alloc; "entries {first} to {end}: {loads} loads, {displaced} displaced, {steps} steps; --from {first} draws from here on")?;
+    let title = format!(in alloc;
+        "entries {first} to {end}: {loads} loads, {displaced} displaced, {steps} steps; --from {first} draws from here on"
+    )?;
     let up = bar(alloc, "loads", number, (loads, most.loads), true)?;
     out.push(up.titled(title.as_str())?)?;
     let down = bar(alloc, "steps", number, (steps, most.steps), false)?;
@@ -111,7 +113,9 @@ fn add(
 // The mark of what is drawn.
 fn shown(alloc: Global, frame: &Frame, size: u64) -> Result<Element, NoMemory> {
     let from = shared(frame.start, size);
-    let wide = shared(frame.to, size).saturating_sub(from).saturating_add(1);
+    let wide = shared(frame.to, size)
+        .saturating_sub(from)
+        .saturating_add(1);
     Element::new(alloc, Tag::Rect, "shown")?
         .at(AttributeName::X, from.saturating_mul(WIDTH))?
         .at(AttributeName::Y, 0)?
@@ -137,11 +141,7 @@ fn strip(alloc: Global, entries: &[Entry], frame: &Frame) -> Result<Vec<Element>
 }
 
 /// The whole journal at a glance, where the drawing has a part of it alone.
-pub(crate) fn overview(
-    alloc: Global,
-    entries: &[Entry],
-    frame: &Frame,
-) -> Result<Group, NoMemory> {
+pub(crate) fn overview(alloc: Global, entries: &[Entry], frame: &Frame) -> Result<Group, NoMemory> {
     if frame.from == 0 && entries.len() as u64 <= frame.to {
         return Ok(Group {
             tag: Tag::Div,

@@ -6,7 +6,9 @@ ghost use Rattle.journal_picture.specs.Pages.{bar_text, canvas_text, content_tex
 
 use crate::bars::Bar;
 use cache_ident::NoMemory;
-use page_markup::{Attribute, Element, Group, Tag, put_closing, put_element, put_elements, put_group, put_opening};
+use page_markup::{
+    Attribute, Element, Group, Tag, put_closing, put_element, put_elements, put_group, put_opening,
+};
 use std::alloc::Global;
 
 /// All that a page shows.
@@ -64,7 +66,12 @@ fn put_content(out: &mut Vec<u8>, drawing: &Drawing) -> Result<(), NoMemory>
 
 /// The page of a drawing, between what stands before it and behind it.
 #[tactic(auto, unfolding(crate::specs::Pages::page_text))]
-pub(crate) fn page(alloc: Global, beginning: &str, drawing: &Drawing, end: &str) -> Result<Vec<u8>, NoMemory>
+pub(crate) fn page(
+    alloc: Global,
+    beginning: &str,
+    drawing: &Drawing,
+    end: &str,
+) -> Result<Vec<u8>, NoMemory>
     ensures { IfOk result (λ text. text.items ≡ page_text beginning.now drawing.now end.now) }
 {
     let mut out = Vec::from_slice(alloc, beginning.as_bytes())?;

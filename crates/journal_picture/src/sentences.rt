@@ -20,8 +20,10 @@ pub(crate) fn sentence(point: u32) -> &'static str {
             "what is locked is loaded and wasn't locked, and its owner may lock another one; what is unlocked was locked, and isn't \
              the first kernel"
         }
-        5 => "a loaded thread takes one or more steps, none of which faults, all through loaded rows",
-        6 => "a loaded thread takes one step that faults, and where its fetch translates, through a loaded row",
+        5 =>
+            "a loaded thread takes one or more steps, none of which faults, all through loaded rows",
+        6 =>
+            "a loaded thread takes one step that faults, and where its fetch translates, through a loaded row",
         7 => {
             "a loaded thread's call is completed that can be, and all that is loaded stays fit, with all that it depends on loaded"
         }

@@ -83,12 +83,7 @@ fn within_most(from: u64, end: u64) -> u64
 }
 
 // The frame of what is asked for, as far as it is there and may be drawn.
-fn frame(
-    alloc: Global,
-    entries: &[Entry],
-    lives: &[Life],
-    part: Part,
-) -> Result<Frame, NoMemory>
+fn frame(alloc: Global, entries: &[Entry], lives: &[Life], part: Part) -> Result<Frame, NoMemory>
     ensures { IfOk result (λ frame. (frame.from ≡ first_drawn entries.now part) × (frame.to ≡ end_drawn entries.now part)) }
 {
     let end = part.to.min(entries.len() as u64);

@@ -150,11 +150,7 @@ pub(crate) fn put_attributes(out: &mut Vec<u8>, attributes: &[Attribute]) -> Res
 }
 
 /// Adds the beginning of an element.
-pub fn put_opening(
-    out: &mut Vec<u8>,
-    tag: Tag,
-    attributes: &[Attribute],
-) -> Result<(), AllocError>
+pub fn put_opening(out: &mut Vec<u8>, tag: Tag, attributes: &[Attribute]) -> Result<(), AllocError>
     ensures { OnOk result (out.new.items ≡ out.old.items ++ opening_text tag attributes.now) }
 {
     out.extend_from_slice(b"<")?;

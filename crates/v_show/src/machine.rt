@@ -102,10 +102,15 @@ fn shown(alloc: Global, checked: Checked, part: Part) -> Result<DueText, AllocEr
 {
     match checked {
         Checked::Yes {
-            settled, journal, ..
+            settled,
+            journal,
+            ..
         } => drawn(alloc, &journal, Judged::Legal(settled), part),
         Checked::No {
-            at, point, journal, ..
+            at,
+            point,
+            journal,
+            ..
         } => drawn(alloc, &journal, Judged::Broken { at, point }, part),
         Checked::BadJournal { line, text } => Ok(DueText {
             ending: Ending::BadJournal { line },

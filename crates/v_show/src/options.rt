@@ -22,12 +22,7 @@ pub(crate) struct Options {
 }
 
 // An option with one number.
-fn option<'a>(
-    alloc: Global,
-    name: &'a str,
-    default: &'a str,
-    parser: ValueParser<'a>,
-) -> Arg<'a>
+fn option<'a>(alloc: Global, name: &'a str, default: &'a str, parser: ValueParser<'a>) -> Arg<'a>
     ensures rule { rule_of result ≡ option name.entry.now default.entry.now parser.entry }
     ensures local { result.global ≡ false }
 {
