@@ -42,7 +42,7 @@ pub(crate) fn kind_word(kind: Kind) -> &'static str {
         Kind::Kernel => "kernels",
         Kind::Space => "spaces",
         Kind::Thread => "threads",
-        Kind::Mapping => "mappings",
+        Kind::Mapping => "rows",
     }
 }
 
