@@ -11,6 +11,7 @@ set -euo pipefail
 script=bench/board.sh
 top="$(cd "$(dirname "$0")/.." && pwd)"
 source "$top/scripts/program.sh"
+take_help "$@"
 place="$(mktemp -d)"
 trap 'rm -rf "$place"' EXIT
 

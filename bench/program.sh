@@ -2,6 +2,8 @@
 # prove and build it there.
 
 top="$(cd "$(dirname "${BASH_SOURCE[0]}")/.." && pwd)"
+source "$top/scripts/usage.sh"
+take_help "$@"
 place="$(mktemp -d)"
 trap 'rm -rf "$place"' EXIT
 

@@ -18,6 +18,8 @@
 #
 # Makes a program in a temporary folder, and lets rt prove and build it there.
 set -euo pipefail
+source "$(dirname "$0")/../scripts/usage.sh"
+take_help "$@"
 peers="${1:-}"
 if [ -n "$peers" ]; then peers="$(cd "$peers" && pwd)"; fi
 source "$(dirname "$0")/program.sh"

@@ -4,6 +4,8 @@
 # the time: each row is found to be the first of its page in a time logarithmic in the rows.
 set -euo pipefail
 top="$(cd "$(dirname "$0")/.." && pwd)"
+source "$top/scripts/usage.sh"
+take_help "$@"
 place="$(mktemp -d)"
 trap 'rm -rf "$place"' EXIT
 

@@ -13,6 +13,7 @@ unset CDPATH
 script=bench/scenario_read.sh
 top="$(cd "$(dirname "${BASH_SOURCE[0]}")/.." && pwd)"
 source "$top/scripts/program.sh"
+take_help "$@"
 if ! find_proved v_run; then
     say 'no proved v_run is built from the sources as they are; ./build makes one'
     exit 1

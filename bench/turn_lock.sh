@@ -5,9 +5,11 @@
 # The program is made in a folder of its own outside the repository, and is proved and built there.
 # Usage: bench/turn_lock.sh [HOLDS [RUNS]]
 set -euo pipefail
+top="$(cd "$(dirname "$0")/.." && pwd)"
+source "$top/scripts/usage.sh"
+take_help "$@"
 holds="${1:-20000}"
 runs="${2:-20}"
-top="$(cd "$(dirname "$0")/.." && pwd)"
 room="$(mktemp -d)"
 trap 'rm -rf "$room"' EXIT
 

@@ -11,6 +11,7 @@ unset CDPATH
 script=bench/want_of_memory.sh
 top="$(cd "$(dirname "${BASH_SOURCE[0]}")/.." && pwd)"
 source "$top/scripts/program.sh"
+take_help "$@"
 # Sets proved to the program of that name.
 find_program() {
     if ! find_proved "$1"; then

@@ -7,8 +7,10 @@
 # tenths of a second, so the file out/proved/listing holds the last one that was found, with a line for each source that
 # says when it was last changed; as long as those lines are the same, so is the sum.
 
-programs=(v_run v_drive)
-about_trying='about 20 seconds'
+source "$top/scripts/usage.sh"
+
+programs=(v_run v_drive v_show)
+about_trying='about 40 seconds each time'
 about_proving='about 15 minutes on four processors from nothing'
 proved_folder="$top/out/proved"
 
@@ -16,8 +18,23 @@ proved_folder="$top/out/proved"
 no_answer=70
 no_kit=127
 
+# The status of build, .ci/run, tests/run and scripts/elf_block where a word isn't taken.
+not_taken=2
+
 say() {
     printf '%s: %s\n' "$script" "$1" >&2
+}
+
+# take_no_words WORD..: of a script that takes none.
+take_no_words() {
+    take_help "$@"
+    (($# == 0)) || refuse_word "$1"
+}
+
+refuse_word() {
+    say "$1 is no word that it takes"
+    show_usage >&2
+    exit "$not_taken"
 }
 
 # Sets rt to the path of the kit's command, or to nothing.
@@ -145,31 +162,72 @@ waited() {
     return "$status"
 }
 
-# run_program NAME WORD..: runs a program on the words and on this script's input and output, and ends with its status.
-# Where no proved one is built from the sources as they are, rt builds and runs an unproved one.
+clean_up() { [ -z "${place-}" ] || rm -rf -- "$place"; }
+
+# run_program NAME WORD..: runs a program on the words and on this script's input and output, says on standard error what a
+# status means that is no answer, and ends with the status. Where no proved one is built from the sources as they are, rt builds
+# and runs an unproved one.
 run_program() {
-    if find_proved "$1"; then
-        shift
-        exec "$proved" "$@"
-    fi
-    if [ -z "$rt" ]; then
-        say "no proved $1 is built from the sources as they are, and the kit's command rt isn't on the path to build one"
+    local name=$1 status=0 first=
+    shift
+    take_help "$@"
+    end_on_signals
+    # A write that nobody reads fails, as a program's does, and ends nothing.
+    trap : PIPE
+    if find_proved "$name"; then
+        run_proved "$@"
+    elif [ -n "$rt" ]; then
+        try_program "$name" "$@"
+    else
+        say "no proved $name is built from the sources as they are, and the kit's command rt isn't on the path to build one"
         exit "$no_kit"
     fi
-    say "not proved: $1 isn't built from the sources as they are, so rt tries it unproved, in $about_trying; ./build proves and builds it, in $about_proving"
-    try_program "$@"
+    if [[ $status != [0-2] ]]; then
+        source "$top/scripts/words.sh"
+        explain_status "$name" "$status" "$first" "$@"
+    fi
+    exit "$status"
 }
+
+# Sets status to that of the program, or to 4 where its answer can't be passed on, and first to the first line of that.
+run_proved() {
+    local failed=
+    exec 3< <(exec "$proved" "$@")
+    waited_for=("$!")
+    pass_on <&3 || failed=1
+    exec 3<&-
+    wait "${waited_for[0]}" || status=$?
+    [ -z "$failed" ] || status=4
+    waited_for=()
+}
+
+# Passes its input on as it comes, and sets first to its first line, in which no answer has a byte 0. It fails where it can't, but
+# not where who reads has enough, as head has.
+pass_on() {
+    local end='' passed=0
+    IFS= read -r first && end=$'\n'
+    [ -n "$first$end" ] || return 0
+    printf '%s%s' "$first" "$end" || return
+    cat <&0 &
+    waited_for+=("$!")
+    wait "$!" || passed=$?
+    ((passed == 0 || passed == 141))
+} 2> /dev/null
 
 # rt stops reading where input pauses, passes on at most 64 MiB, and has lines of its own, so the input is read whole first,
 # and nothing is written before rt's last line says that the program ended, and with which status.
 most_input=$((64 << 20))
 
 try_program() {
-    local name=$1 last status=0
+    local name=$1 last
     shift
+    say "not proved: $name isn't built from the sources as they are, so rt tries it unproved, in $about_trying; ./build proves and builds it, in $about_proving"
+    source "$top/scripts/words.sh"
+    if say_wrong_word "$name" "$@" && [ -t 0 ]; then
+        # so that nobody waits for a terminal that the program won't read
+        exec < /dev/null
+    fi
     place=$(mktemp -d) || exit "$no_answer"
-    clean_up() { rm -rf -- "$place"; }
-    end_on_signals
     if ! waited head -c "$((most_input + 1))" > "$place/input"; then
         say 'standard input could not be read'
         exit "$no_answer"
@@ -178,17 +236,19 @@ try_program() {
         say "standard input has more than the $most_input bytes that rt passes to an unproved program"
         exit "$no_answer"
     fi
-    cd -- "$top/crates/$name" > /dev/null || exit "$no_answer"
-    waited "$rt" try -- "$@" < "$place/input" > "$place/output" 2> "$place/said"
+    waited try_crate "$name" -- "$@" < "$place/input" > "$place/output" 2> "$place/said"
     last=$(tail -n 1 -- "$place/said")
-    if [[ $last =~ ^run=ended\ status=([0-9]+)\  ]]; then
-        # as of a program whose output is closed
-        cat -- "$place/output" 2> /dev/null || status=4
-        [ "$status" != 0 ] || status=${BASH_REMATCH[1]}
-        exit "$status"
+    if [[ ! $last =~ ^run=ended\ status=([0-9]+)\  ]]; then
+        no_answer_from_rt "$place/said"
+        exit "$no_answer"
     fi
-    no_answer_from_rt "$place/said"
-    exit "$no_answer"
+    status=${BASH_REMATCH[1]}
+    pass_on < "$place/output" || status=4
+}
+
+# try_crate NAME WORD..: becomes rt try on these words, in the folder of that crate.
+try_crate() {
+    cd -- "$top/crates/$1" > /dev/null && exec "$rt" try "${@:2}"
 }
 
 # Says in one line which limit of rt's was passed, or else all that rt said and that there is no answer.

@@ -8,6 +8,3 @@ mod refusals;
 pub use answers::Answer;
 pub use ops::Op;
 pub use refusals::Refused;
-
-#[cfg(test)]
-mod tests;

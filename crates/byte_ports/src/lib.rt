@@ -14,6 +14,3 @@ pub use whole::{ReadError, read_to_end, write_all};
 
 /// There was no memory, and what was called is as it was before.
 pub use std::alloc::AllocError as NoMemory;
-
-#[cfg(test)]
-mod tests;

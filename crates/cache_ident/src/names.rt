@@ -96,32 +96,3 @@ impl Caps {
         }
     }
 }
-
-#[cfg(test)]
-mod tests {
-    use super::*;
-    use crate::{Cause, Ident};
-    use std::test::Fail;
-
-    #[test]
-    fn texts(rt: HostRuntime) -> Result<(), Fail> {
-        let alloc = rt.alloc();
-        let row = Name::Mapping(SpaceNo(700), Vpn(16));
-        let ident = Ident {
-            kind: row.kind(),
-            slot: 0,
-            serial: 2,
-        };
-        let cause = Cause::Displaced;
-        let text = format!(in alloc; "{ident} {row} {cause}")?;
-        assert_eq!(rt; text.as_str(), "M0.2 row 700 16 displaced");
-        let caps = Caps {
-            kernels: 1,
-            spaces: 2,
-            threads: 3,
-            mappings: 4,
-        };
-        assert_eq!(rt; caps.of(row.kind()), 4);
-        Ok(())
-    }
-}

@@ -107,27 +107,3 @@ impl Roll {
         }
     }
 }
-
-#[cfg(test)]
-mod tests {
-    use super::*;
-    use std::test::Fail;
-
-    #[test]
-    fn an_identifier_is_live_until_it_departs(rt: HostRuntime) -> Result<(), Fail> {
-        let mut roll = Roll::new(rt.alloc());
-        roll.reserve(2)?;
-        assert!(rt; roll.spare() >= 2);
-        let space = roll.issue(Kind::Space, 0);
-        let row = roll.issue(Kind::Mapping, 0);
-        roll.depart(space, 17);
-        assert_eq!(rt; roll.find(space), Standing::Left(17));
-        assert_eq!(rt; roll.find(row), Standing::Live);
-        assert_eq!(rt; row.serial, 1);
-        let other_slot = Ident { slot: 1, ..row };
-        assert_eq!(rt; roll.find(other_slot), Standing::Never);
-        let next = Ident { serial: 2, ..row };
-        assert_eq!(rt; roll.find(next), Standing::Never);
-        Ok(())
-    }
-}

@@ -3,10 +3,9 @@
 
 mod answers;
 mod inputs;
+mod laws;
 mod texts;
 
 pub use answers::{Checked, answer};
 pub use inputs::parts;
-
-#[cfg(test)]
-mod tests;
+pub use laws::a_printed_scenario_is_cut_off;

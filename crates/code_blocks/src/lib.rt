@@ -6,6 +6,3 @@ mod fault;
 
 pub use blocks::CodeBlock;
 pub use fault::CodeFault;
-
-#[cfg(test)]
-mod tests;

@@ -12,6 +12,3 @@ pub use answers::put_answer;
 pub use lines::Line;
 pub use reading::{ReadLine, read_line};
 pub use std::alloc::AllocError as NoMemory;
-
-#[cfg(test)]
-mod tests;

@@ -8,6 +8,3 @@ mod images;
 pub use fault::ElfFault;
 pub use images::{Image, Part, read};
 pub use phys_groups::Flags;
-
-#[cfg(test)]
-mod tests;

@@ -7,6 +7,3 @@ mod effects;
 
 pub use calls::effect;
 pub use effects::{Effect, Notice};
-
-#[cfg(test)]
-mod tests;

@@ -5,6 +5,3 @@ mod reporting;
 
 pub use flat_machine::{Flat, NoMemory, Settled};
 pub use reporting::report;
-
-#[cfg(test)]
-mod tests;

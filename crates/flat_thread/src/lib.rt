@@ -5,8 +5,6 @@
 mod actions;
 mod calls;
 mod numbers;
-#[cfg(test)]
-mod tests;
 
 pub use actions::{action_for_word, data_access, stored_word};
 pub use calls::{answer, carry_out, give};

@@ -7,6 +7,3 @@ mod words;
 
 pub use elf_image::ElfFault;
 pub use images::image_decls;
-
-#[cfg(test)]
-mod tests;

@@ -6,6 +6,3 @@ mod places;
 
 pub use checking::{Verdict, check};
 pub use flat_machine::{Flat, NoMemory};
-
-#[cfg(test)]
-mod tests;

@@ -1,11 +1,13 @@
 //! The line of an entry, and the lines of a journal.
 
-ghost use Rattle.std.specs.Prelude.{◌≡◌, ◌++◌, OnOk, IfOk};
+ghost use Rattle.std.specs.Prelude.{◌≡◌, ◌++◌, OnOk, IfOk, codes};
 ghost use Rattle.std.specs.Fmt.{decimal};
-ghost use Rattle.std.specs.List.{flat_map};
+ghost use Rattle.std.specs.List.{flat_map, AllByRecursion};
+ghost use Rattle.text_fields.specs.Numbers.{word_text};
 ghost use Rattle.cache_ident.specs.Idents.{ident_text, cause_text};
 ghost use Rattle.cache_ident.specs.Names.{name_text};
 ghost use Rattle.journal_text.specs.Lines.{field, caps_text, rights_text, flag_text, flags_text, receiver_text, cpu_text, decl_text, entry_text, line, journal_text};
+ghost use Rattle.journal_text.specs.Ranges.{AreCapsInRange, AreInRange, IsDeclInRange, IsIdentInRange, IsInRange, IsNameInRange, IsReceiverInRange, IsSmall};
 
 use cache_ident::{Caps, Cause, Ident, Name, NoMemory, ThreadNo};
 use flat_state::Decl;
@@ -26,7 +28,8 @@ pub fn put_number(out: &mut Vec<u8>, number: u64) -> Result<(), NoMemory>
 /// Adds a space and a number.
 #[tactic(auto, unfolding(crate::specs::Lines::field))]
 pub fn put_field(out: &mut Vec<u8>, value: u32) -> Result<(), NoMemory>
-    ensures { OnOk result (out.new.items ≡ out.old.items ++ field value) }
+    ensures text { OnOk result (out.new.items ≡ out.old.items ++ field value) }
+    ensures small { IsSmall value }
 {
     out.extend_from_slice(b" ")?;
     put_number(out, u64::from(value))
@@ -34,7 +37,8 @@ pub fn put_field(out: &mut Vec<u8>, value: u32) -> Result<(), NoMemory>
 
 #[tactic(auto, unfolding(crate::specs::Lines::caps_text))]
 fn put_caps(out: &mut Vec<u8>, caps: Caps) -> Result<(), NoMemory>
-    ensures { OnOk result (out.new.items ≡ out.old.items ++ caps_text caps) }
+    ensures text { OnOk result (out.new.items ≡ out.old.items ++ caps_text caps) }
+    ensures small { OnOk result (AreCapsInRange caps) }
 {
     put_field(out, caps.kernels)?;
     put_field(out, caps.spaces)?;
@@ -73,7 +77,8 @@ pub fn put_flags(out: &mut Vec<u8>, flags: Flags) -> Result<(), NoMemory>
 }
 
 fn put_receiver(out: &mut Vec<u8>, receiver: Option<ThreadNo>) -> Result<(), NoMemory>
-    ensures { OnOk result (out.new.items ≡ out.old.items ++ receiver_text receiver) }
+    ensures text { OnOk result (out.new.items ≡ out.old.items ++ receiver_text receiver) }
+    ensures small { OnOk result (IsReceiverInRange receiver) }
 {
     match receiver {
         Some(thread) => put_field(out, thread.0),
@@ -83,7 +88,8 @@ fn put_receiver(out: &mut Vec<u8>, receiver: Option<ThreadNo>) -> Result<(), NoM
 
 /// Adds an identifier: the letter of its kind, its slot, a dot and its serial.
 pub fn put_ident(out: &mut Vec<u8>, ident: Ident) -> Result<(), NoMemory>
-    ensures { OnOk result (out.new.items ≡ out.old.items ++ ident_text ident) }
+    ensures text { OnOk result (out.new.items ≡ out.old.items ++ ident_text ident) }
+    ensures range { OnOk result (IsIdentInRange ident) }
 {
     out.push(ident.kind.letter() as u8)?;
     put_number(out, u64::from(ident.slot))?;
@@ -92,7 +98,8 @@ pub fn put_ident(out: &mut Vec<u8>, ident: Ident) -> Result<(), NoMemory>
 }
 
 fn put_name(out: &mut Vec<u8>, name: Name) -> Result<(), NoMemory>
-    ensures { OnOk result (out.new.items ≡ out.old.items ++ name_text name) }
+    ensures text { OnOk result (out.new.items ≡ out.old.items ++ name_text name) }
+    ensures range { OnOk result (IsNameInRange name) }
 {
     match name {
         Name::Kernel(no) => put_named(out, b"kernel ", no.0),
@@ -106,7 +113,8 @@ fn put_name(out: &mut Vec<u8>, name: Name) -> Result<(), NoMemory>
 }
 
 fn put_named(out: &mut Vec<u8>, kind: &[u8], no: u32) -> Result<(), NoMemory>
-    ensures { OnOk result (out.new.items ≡ out.old.items ++ (kind.now ++ decimal no)) }
+    ensures text { OnOk result (out.new.items ≡ out.old.items ++ (kind.now ++ decimal no)) }
+    ensures small { IsSmall no }
 {
     out.extend_from_slice(kind)?;
     put_number(out, u64::from(no))
@@ -124,15 +132,26 @@ fn put_cause(out: &mut Vec<u8>, cause: Cause) -> Result<(), NoMemory>
 
 #[tactic(auto, unfolding(crate::specs::Lines::cpu_text))]
 fn put_cpu(out: &mut Vec<u8>, cpu: u32) -> Result<(), NoMemory>
-    ensures { OnOk result (out.new.items ≡ out.old.items ++ cpu_text cpu) }
+    ensures text { OnOk result (out.new.items ≡ out.old.items ++ cpu_text cpu) }
+    ensures small { IsSmall cpu }
 {
     out.extend_from_slice(b" cpu")?;
     put_field(out, cpu)
 }
 
+// A space and a word.
+fn put_value(out: &mut Vec<u8>, value: u32) -> Result<(), NoMemory>
+    ensures text { OnOk result (out.new.items ≡ out.old.items ++ (codes " " ++ word_text value)) }
+    ensures small { IsSmall value }
+{
+    out.extend_from_slice(b" ")?;
+    put_word(out, value)
+}
+
 // A word, and then numbers.
 fn put_fields(out: &mut Vec<u8>, word: &[u8], fields: &[u32]) -> Result<(), NoMemory>
-    ensures { OnOk result (out.new.items ≡ out.old.items ++ (word.now ++ flat_map field fields.now)) }
+    ensures text { OnOk result (out.new.items ≡ out.old.items ++ (word.now ++ flat_map field fields.now)) }
+    ensures small { OnOk result (AllByRecursion IsSmall fields.now) }
 {
     out.extend_from_slice(word)?;
     for value in fields {
@@ -144,7 +163,8 @@ fn put_fields(out: &mut Vec<u8>, word: &[u8], fields: &[u32]) -> Result<(), NoMe
 /// Adds a declaration, as its line has it before the line feed.
 #[tactic(auto, unfolding(crate::specs::Lines::decl_text))]
 pub fn put_decl(out: &mut Vec<u8>, decl: &Decl) -> Result<(), NoMemory>
-    ensures { OnOk result (out.new.items ≡ out.old.items ++ decl_text decl.now) }
+    ensures text { OnOk result (out.new.items ≡ out.old.items ++ decl_text decl.now) }
+    ensures range { OnOk result (IsDeclInRange decl.now) }
 {
     match *decl {
         Decl::Machine { machine } => {
@@ -192,15 +212,15 @@ pub fn put_decl(out: &mut Vec<u8>, decl: &Decl) -> Result<(), NoMemory>
             value,
         } => {
             put_fields(out, b"word", &[frame.0, offset])?;
-            out.extend_from_slice(b" ")?;
-            put_word(out, value)
+            put_value(out, value)
         }
     }
 }
 
 // A word, an identifier and a processor.
 fn put_lock(out: &mut Vec<u8>, word: &[u8], ident: Ident, cpu: u32) -> Result<(), NoMemory>
-    ensures { OnOk result (out.new.items ≡ out.old.items ++ (word.now ++ ident_text ident ++ cpu_text cpu)) }
+    ensures text { OnOk result (out.new.items ≡ out.old.items ++ (word.now ++ ident_text ident ++ cpu_text cpu)) }
+    ensures range { OnOk result (IsIdentInRange ident × IsSmall cpu) }
 {
     out.extend_from_slice(word)?;
     put_ident(out, ident)?;
@@ -209,7 +229,8 @@ fn put_lock(out: &mut Vec<u8>, word: &[u8], ident: Ident, cpu: u32) -> Result<()
 
 #[tactic(auto, unfolding(crate::specs::Lines::entry_text))]
 fn put_entry(out: &mut Vec<u8>, entry: &Entry) -> Result<(), NoMemory>
-    ensures { OnOk result (out.new.items ≡ out.old.items ++ entry_text entry.now) }
+    ensures text { OnOk result (out.new.items ≡ out.old.items ++ entry_text entry.now) }
+    ensures range { OnOk result (IsInRange entry.now) }
 {
     match *entry {
         Entry::Declared { decl } => put_decl(out, &decl),
@@ -248,7 +269,8 @@ fn put_entry(out: &mut Vec<u8>, entry: &Entry) -> Result<(), NoMemory>
 /// Adds the line of an entry, with its line feed.
 #[tactic(auto, unfolding(crate::specs::Lines::line))]
 pub(crate) fn put_line(out: &mut Vec<u8>, entry: &Entry) -> Result<(), NoMemory>
-    ensures { OnOk result (out.new.items ≡ out.old.items ++ line entry.now) }
+    ensures text { OnOk result (out.new.items ≡ out.old.items ++ line entry.now) }
+    ensures range { OnOk result (IsInRange entry.now) }
 {
     put_entry(out, entry)?;
     out.extend_from_slice(b"\n")
@@ -256,7 +278,10 @@ pub(crate) fn put_line(out: &mut Vec<u8>, entry: &Entry) -> Result<(), NoMemory>
 
 /// The lines of the entries, in order. It costs one pass.
 pub fn print(alloc: Global, journal: &Journal) -> Result<Vec<u8>, NoMemory>
-    ensures { IfOk result (λ text. text.items ≡ journal_text journal.now.entries) }
+    ensures text { IfOk result (λ text. text.items ≡ journal_text journal.now.entries) }
+
+    // So what was printed is read as these entries again.
+    ensures range { OnOk result (AreInRange journal.now.entries) }
 {
     let mut out = Vec::new(alloc);
     for entry in journal.as_slice() {

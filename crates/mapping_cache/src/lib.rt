@@ -18,9 +18,6 @@ use sorted_list::{Run, SortedList};
 use std::alloc::Global;
 use std::marker::Model;
 
-#[cfg(test)]
-mod tests;
-
 /// The rows that are loaded. A contract sees what stands at each slot; all memory is taken by `new`.
 /// The costs are those of `Cache`; `put` and `take` change the index by frame too.
 #[derive(Drop)]

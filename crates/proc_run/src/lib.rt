@@ -13,6 +13,3 @@ pub use run_words::Words;
 
 /// Memory ran out, and what was called is as it was before.
 pub use flat_machine::NoMemory;
-
-#[cfg(test)]
-mod tests;

@@ -9,6 +9,3 @@ pub use flat_state::Settled;
 pub use lines::{ReportLines, summary};
 pub use std::alloc::AllocError as NoMemory;
 pub use words::{access_text, reason_text, word_text};
-
-#[cfg(test)]
-mod tests;

@@ -11,6 +11,3 @@ pub use drive::read_steps;
 pub use options::{Mode, Options, WordsFault};
 pub use std::alloc::AllocError as NoMemory;
 pub use words::Words;
-
-#[cfg(test)]
-mod tests;

@@ -6,6 +6,3 @@ mod products;
 
 pub use atomics::{AmoOp, amo};
 pub use products::{MulOp, mul_div};
-
-#[cfg(test)]
-mod tests;

@@ -8,6 +8,3 @@ mod scenario;
 
 pub use scenario::generate;
 pub use std::alloc::AllocError as NoMemory;
-
-#[cfg(test)]
-mod tests;

@@ -14,6 +14,3 @@ mod values;
 pub use blocks::{CodeLine, ImageLine, read_code_line, read_image_line};
 pub use forms::Line;
 pub use lines::read_line;
-
-#[cfg(test)]
-mod tests;

@@ -53,7 +53,7 @@ signals (Some thread) h = a_word (codes "signal") _ (ink_from (codes "signal") r
 -- ---- a declaration behind the machine
 
 -- its word, its fields, and its form
-abbrev word_of : Decl → List ℕ
+abbrev pub word_of : Decl → List ℕ
 word_of (decls.Machine machine) = codes "mem"
 word_of (decls.Kernel n limits) = codes "kernel"
 word_of (decls.Right kernel group read write) = codes "right"
@@ -62,7 +62,7 @@ word_of (decls.Thread n space pc priority a0 a1) = codes "thread"
 word_of (decls.Map space vpn frame flags receiver) = codes "map"
 word_of (decls.Word frame offset value) = codes "word"
 
-abbrev fields_of : Decl → List (List ℕ)
+abbrev pub fields_of : Decl → List (List ℕ)
 fields_of (decls.Machine machine) = decimal machine.groups ∷ []
 fields_of (decls.Kernel n limits) = decimal n.0 ∷ codes "locks" ∷ map decimal (amounts limits)
 fields_of (decls.Right kernel group read write) = decimal kernel.0 ∷ decimal group ∷ rights_text read write ∷ []
@@ -96,52 +96,51 @@ HasFlag (decls.Space n kernel) = Unit {0}
 HasFlag (decls.Thread n space pc priority a0 a1) = Unit {0}
 HasFlag (decls.Word frame offset value) = Unit {0}
 
+-- its word can be read as one, and its fields as these
+pub word_ink_of : (d : Decl) → IsInk (word_of d)
+word_ink_of (decls.Machine machine) = ink_from (codes "mem") refl
+word_ink_of (decls.Kernel n limits) = ink_from (codes "kernel") refl
+word_ink_of (decls.Right kernel group read write) = ink_from (codes "right") refl
+word_ink_of (decls.Space n kernel) = ink_from (codes "space") refl
+word_ink_of (decls.Thread n space pc priority a0 a1) = ink_from (codes "thread") refl
+word_ink_of (decls.Map space vpn frame flags receiver) = ink_from (codes "map") refl
+word_ink_of (decls.Word frame offset value) = ink_from (codes "word") refl
+
+pub word_some_of : (d : Decl) → 0 < length (word_of d)
+word_some_of (decls.Machine machine) = omega arith
+word_some_of (decls.Kernel n limits) = omega arith
+word_some_of (decls.Right kernel group read write) = omega arith
+word_some_of (decls.Space n kernel) = omega arith
+word_some_of (decls.Thread n space pc priority a0 a1) = omega arith
+word_some_of (decls.Map space vpn frame flags receiver) = omega arith
+word_some_of (decls.Word frame offset value) = omega arith
+
+pub are_fields : (d : Decl) → IsDeclInRange d → AreFields (fields_of d)
+are_fields (decls.Machine machine) small = a_number machine.groups [] small.0 no_fields
+are_fields (decls.Kernel n limits) small = a_number n.0 _ small.0 (a_word (codes "locks") _ (ink_from (codes "locks") refl) (omega arith) (four_numbers limits.kernels limits.spaces limits.threads limits.mappings small.1.0 small.1.1 small.1.2 small.1.3))
+are_fields (decls.Right kernel group read write) small = a_number kernel.0 _ small.0 (a_number group _ small.1 (a_word (rights_text read write) [] (rights_ink read write) (rights_some read write) no_fields))
+are_fields (decls.Space n kernel) small = a_number n.0 _ small.0 (a_number kernel.0 [] small.1 no_fields)
+are_fields (decls.Thread n space pc priority a0 a1) small =
+    a_number n.0 _ small.0 (a_number space.0 _ small.1 (a_number pc _ small.2
+    (a_word (codes "prio") _ (ink_from (codes "prio") refl) (omega arith) (a_number priority _ small.3
+    (a_word (codes "a0") _ (ink_from (codes "a0") refl) (omega arith) (a_number a0 _ small.4
+    (a_word (codes "a1") _ (ink_from (codes "a1") refl) (omega arith) (a_number a1 [] small.5 no_fields))))))))
+are_fields (decls.Map space vpn frame flags receiver) small =
+    a_number space.0 _ small.0 (a_number vpn.0 _ small.1 (a_number frame.0 _ small.2
+    (a_word (flags_text flags) _ (flags_ink flags) (flags_some flags) (signals receiver small.3))))
+are_fields (decls.Word frame offset value) small = a_number frame.0 _ small.0 (a_number offset _ small.1 (a_word (word_text value) [] (word_ink value) (omega (arith, word_eight value)) no_fields))
+
+form_read : (d : Decl) → IsDeclInRange d → HasFlag d → by_word (word_of d) (fields_of d) ≡ Ok (form_of d)
+form_read (decls.Machine machine) small flag = memory_form machine.groups small.0
+form_read (decls.Kernel n limits) small flag = kernel_form n limits small.0 small.1
+form_read (decls.Right kernel group read write) small flag = right_form kernel group read write small.0 small.1
+form_read (decls.Space n kernel) small flag = space_form n kernel small.0 small.1
+form_read (decls.Thread n space pc priority a0 a1) small flag = thread_form n space pc priority a0 a1 small.0 small.1 small.2 small.3 small.4 small.5
+form_read (decls.Map space vpn frame flags receiver) small flag = row_form space vpn frame flags receiver small.0 small.1 small.2 small.3 flag
+form_read (decls.Word frame offset value) small flag = word_form frame offset value small.0 small.1 small.2
+
 is_read : (d : Decl) → IsDeclInRange d → HasFlag d → IsRead d
-is_read (decls.Machine machine) small flag =
-    record { ink = ink_from (codes "mem") refl; some = omega arith; fields = a_number machine.groups [] small.0 no_fields; form = memory_form machine.groups small.0 }
-is_read (decls.Kernel n limits) small flag =
-    record {
-      ink = ink_from (codes "kernel") refl;
-      some = omega arith;
-      fields = a_number n.0 _ small.0 (a_word (codes "locks") _ (ink_from (codes "locks") refl) (omega arith) (four_numbers limits.kernels limits.spaces limits.threads limits.mappings small.1.0 small.1.1 small.1.2 small.1.3));
-      form = kernel_form n limits small.0 small.1;
-    }
-is_read (decls.Right kernel group read write) small flag =
-    record {
-      ink = ink_from (codes "right") refl;
-      some = omega arith;
-      fields = a_number kernel.0 _ small.0 (a_number group _ small.1 (a_word (rights_text read write) [] (rights_ink read write) (rights_some read write) no_fields));
-      form = right_form kernel group read write small.0 small.1;
-    }
-is_read (decls.Space n kernel) small flag =
-    record { ink = ink_from (codes "space") refl; some = omega arith; fields = a_number n.0 _ small.0 (a_number kernel.0 [] small.1 no_fields); form = space_form n kernel small.0 small.1 }
-is_read (decls.Thread n space pc priority a0 a1) small flag =
-    record {
-      ink = ink_from (codes "thread") refl;
-      some = omega arith;
-      fields =
-          a_number n.0 _ small.0 (a_number space.0 _ small.1 (a_number pc _ small.2
-          (a_word (codes "prio") _ (ink_from (codes "prio") refl) (omega arith) (a_number priority _ small.3
-          (a_word (codes "a0") _ (ink_from (codes "a0") refl) (omega arith) (a_number a0 _ small.4
-          (a_word (codes "a1") _ (ink_from (codes "a1") refl) (omega arith) (a_number a1 [] small.5 no_fields))))))));
-      form = thread_form n space pc priority a0 a1 small.0 small.1 small.2 small.3 small.4 small.5;
-    }
-is_read (decls.Map space vpn frame flags receiver) small flag =
-    record {
-      ink = ink_from (codes "map") refl;
-      some = omega arith;
-      fields =
-          a_number space.0 _ small.0 (a_number vpn.0 _ small.1 (a_number frame.0 _ small.2
-          (a_word (flags_text flags) _ (flags_ink flags) (flags_some flags) (signals receiver small.3))));
-      form = row_form space vpn frame flags receiver small.0 small.1 small.2 small.3 flag;
-    }
-is_read (decls.Word frame offset value) small flag =
-    record {
-      ink = ink_from (codes "word") refl;
-      some = omega arith;
-      fields = a_number frame.0 _ small.0 (a_number offset _ small.1 (a_word (word_text value) [] (word_ink value) (omega (arith, word_eight value)) no_fields));
-      form = word_form frame offset value small.0 small.1 small.2;
-    }
+is_read d small flag = record { ink = word_ink_of d; some = word_some_of d; fields = are_fields d small; form = form_read d small flag }
 
 line_is : (d : Decl) → IsRead d → line_of (word_of d ++ flat_map spaced (fields_of d)) ≡ Ok (form_of d)
 line_is d r = by_parts (word_of d) (fields_of d) r.ink r.some r.fields ∙ r.form
@@ -215,7 +214,7 @@ thread_fields w fs gs hs ks rest =
     let whole = flat_map-append spaced fs (gs ++ (hs ++ ks)) ∙ ap (λ (x : List ℕ). flat_map spaced fs ++ x) behind in
     four_parts w (flat_map spaced fs) (flat_map spaced gs) (flat_map spaced hs) (flat_map spaced ks) (codes "\n") rest ∙ ap (λ (x : List ℕ). (w ++ x) ++ (10 ∷ rest)) (sym whole)
 
-behind_line : (d : Decl) (rest : List ℕ) → IsBehind d → decl_text d ++ rest ≡ (word_of d ++ flat_map spaced (fields_of d)) ++ (10 ∷ rest)
+pub behind_line : (d : Decl) (rest : List ℕ) → IsBehind d → decl_text d ++ rest ≡ (word_of d ++ flat_map spaced (fields_of d)) ++ (10 ∷ rest)
 unfolding decl_text numbers signal_text
 behind_line (decls.Machine machine) rest behind = absurd behind
 behind_line (decls.Kernel n limits) rest behind = more_fields (codes "kernel") (decimal n.0 ∷ []) (codes "locks" ∷ map decimal (amounts limits)) rest
@@ -303,16 +302,16 @@ body_goes number earlier s m ds (d ∷ es) rest there fit small =
 
 -- ---- the machine
 
-abbrev machine_line : (groups : ℕ) → List ℕ
+abbrev pub machine_line : (groups : ℕ) → List ℕ
 machine_line groups = codes "mem" ++ flat_map spaced (decimal groups ∷ [])
 
-abbrev caps_line : Machine → List ℕ
+abbrev pub caps_line : Machine → List ℕ
 caps_line m = codes "caps" ++ flat_map spaced (map decimal (amounts m.caps))
 
 around : (a b n rest : List ℕ) → ((a ++ b) ++ n) ++ rest ≡ a ++ (b ++ (n ++ rest))
 around a b n rest = simp append_assoc
 
-machine_text : (m : Machine) (rest : List ℕ) → decl_text (decls.Machine m) ++ rest ≡ machine_line m.groups ++ (10 ∷ (caps_line m ++ (10 ∷ rest)))
+pub machine_text : (m : Machine) (rest : List ℕ) → decl_text (decls.Machine m) ++ rest ≡ machine_line m.groups ++ (10 ∷ (caps_line m ++ (10 ∷ rest)))
 unfolding decl_text numbers
 machine_text m rest = around (machine_line m.groups) (codes "\ncaps" ++ flat_map spaced (map decimal (amounts m.caps))) (codes "\n") rest
 
@@ -327,7 +326,7 @@ memory_step m small fits =
     by_parts (codes "mem") (decimal m.groups ∷ []) (ink_from (codes "mem") refl) (omega arith) (a_number m.groups [] small no_fields) ∙ memory_form m.groups small in
     rw (read, memory_fits m fits) refl
 
-caps_fields : (m : Machine) → AreCapsInRange m.caps → AreFields (map decimal (amounts m.caps))
+pub caps_fields : (m : Machine) → AreCapsInRange m.caps → AreFields (map decimal (amounts m.caps))
 caps_fields m small = four_numbers m.caps.kernels m.caps.spaces m.caps.threads m.caps.mappings small.0 small.1 small.2 small.3
 
 caps_step : (m : Machine) → AreCapsInRange m.caps → broken_rule nothing_declared (decls.Machine m) ≡ None

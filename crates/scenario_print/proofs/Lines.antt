@@ -80,11 +80,11 @@ no_return : (xs : List ℕ) → IsClean xs → behind_return xs ≡ xs
 no_return [] h = refl
 no_return (b ∷ xs) h = let other : eqb b 13 ≡ false = ne_eqb b 13 (λ e. let low = h.0 in omega arith) in rw other refl
 
-whole_line : (l : List ℕ) → IsClean l → without_return l ≡ l
+pub whole_line : (l : List ℕ) → IsClean l → without_return l ≡ l
 unfolding without_return
 whole_line l h = ap reverse (no_return (reverse l) (clean_reverse l h)) ∙ reverse-reverse l
 
-fed : (l rest : List ℕ) → IsClean l → pieces is_feed (l ++ (10 ∷ rest)) ≡ l ∷ pieces is_feed rest
+pub fed : (l rest : List ℕ) → IsClean l → pieces is_feed (l ++ (10 ∷ rest)) ≡ l ∷ pieces is_feed rest
 unfolding pieces
 fed [] rest h = refl
 fed (b ∷ l) rest h =

@@ -4,6 +4,3 @@
 mod printing;
 
 pub use printing::print;
-
-#[cfg(test)]
-mod tests;

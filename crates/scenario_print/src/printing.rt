@@ -143,6 +143,7 @@ fn put_decl(out: &mut Vec<u8>, decl: &Decl) -> Result<(), NoMemory>
 /// as the last. It costs one pass. Words that stood in one line, in code or in an executable have a line each.
 pub fn print(alloc: Global, scenario: &Scenario) -> Result<Vec<u8>, NoMemory>
     ensures text { IfOk result (λ text. text.items ≡ scenario_text scenario.now) }
+    ensures range { OnOk result (AllByRecursion IsDeclInRange scenario.now) }
 
     // What was read once is read again.
     ensures again { IfOk result (λ text. AllFit nothing_declared scenario.now → 0 < length (after_declarations nothing_declared scenario.now).kernels → declared_by text.items ≡ Ok scenario.now) }

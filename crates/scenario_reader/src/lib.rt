@@ -12,6 +12,3 @@ mod standing;
 pub use fault::ScenarioFault;
 pub use opening::read_opening;
 pub use scenario::{Scenario, read};
-
-#[cfg(test)]
-mod tests;

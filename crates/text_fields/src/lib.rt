@@ -8,6 +8,3 @@ mod numbers;
 pub use fields::{four, is_blank, is_space, next_field, one, three, two};
 pub use lines::{are_plain, is, is_plain, next_line, without_comment};
 pub use numbers::{digit, number, put_word, skip, word};
-
-#[cfg(test)]
-mod tests;

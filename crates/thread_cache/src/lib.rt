@@ -10,9 +10,6 @@ use cache_ident::{Kind, Name, SpaceNo, ThreadNo};
 use rv32_exec::{Context, Output, Status};
 use slot_cache::{Cache, Descriptor};
 
-#[cfg(test)]
-mod tests;
-
 /// A thread of a space.
 #[derive(Drop)]
 pub struct ThreadRec {

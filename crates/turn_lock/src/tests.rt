@@ -74,13 +74,6 @@ fn append_all<R: Wait>(rt: &R, lock: &Turn<Log>, pass: Pass<Log>, count: u64) ->
     pass
 }
 
-// What one run of a test does: how often each maker appends, and which of two ranges takes in the other.
-#[derive(Clone, Copy)]
-struct Plan {
-    count: u64,
-    upper_first: bool,
-}
-
 fn opened(alloc: Global) -> Result<(Turn<Log>, Pass<Log>), AllocError>
     ensures { IfOk result (λ r. IsPassOf r.0 r.1 × HasAllNumbers r.1) }
 {
@@ -107,7 +100,7 @@ fn in_two<R: Threads + Wait + Sync>(
     rt: &R,
     lock: &Turn<Log>,
     pass: Pass<Log>,
-    plan: Plan,
+    upper_first: bool,
 ) -> Pass<Log>
     requires lock { IsPassOf lock.now pass }
     requires wide { (first_of pass + 1 < end_of pass) × (end_of pass < 2 ^ 32) }
@@ -121,20 +114,20 @@ fn in_two<R: Threads + Wait + Sync>(
         || -> Pass<Log>
             requires { IsPassOf lock.now lower }
             ensures { IsPassOf lock.entry.now result × HasSameRange lower result }
-        { append_all(rt, lock, lower, plan.count) },
+        { append_all(rt, lock, lower, 1000) },
         || -> Pass<Log>
             requires { IsPassOf lock.now upper }
             ensures { IsPassOf lock.entry.now result × HasSameRange upper result }
-        { append_all(rt, lock, upper, plan.count) },
+        { append_all(rt, lock, upper, 1000) },
     );
-    joined(lock, lower, upper, plan.upper_first)
+    joined(lock, lower, upper, upper_first)
 }
 
 fn in_four<R: Threads + Wait + Sync>(
     rt: &R,
     lock: &Turn<Log>,
     pass: Pass<Log>,
-    plan: Plan,
+    upper_first: bool,
 ) -> Pass<Log>
     requires lock { IsPassOf lock.now pass }
     requires wide { (first_of pass + 3 < end_of pass) × (end_of pass < 2 ^ 32) }
@@ -148,75 +141,25 @@ fn in_four<R: Threads + Wait + Sync>(
         || -> Pass<Log>
             requires { IsPassOf lock.now lower × (first_of lower + 1 < end_of lower) × (end_of lower < 2 ^ 32) }
             ensures { IsPassOf lock.entry.now result × HasSameRange lower result }
-        { in_two(rt, lock, lower, plan) },
+        { in_two(rt, lock, lower, upper_first) },
         || -> Pass<Log>
             requires { IsPassOf lock.now upper × (first_of upper + 1 < end_of upper) × (end_of upper < 2 ^ 32) }
             ensures { IsPassOf lock.entry.now result × HasSameRange upper result }
-        { in_two(rt, lock, upper, plan) },
+        { in_two(rt, lock, upper, upper_first) },
     );
-    joined(lock, lower, upper, plan.upper_first)
-}
-
-fn in_eight<R: Threads + Wait + Sync>(
-    rt: &R,
-    lock: &Turn<Log>,
-    pass: Pass<Log>,
-    plan: Plan,
-) -> Pass<Log>
-    requires lock { IsPassOf lock.now pass }
-    requires wide { (first_of pass + 7 < end_of pass) × (end_of pass < 2 ^ 32) }
-    ensures lock { IsPassOf lock.now result }
-    ensures range { HasSameRange pass result }
-{
-    let middle = pass.number() + 4;
-    let (lower, upper) = lock.split(pass, middle);
-    let (lower, upper) = join(
-        rt,
-        || -> Pass<Log>
-            requires { IsPassOf lock.now lower × (first_of lower + 3 < end_of lower) × (end_of lower < 2 ^ 32) }
-            ensures { IsPassOf lock.entry.now result × HasSameRange lower result }
-        { in_four(rt, lock, lower, plan) },
-        || -> Pass<Log>
-            requires { IsPassOf lock.now upper × (first_of upper + 3 < end_of upper) × (end_of upper < 2 ^ 32) }
-            ensures { IsPassOf lock.entry.now result × HasSameRange upper result }
-        { in_four(rt, lock, upper, plan) },
-    );
-    joined(lock, lower, upper, plan.upper_first)
+    joined(lock, lower, upper, upper_first)
 }
 
 #[test]
-fn two_threads_append_a_thousand_each(rt: HostRuntime) -> Result<(), Fail> {
-    let (lock, pass) = opened(rt.alloc())?;
-    let plan = Plan {
-        count: 1000,
-        upper_first: false,
-    };
-    let pass = in_two(&rt, &lock, pass, plan);
-    let log = lock.close(pass);
-    assert_eq!(rt; log.entries.len(), 2000);
-    for maker in 0..2 {
-        assert!(rt; log.has_in_order(maker, 1000), "maker {maker}");
-    }
-    Ok(())
-}
-
-#[test]
-fn eight_threads_join_in_either_order(rt: HostRuntime) -> Result<(), Fail> {
+fn four_threads_append_and_join_in_either_order(rt: HostRuntime) -> Result<(), Fail> {
     for upper_first in [false, true] {
         let (lock, pass) = opened(rt.alloc())?;
-        let plan = Plan {
-            count: 250,
-            upper_first,
-        };
-        let pass = in_eight(&rt, &lock, pass, plan);
-        assert_eq!(rt; pass.number(), 0);
+        let pass = in_four(&rt, &lock, pass, upper_first);
+        assert!(rt; pass.number() == 0);
         let log = lock.close(pass);
-        assert_eq!(rt; log.entries.len(), 2000);
-        for maker in 0..8 {
-            assert!(rt;
-                log.has_in_order(maker, 250),
-                "maker {maker}, upper first: {upper_first}"
-            );
+        assert!(rt; log.entries.len() == 4000);
+        for maker in 0..4 {
+            assert!(rt; log.has_in_order(maker, 1000), "maker {maker}");
         }
     }
     Ok(())
@@ -227,7 +170,7 @@ fn three_parts_make_the_whole(rt: HostRuntime) -> Result<(), Fail> {
     let (lock, pass) = opened(rt.alloc())?;
     let (low, rest) = lock.split(pass, 1);
     let (middle, high) = lock.split(rest, 2);
-    assert_eq!(rt; (low.number(), middle.number(), high.number()), (0, 1, 2));
+    assert!(rt; low.number() == 0 && middle.number() == 1 && high.number() == 2);
     let pass = lock.join(lock.join(middle, high), low);
     assert!(rt; lock.close(pass).entries.is_empty());
     Ok(())
@@ -262,15 +205,15 @@ fn a_value_is_dropped_once(rt: HostRuntime) -> Result<(), Fail> {
             panic!(rt; "there is no memory")
         };
         let pass = lock.hold(&rt, pass).release();
-        assert_eq!(rt; Arc::strong_count(&token), 2);
+        assert!(rt; Arc::strong_count(&token) == 2);
         if closed {
             let counted = lock.close(pass);
-            assert_eq!(rt; Arc::strong_count(&token), 2);
+            assert!(rt; Arc::strong_count(&token) == 2);
             drop(counted);
         } else {
             drop(lock);
         }
-        assert_eq!(rt; Arc::strong_count(&token), 1);
+        assert!(rt; Arc::strong_count(&token) == 1);
     }
     Ok(())
 }

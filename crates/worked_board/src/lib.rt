@@ -6,5 +6,3 @@ mod board_tests;
 pub mod machines;
 #[cfg(test)]
 mod refusal_tests;
-#[cfg(test)]
-mod signal_tests;

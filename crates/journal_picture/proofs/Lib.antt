@@ -1,0 +1,2 @@
+mod LifeLaws
+mod PageLaws

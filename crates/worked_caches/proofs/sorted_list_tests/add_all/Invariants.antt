@@ -1,6 +1,0 @@
-use Rattle.std.proofs.Common.{◌≡◌}
-use Rattle.worked_caches.specs.declared.sorted_list_tests.TheConstants.{ROOM}
-use Rattle.worked_caches.proofs.sorted_list_tests.add_all.Given as goal
-
-abbrev pub invariant-loop-key : goal.invariant-loop-key
-invariant-loop-key g l = l.list.room ≡ ROOM

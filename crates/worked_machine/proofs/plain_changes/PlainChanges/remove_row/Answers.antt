@@ -1,6 +1,0 @@
-use Rattle.worked_machine.specs.contracts.plain.Plain.{the_view}
-use Rattle.flat_machine.proofs.ChangeSound.{without_sound}
-use Rattle.worked_machine.proofs.plain_changes.PlainChanges.remove_row.Goals as goal
-
-pub invariant_of-self : goal.invariant_of-self
-invariant_of-self c = rw c.remove_in.ensures.rows (without_sound (the_view c.self.inside) _ c.self.invariant c.args.space c.args.vpn.0)

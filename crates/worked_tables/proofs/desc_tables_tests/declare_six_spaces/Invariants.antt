@@ -1,6 +1,0 @@
-use Rattle.std.proofs.Common.{◌≡◌}
-use Rattle.worked_tables.specs.declared.tables.TheConstants.{CAPS}
-use Rattle.worked_tables.proofs.desc_tables_tests.declare_six_spaces.Given as goal
-
-abbrev pub invariant-loop-no : goal.invariant-loop-no
-invariant-loop-no g l = l.tables.caps ≡ CAPS

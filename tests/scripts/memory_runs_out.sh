@@ -1,0 +1,2 @@
+proved v_run 6
+./run

@@ -1,0 +1,2 @@
+mkdir -p tests/words
+tests/run words/ nowhere

@@ -1,0 +1,2 @@
+proved v_run 3
+./run < /dev/null

@@ -1,0 +1,2 @@
+proved v_run 0 'status done'
+./run >&-

@@ -1,0 +1,2 @@
+proved v_run 8 'too long'
+./run

@@ -1,0 +1,2 @@
+mkdir -p crates/v_run
+./run < /dev/null

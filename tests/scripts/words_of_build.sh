@@ -1,0 +1,4 @@
+./build --proved 2> said
+status=$?
+head -n 2 said
+exit "$status"

@@ -1,0 +1,4 @@
+.ci/run --anew 2> said
+status=$?
+head -n 2 said
+exit "$status"
