@@ -1,0 +1,2 @@
+pub mod EventsLeft
+pub mod Falling
