@@ -2,3 +2,4 @@ pub mod ViewLaws
 pub mod DeskLaws
 pub mod DriveLaws
 mod EventLaws
+pub mod PastLaws

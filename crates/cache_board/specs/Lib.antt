@@ -6,3 +6,4 @@ pub mod Boards
 pub mod Desks
 pub mod Drive
 pub mod Events
+pub mod Pasts
