@@ -88,9 +88,11 @@ module _ (b : Recorded) (one : IsExactlyOne (contents_of b)) where
       let c = contents_of b in
       let rec = found c one (Some b.machine.machine) b.machine.memory ident thread q t here in
       let of : owner (seen c) (name.Thread thread) ≡ Some kernel = ap (owner_of_thread (seen c)) here ∙ its in
-      let its_thread : thread_as c ident ≡ Some t = thread_is c ident rec.0 rec.1 ∙ ap (λ (x : FlatThread). Some x) rec.2 in
-      (first _ _ _ (thread_tested c one caller ident given kernel thread r q of)
-      ∙ second _ _ _ (ap (option_and_then (refusal_of_ending b)) its_thread), sym (ap (λ (x : FlatThread). x.no) rec.2) ∙ rec.3)
+      let its_thread : thread_as c ident ≡ Some t = thread_is c ident rec.0 rec.1 ∙ ap (λ (x : FlatThread). Some x) rec.2 in (
+        first _ _ _ (thread_tested c one caller ident given kernel thread r q of)
+            ∙ second _ _ _ (ap (option_and_then (refusal_of_ending b)) its_thread),
+        sym (ap (λ (x : FlatThread). x.no) rec.2) ∙ rec.3,
+      )
 
   left_passes : b.steps < b.limit → over b 1 ≡ None
   unfolding over

@@ -128,7 +128,7 @@ module _ (c : Contents) (one : IsExactlyOne c) where
       let k = space_record c one parent space q in
       let of : owner (seen c) (name.Thread thread) ≡ Some kernel = ap (owner_of_thread (seen c)) here ∙ its in
       let right : wrong_space c parent thread ≡ wrong_parent (Some (name.Space space)) (Some (name.Space t.space)) =
-              sym (space_tested c one parent k.0 k.1 thread t.space (ap (option_map (λ (x : FlatThread). x.space)) here)) ∙ ap (λ (x : SpaceNo). wrong_parent (Some (name.Space x)) (Some (name.Space t.space))) k.2 in
+      sym (space_tested c one parent k.0 k.1 thread t.space (ap (option_map (λ (x : FlatThread). x.space)) here)) ∙ ap (λ (x : SpaceNo). wrong_parent (Some (name.Space x)) (Some (name.Space t.space))) k.2 in
       skip _ _ _ (passes c one kind.Kernel caller (name.Kernel given) refl r)
       (skip _ _ _ (passes c one kind.Space parent (name.Space space) refl q)
       (skip _ _ _ (stands_so c one (name.Thread thread) (ap is_some here))

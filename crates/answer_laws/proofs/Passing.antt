@@ -128,6 +128,6 @@ module _ (c : Contents) (one : IsExactlyOne c) where
       let found = record_named c one ident thread q in
       let named : name_of (item.Thread found.0) ≡ name.Thread thread = item_named ident (name.Thread thread) q (item.Thread found.0) found.1 in
       let mine : not_owned_as c caller ident ≡ not_owner given kernel =
-              ap (option_and_then (not_owned c caller)) (name_is c ident (item.Thread found.0) found.1) ∙ ap (not_owned c caller) named ∙ owned caller given kernel (name.Thread thread) r of in
+      ap (option_and_then (not_owned c caller)) (name_is c ident (item.Thread found.0) found.1) ∙ ap (not_owned c caller) named ∙ owned caller given kernel (name.Thread thread) r of in
       skip _ _ _ (passes kind.Kernel caller (name.Kernel given) refl r)
       (skip _ _ _ (passes kind.Thread ident (name.Thread thread) refl q) mine)

@@ -74,7 +74,7 @@ pub fn a_row_is_loaded()
         → IsResident (residents_of c) caller (name.Kernel given) → IsResident (residents_of c) parent (name.Space space) → IsGiven c receiver named
         → slice_get (seen c).spaces space.0 ≡ Some kernel → row_of (seen c).rows space vpn.0 ≡ Some row
         → refusal_of_load_mapping c caller parent vpn receiver
-            ≡ option_or (not_owner given kernel) (option_or (wrong_parent (option_map name.Thread named) (option_map name.Thread row.receiver)) (option_or (already_loaded c (name.Mapping space vpn)) (option_or (beyond_rights c row) (receivers_absent c row)))) }
+        ≡ option_or (not_owner given kernel) (option_or (wrong_parent (option_map name.Thread named) (option_map name.Thread row.receiver)) (option_or (already_loaded c (name.Mapping space vpn)) (option_or (beyond_rights c row) (receivers_absent c row)))) }
     ensures right { (c : Contents) → IsExactlyOne c → (caller parent : Ident) (receiver : Option Ident) (kernel : KernelNo) (space : SpaceNo) (vpn : Vpn) (row : Row)
         → IsResident (residents_of c) caller (name.Kernel kernel) → IsResident (residents_of c) parent (name.Space space) → IsGiven c receiver row.receiver
         → slice_get (seen c).spaces space.0 ≡ Some kernel → row_of (seen c).rows space vpn.0 ≡ Some row
