@@ -5,6 +5,7 @@ use Rattle.std.proofs.lemmas.List.{take_more}
 use Rattle.cache_ident.specs.declared.idents.Ident.{Ident}
 use Rattle.cache_ident.specs.declared.names.Name.TheVariants as name
 use Rattle.cache_ident.specs.declared.names.SpaceNo.{SpaceNo}
+use Rattle.cache_ident.specs.declared.names.ThreadNo.{ThreadNo}
 use Rattle.cache_ident.specs.declared.names.Vpn.{Vpn}
 use Rattle.board_commits.specs.board_ops.specs.declared.answers.Answer.{Answer}
 use Rattle.board_commits.specs.board_ops.specs.declared.answers.Answer.TheVariants as answers
@@ -25,7 +26,7 @@ use Rattle.board_heal.specs.Healed.{IsHealed}
 use Rattle.board_heal.specs.Refusals.{refusal_of_heal}
 use Rattle.cache_board.specs.declared.place.Place.{Place}
 use Rattle.cache_board.specs.Desks.{AreOfTickets, Desktop, IsItsOwn}
-use Rattle.cache_board.specs.Drive.{answer_if_loaded, AreAnswered, DoesOr, IsAnswered, IsCheckout, IsCommit, IsDone, IsLeave, IsRunAhead, IsView, LoadsOr, MakesRoom, Spares}
+use Rattle.cache_board.specs.Drive.{answer_if_done, answer_if_loaded, AreAnswered, DoesOr, IsAnswered, IsCheckout, IsCommit, IsDone, IsLeave, IsRunAhead, IsView, LoadsOr, MakesRoom, Spares}
 use Rattle.cache_board.proofs.DeskLaws.{checkout_keeps, commit_keeps, grown_by, grown_if_room, grown_if_same, kept_at, leave_keeps, run_keeps, tickets_stay, view_keeps, HasGrown}
 
 -- ---- what an operation keeps
@@ -116,6 +117,24 @@ module _ (cpu : ℕ) (caller parent : Ident) (vpn : Vpn) (receiver : Option Iden
       → IsDone (ops.LoadMapping cpu caller parent vpn receiver) b d answer b′ d
   row_done called answer is refused passed loaded enough =
       (refl, subst (LoadsOr refusal IsRowLoaded b b′) (sym is) (row_loads called refused passed loaded), subst (Spares b) (sym is) (row_spares called enough))
+
+-- ---- a step that is healed
+
+module _ (cpu : ℕ) (whom : ThreadNo) (b : Recorded) (d : Desktop) (b′ : Recorded) where
+  heals : (called : Result (Unit {0}) Refused) → IfErr called (IsRefused (refusal_of_heal b whom) b b′) → OnOk called (refusal_of_heal b whom ≡ None) → OnOk called (IsHealed cpu whom b b′)
+      → DoesOr (refusal_of_heal b whom) (IsHealed cpu whom b b′) b b′ (answer_if_done called)
+  heals (Ok x) refused passed healed = (passed, healed)
+  heals (Err why) refused passed healed = refused
+
+  heal_spares : (called : Result (Unit {0}) Refused) → (HasSpare b 22 → IfErr called (λ why. why ≢ NoMemory)) → Spares b (answer_if_done called)
+  heal_spares (Ok x) enough = λ spare wants. cc
+  heal_spares (Err why) enough = λ spare wants. enough spare (cc)
+
+  pub heal_done : (called : Result (Unit {0}) Refused) (answer : Answer) → answer ≡ answer_if_done called
+      → IfErr called (IsRefused (refusal_of_heal b whom) b b′) → OnOk called (refusal_of_heal b whom ≡ None) → OnOk called (IsHealed cpu whom b b′) → (HasSpare b 22 → IfErr called (λ why. why ≢ NoMemory))
+      → IsDone (ops.HealStep cpu whom) b d answer b′ d
+  heal_done called answer is refused passed healed enough =
+      (refl, subst (DoesOr (refusal_of_heal b whom) (IsHealed cpu whom b b′) b b′) (sym is) (heals called refused passed healed), subst (Spares b) (sym is) (heal_spares called enough))
 
 -- ---- one operation more
 

@@ -8,7 +8,7 @@ use Rattle.cache_board.proofs.board.Board.holds.Goals as goal
 
 pub returns-clause-first : goal.returns-clause-first
 returns-clause-first c = λ sealed.
-    let same = c.deref.ensures.value ∙ c.self.view_is in
+    let same = c.deref.ensures ∙ c.self.view_is in
     let sound = subst (λ (b : Recorded). IsSound b) same c.holds.ensures in
     subst (λ (rs : List Resident). IsResident rs first_ident first_name) sound.told.residents
     (c.the_first_kernel_stays_loaded.ensures.resident _ sound.told.legal (sound.told.seal ∙ sealed))
