@@ -179,7 +179,7 @@ and so on from 8 on.</div>
   const tools = document.createElement('div');
   tools.className = 'tools';
   const search = document.createElement('input');
-  search.type = 'search'; search.placeholder = 'thread 0, row 1 16, T0.2';
+  search.type = 'search'; search.placeholder = 'thread 0, row 700 16, T0.2';
   search.setAttribute('aria-label', 'search for a name or an identifier');
   search.addEventListener('keydown', e => {
     if (e.key !== 'Enter') return;
