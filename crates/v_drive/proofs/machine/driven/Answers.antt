@@ -3,7 +3,12 @@ use Rattle.std.proofs.lemmas.Result.{IfOk-weaker}
 use Rattle.v_drive.specs.Lines.{IsTaken}
 use Rattle.v_drive.specs.Openings.{IsBoardOf}
 use Rattle.v_drive.proofs.Answering.{answered}
+use Rattle.v_drive.proofs.Taking.{clear_views}
 use Rattle.v_drive.proofs.machine.driven.Goals as goal
+
+-- nothing lies on a new desk
+pub take_lines-requires-clause-views : goal.take_lines-requires-clause-views
+take_lines-requires-clause-views c = clear_views c.in_ok-board.board.journal.entries c.in_ok-desk.desk c.in_ok-desk.ensures
 
 pub returns : goal.returns
 returns c =
