@@ -73,6 +73,13 @@ impl<T: Descriptor + Drop> KindStore<T> {
         self.shelf.room() - self.shelf.len() - self.cache.len() as usize
     }
 
+    /// What holds of each store: each name stands in one place at most. It does nothing.
+    pub fn each_is_one(&self)
+        ensures { IsExactlyOne T.called T.KIND self.now }
+    {
+        let _ = &self.cache;
+    }
+
     /// Puts a new descriptor on the shelf, under its owner.
     pub fn declare(&mut self, owner: KernelNo, value: T)
         requires room { 0 < self.old.room }

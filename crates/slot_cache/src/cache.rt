@@ -217,6 +217,13 @@ impl<T: Descriptor + Drop> Cache<T> {
         loaded.locked
     }
 
+    /// What holds of each cache: no slot, no serial and no name stands for two. It does nothing.
+    pub fn each_stands_once(&self)
+        ensures { IsProper T.called T.KIND self.now }
+    {
+        let _ = &self.cells;
+    }
+
     /// What is loaded, in order of slot. Going over it takes as many steps as the highest slot that was ever used.
     pub fn iter(&self) -> Iter<'_, T>
         ensures loaded { result ≡ loaded_in self.now }
