@@ -21,7 +21,7 @@ use Rattle.sorted_list.proofs.ListLemmas.{Contains-from_map}
 use Rattle.sorted_list.proofs.RisingLemmas.{by_parts_total, filter_all}
 use Rattle.sorted_list.proofs.UnderLemmas.{after_added, after_taken}
 use Rattle.growing_list.specs.Index.{IsIndex}
-use Rattle.growing_list.proofs.CopyLemmas.{added_last}
+use Rattle.growing_list.proofs.EndLemmas.{added_last}
 use Rattle.owner_shelf.proofs.NameLemmas.{entry_absent, eq_apart, eq_same, found_name, names_added, names_taken, no_name}
 use Rattle.declared_names.specs.Order.{entries_without, is_of, AreInOrder}
 use Rattle.declared_names.specs.Layout.{IsSound}

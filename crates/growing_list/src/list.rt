@@ -1,6 +1,6 @@
 //! Pairs of a key and a value, in order, in memory that is made again where more of it is wanted.
 
-ghost use Rattle.std.specs.Prelude.{◌≡◌, ◌≢◌, ◌<◌, ◌≤◌, ◌^◌, [], length, map, slice_get, All, Contains, IfOk, OnErr, OnOk};
+ghost use Rattle.std.specs.Prelude.{◌≡◌, ◌≢◌, ◌<◌, ◌≤◌, ◌^◌, [], length, map, slice_get, All, Contains, OnErr, OnOk};
 ghost use Rattle.std.specs.declared.cmp.Ordering.TheVariants.{Equal};
 ghost use Rattle.sorted_list.specs.Sorted.{by_parts, values_under, IsAdded, IsProper, IsTakenOut};
 ghost use Rattle.growing_list.specs.Shown.{shown};
@@ -140,51 +140,19 @@ impl<K: Ord + Copy, V: Ord + Copy> GrowingList<K, V> {
         }
     }
 
-    /// Makes the room so large. It moves each entry that is there. Where memory is wanted, or the room would be 2^32 or
-    /// more, nothing changes.
+    /// Makes the room so large. What is there is moved as it stands, if at all. Where memory is wanted, or the room would be
+    /// 2^32 or more, nothing changes.
     pub fn grow(&mut self, room: usize) -> Result<(), NoMemory>
         requires { self.old.room ≤ room }
         ensures ok { OnOk result (self.new ≡ record self.old { room = room }) }
         ensures err { OnErr result (self.new ≡ self.old) }
         ensures proper { IsProper K.cmp V.cmp self.new }
     {
-        let list = with_room(self.alloc, &self.list, room)?;
-        self.list = Some(list);
+        match &mut self.list {
+            Some(list) => list.grow(room)?,
+            None => self.list = Some(SortedList::new(self.alloc, room)?),
+        }
         self.room = room;
         Ok(())
-    }
-}
-
-// A list of so much room with the same entries.
-fn with_room<K: Ord + Copy, V: Ord + Copy>(
-    alloc: Global,
-    old: &Option<SortedList<K, V>>,
-    room: usize,
-) -> Result<SortedList<K, V>, NoMemory>
-    requires { length (shown old.now).entries ≤ room }
-    ensures list { IfOk result (λ list. list ≡ record { room = room; entries = (shown old.now).entries }) }
-    ensures proper { IfOk result (IsProper K.cmp V.cmp) }
-{
-    let mut list = SortedList::new(alloc, room)?;
-    if let Some(old) = old {
-        copy_all(old, &mut list);
-    }
-    // Whoever asks a list for its length learns that it is in order, and its room below 2^32.
-    let len = list.len();
-    prove!(len <= room);
-    Ok(list)
-}
-
-// Puts all entries into a list that is empty and has room for them.
-fn copy_all<K: Ord + Copy, V: Ord + Copy>(from: &SortedList<K, V>, list: &mut SortedList<K, V>)
-    requires empty { list.old.entries ≡ [] }
-    requires room { length from.now.entries ≤ list.old.room }
-    ensures { list.new ≡ record list.old { entries = from.now.entries } }
-{
-    for place in 0..from.len() {
-        match from.get(place) {
-            Some(entry) => list.insert(entry.0, entry.1),
-            None => unreachable!(),
-        }
     }
 }

@@ -1,6 +1,6 @@
-//! A list in memory that is made once, with places found in logarithmic time.
+//! A list whose changes take no memory, with places found in logarithmic time.
 
-ghost use Rattle.std.specs.Prelude.{◌≡◌, ◌<◌, ◌≤◌, ◌^◌, [], true, AllPairs, count_by, length, insert, remove, slice_get, vec_capacity, vec_len, IfOk};
+ghost use Rattle.std.specs.Prelude.{◌≡◌, ◌<◌, ◌≤◌, ◌^◌, [], true, AllPairs, count_by, length, insert, remove, slice_get, vec_capacity, vec_len, IfOk, OnErr, OnOk};
 ghost use Rattle.std.specs.Option.{option_copied};
 ghost use Rattle.sorted_list.specs.Layout.{IsSeated};
 
@@ -45,6 +45,20 @@ impl<T: Copy> FixedList<T> {
             nodes,
             spare,
         })
+    }
+
+    /// Makes the room so large. Where memory is wanted nothing changes.
+    pub(crate) fn grow(&mut self, room: u32) -> Result<(), AllocError>
+        requires { self.old.room ≤ room }
+        ensures ok { OnOk result (self.new ≡ record self.old { room = room }) }
+        ensures err { OnErr result (self.new ≡ self.old) }
+    {
+        let nodes = room as usize - self.nodes.len();
+        self.nodes.reserve_exact(nodes)?;
+        let seats = room as usize - self.spare.len();
+        self.spare.reserve_exact(seats)?;
+        self.room = room;
+        Ok(())
     }
 
     /// How many items there are. Constant time.

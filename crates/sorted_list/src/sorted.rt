@@ -1,6 +1,6 @@
 //! Pairs of a key and a value, in order.
 
-ghost use Rattle.std.specs.Prelude.{◌≡◌, ◌≢◌, ◌<◌, ◌≤◌, [], length, map, count_by, slice_get, All, Contains, IfOk};
+ghost use Rattle.std.specs.Prelude.{◌≡◌, ◌≢◌, ◌<◌, ◌≤◌, [], length, map, count_by, slice_get, All, Contains, IfOk, OnErr, OnOk};
 ghost use Rattle.std.specs.Ordering.{is_lt};
 ghost use Rattle.std.specs.declared.cmp.Ordering.TheVariants.{Equal};
 ghost use Rattle.sorted_list.specs.Sorted.{by_parts, values_under, IsAdded, IsProper, IsTakenOut};
@@ -13,8 +13,8 @@ use std::marker::Model;
 
 /// Entries of a key and a value in the order of keys, and under one key in that of values, no entry twice.
 ///
-/// A contract sees the `room`, which is how many entries there can be, and the list `entries`. All memory is taken by
-/// `new`. Unless it says otherwise, a call takes a time logarithmic in the entries that are there, whatever the room.
+/// A contract sees the `room`, which is how many entries there can be, and the list `entries`. Only `new` and `grow`
+/// take memory. Unless it says otherwise, a call takes a time logarithmic in the entries that are there, whatever the room.
 #[derive(Drop)]
 pub struct SortedList<K: Ord + Copy, V: Ord + Copy> {
     list: FixedList<(K, V)>,
@@ -40,6 +40,20 @@ impl<K: Ord + Copy, V: Ord + Copy> SortedList<K, V> {
             Ok(room) => Ok(SortedList {
                 list: FixedList::new(alloc, room)?,
             }),
+            Err(_) => Err(AllocError),
+        }
+    }
+
+    /// Makes the room so large. What is there is moved as it stands, if at all. Where memory is wanted, or the room would be
+    /// 2^32 or more, nothing changes.
+    pub fn grow(&mut self, room: usize) -> Result<(), AllocError>
+        requires { self.old.room ≤ room }
+        ensures ok { OnOk result (self.new ≡ record self.old { room = room }) }
+        ensures err { OnErr result (self.new ≡ self.old) }
+        ensures proper { IsProper K.cmp V.cmp self.new }
+    {
+        match u32::try_from(room) {
+            Ok(room) => self.list.grow(room),
             Err(_) => Err(AllocError),
         }
     }
