@@ -7,3 +7,4 @@ pub mod SortedLemmas
 pub mod TreeLemmas
 pub mod UnderLemmas
 pub mod WayLemmas
+mod DownLemmas

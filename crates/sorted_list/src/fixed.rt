@@ -93,7 +93,7 @@ impl<T: Copy> FixedList<T> {
         requires { AllPairs (λ a b. C.is_behind_of cut.now b ≡ true → C.is_behind_of cut.now a ≡ true) self.now.items }
         ensures { option_copied result ≡ slice_get self.now.items (count_by (C.is_behind_of cut.now) self.now.items) }
     {
-        search::first_from(&self.nodes, self.root, cut, None)
+        search::first_from(&self.nodes, self.root, cut)
     }
 
     /// Puts an item at a place, before what is there.

@@ -1,7 +1,7 @@
 //! The way down a tree to where something comes.
 
 ghost use Rattle.std.specs.Prelude.{◌≡◌, ◌≤◌, Bool, true, AllPairs, count_by, slice_get};
-ghost use Rattle.std.specs.Option.{option_copied, option_or};
+ghost use Rattle.std.specs.Option.{option_copied};
 ghost use Rattle.std.specs.Ordering.{is_le, is_lt};
 ghost use Rattle.sorted_list.specs.Sorted.{by_parts};
 ghost use Rattle.sorted_list.specs.Trees.{Stands, Tree, items_of};
@@ -41,7 +41,7 @@ impl<'a, K: Ord, V> Cut<(K, V)> for AtKey<'a, K> {
     ghost is_behind_of = { λ cut entry. is_lt (K.cmp entry.0 cut.0.now) };
 
     fn is_behind(&self, item: &(K, V)) -> bool {
-        item.0 < *self.0
+        item.0.cmp(self.0).is_lt()
     }
 }
 
@@ -49,7 +49,7 @@ impl<'a, K: Ord, V> Cut<(K, V)> for BehindKey<'a, K> {
     ghost is_behind_of = { λ cut entry. is_le (K.cmp entry.0 cut.0.now) };
 
     fn is_behind(&self, item: &(K, V)) -> bool {
-        item.0 <= *self.0
+        item.0.cmp(self.0).is_le()
     }
 }
 
@@ -59,34 +59,39 @@ pub(crate) fn count_before<T: Copy, C: Cut<T>>(nodes: &[Node<T>], branch: Branch
     ensures found { (tree : Tree T) → Stands nodes.now branch tree → AllPairs (λ a b. C.is_behind_of cut.now b ≡ true → C.is_behind_of cut.now a ≡ true) (items_of tree) → result ≡ count_by (C.is_behind_of cut.now) (items_of tree) }
     ensures few { result ≤ branch.count }
 {
-    if branch.count == 0 {
-        return 0;
+    let mut left = branch;
+    let mut passed = 0;
+    while left.count > 0 {
+        let node = &nodes[left.seat as usize];
+        if cut.is_behind(&node.item) {
+            passed += node.before.count + 1;
+            left = node.behind;
+        } else {
+            left = node.before;
+        }
     }
-    let node = &nodes[branch.seat as usize];
-    if cut.is_behind(&node.item) {
-        node.before.count + 1 + count_before(nodes, node.behind, cut)
-    } else {
-        count_before(nodes, node.before, cut)
-    }
+    passed
 }
 
-/// The first item that the place is not behind; where it is behind all, what is given.
+/// The first item that the place is not behind; `None` where it is behind all.
 pub(crate) fn first_from<'a, T: Copy, C: Cut<T>>(
     nodes: &'a [Node<T>],
     branch: Branch,
     cut: &C,
-    other: Option<&'a T>,
 ) -> Option<&'a T>
     requires { (tree : Tree T) × Stands nodes.now branch tree }
-    ensures { (tree : Tree T) → Stands nodes.now branch tree → AllPairs (λ a b. C.is_behind_of cut.now b ≡ true → C.is_behind_of cut.now a ≡ true) (items_of tree) → option_copied result ≡ option_or (slice_get (items_of tree) (count_by (C.is_behind_of cut.now) (items_of tree))) (option_copied other.entry) }
+    ensures { (tree : Tree T) → Stands nodes.now branch tree → AllPairs (λ a b. C.is_behind_of cut.now b ≡ true → C.is_behind_of cut.now a ≡ true) (items_of tree) → option_copied result ≡ slice_get (items_of tree) (count_by (C.is_behind_of cut.now) (items_of tree)) }
 {
-    if branch.count == 0 {
-        return other;
+    let mut left = branch;
+    let mut found = None;
+    while left.count > 0 {
+        let node = &nodes[left.seat as usize];
+        if cut.is_behind(&node.item) {
+            left = node.behind;
+        } else {
+            found = Some(&node.item);
+            left = node.before;
+        }
     }
-    let node = &nodes[branch.seat as usize];
-    if cut.is_behind(&node.item) {
-        first_from(nodes, node.behind, cut, other)
-    } else {
-        first_from(nodes, node.before, cut, Some(&node.item))
-    }
+    found
 }

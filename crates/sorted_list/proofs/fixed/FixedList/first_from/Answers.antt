@@ -1,7 +1,3 @@
-use Rattle.std.proofs.Common.{count_by, ◌∙◌}
-use Rattle.std.specs.Prelude.{slice_get}
-use Rattle.sorted_list.specs.Trees.{items_of}
-use Rattle.sorted_list.proofs.CountLemmas.{or_none}
 use Rattle.sorted_list.proofs.FixedLemmas.{items_are}
 use Rattle.sorted_list.proofs.fixed.FixedList.first_from.Goals as goal
 
@@ -11,4 +7,4 @@ returns g c =
     let found = items_are c.self.inside.nodes.items c.self.inside.root s.tree s.stands in
     let parted = rw (← c.self.view_is, found) at c.requires in
     let first = rw c.deref.ensures.value at c.first_from.ensures in
-    rw (← c.self.view_is, found) (first s.tree s.stands parted ∙ or_none (slice_get (items_of s.tree) (count_by (g.C.Cut.is_behind_of c.args.cut.now) (items_of s.tree))))
+    rw (← c.self.view_is, found) (first s.tree s.stands parted)
