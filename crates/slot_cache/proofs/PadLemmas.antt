@@ -21,7 +21,7 @@ use Rattle.sorted_list.specs.Sorted.{Sorted}
 use Rattle.slot_cache.specs.declared.loaded.Loaded.{Loaded}
 use Rattle.slot_cache.specs.Cells.{cell_at, changed, IsContent, IsFull, IsLoaded, IsLowestFree, IsVictim, loaded_in, NoneMayGo}
 use Rattle.slot_cache.specs.Index.{IsInserted, IsRising}
-use Rattle.slot_cache.specs.Table.{padded, IsFree, IsGrown, IsKeyed, IsProper, IsRoomy, IsSound, Lists}
+use Rattle.slot_cache.specs.Table.{is_unlocked, padded, IsFree, IsGrown, IsKeyed, IsProper, IsRoomy, IsSound, IsUnlocked, Lists}
 use Rattle.slot_cache.proofs.NameLemmas.{name_itself}
 use Rattle.slot_cache.proofs.SlotLemmas.{all_none, count-none, pair_same, proper}
 
@@ -92,16 +92,31 @@ module _ {T K : Type 0} (cmp : K → K → Ordering) (key : Loaded T → K) (cel
     complete = λ place keyed. lists.complete place (keyed.0, sym (grown_at cells more place.1) ∙ keyed.1, keyed.2);
   }
 
+unlocked-grown : {T : Type 0} (cells : List (Option (Loaded T))) (more : ℕ) (places : List (ℕ × ℕ)) → Lists nat_cmp (IsUnlocked cells) places → Lists nat_cmp (IsUnlocked (cells ++ replicate more None)) places
+unlocked-grown cells more places lists = record {
+  rising = lists.rising;
+  sound = λ place there. let was = lists.sound place there in (was.0, grown_at cells more place.1 ∙ was.1, was.2, was.3);
+  complete = λ place clear. lists.complete place (clear.0, sym (grown_at cells more place.1) ∙ clear.1, clear.2, clear.3);
+}
+
+unlocked-grown_count : {T : Type 0} (cells : List (Option (Loaded T))) (n : ℕ) → count_by is_unlocked (cells ++ replicate n None) ≡ count_by is_unlocked cells
+unlocked-grown_count {T} cells n = omega (arith, sum_by-append (λ c. cond (is_unlocked c) 1 0) cells (replicate n None), none_unlocked T n)
+  where
+    none_unlocked : (T : Type 0) (n : ℕ) → count_by (is_unlocked {T = T}) (replicate n None) ≡ 0
+    none_unlocked T zero = refl
+    none_unlocked T (suc n) = none_unlocked T n
+
 -- and the slots stay sound
 pub sound-grown : {T : Type 0} (called : T → Name) (kind : Kind) (cells new : List (Option (Loaded T))) (slot : ℕ) (by_serial : Sorted ℕ ℕ) (by_name : Sorted Name ℕ) (free new_free : Sorted ℕ (Unit {0})) → IsGrown cells new slot → IsSound called kind cells by_serial by_name free → Lists nat_cmp (IsFree new) new_free.entries → length new_free.entries + length cells ≡ length free.entries + length new → IsSound called kind new by_serial by_name new_free
 sound-grown {T} called kind cells new slot by_serial by_name free new_free grown sound listed len =
     let count = ap (count_by is_some) grown.is ∙ grown_count cells grown.more in
     record {
       placed = λ k x there. sound.placed k x (sym (grown_at cells grown.more k) ∙ ap (λ c. cell_at c k) (sym grown.is) ∙ there);
-      serials = subst (λ c. Lists nat_cmp (IsKeyed (λ (x : Loaded T). x.ident.serial) c) by_serial.entries) (sym grown.is) (keyed-grown nat_cmp (λ (x : Loaded T). x.ident.serial) cells grown.more by_serial.entries sound.serials);
+      one_serial = λ i j a b at_i at_j same. sound.one_serial i j a b (sym (grown_at cells grown.more i) ∙ ap (λ c. cell_at c i) (sym grown.is) ∙ at_i) (sym (grown_at cells grown.more j) ∙ ap (λ c. cell_at c j) (sym grown.is) ∙ at_j) same;
+      serials = subst (λ c. Lists nat_cmp (IsUnlocked c) by_serial.entries) (sym grown.is) (unlocked-grown cells grown.more by_serial.entries sound.serials);
       names = subst (λ c. Lists (name.ghosts).cmp (IsKeyed (λ (x : Loaded T). called x.value) c) by_name.entries) (sym grown.is) (keyed-grown (name.ghosts).cmp (λ (x : Loaded T). called x.value) cells grown.more by_name.entries sound.names);
       gaps = listed;
-      serials_len = sound.serials_len ∙ sym count;
+      serials_len = sound.serials_len ∙ sym (ap (count_by is_unlocked) grown.is ∙ unlocked-grown_count cells grown.more);
       names_len = sound.names_len ∙ sym count;
       gaps_len = omega (arith, len, sound.gaps_len, count);
     }
@@ -217,6 +232,9 @@ unloaded_padded cap cells ident (Some x) absent = tt
 module _ {T : Type 0} (cap : ℕ) (cells : List (Option (Loaded T))) where
   pub grown_none : (new : List (Option (Loaded T))) (slot : ℕ) → IsGrown cells new slot → cell_at (padded cap cells) slot ≡ None → cell_at new slot ≡ None
   grown_none new slot grown free = ap (λ c. cell_at c slot) grown.is ∙ grown_at cells grown.more slot ∙ unpad cap cells slot None free
+
+  pub grown_same : (new : List (Option (Loaded T))) (slot : ℕ) → IsGrown cells new slot → (k : ℕ) → cell_at new k ≡ cell_at cells k
+  grown_same new slot grown k = ap (λ c. cell_at c k) grown.is ∙ grown_at cells grown.more k
 
   pub pad_grown_to : (new : List (Option (Loaded T))) (slot : ℕ) → IsGrown cells new slot → length new ≤ cap → padded cap new ≡ padded cap cells
   pad_grown_to new slot grown few = ap (padded cap) grown.is ∙ pad_grown cap cells grown.more (subst (λ c. length c ≤ cap) grown.is few)

@@ -1,9 +1,9 @@
 -- What an edit of the cells leaves in their indexes.
-use Rattle.std.proofs.Common.{◌≡◌, ◌≢◌, ◌⊎◌, ℕ, zero, suc, ◌+◌, ◌<◌, ◌≤◌, cond, List, [], length, get_or, set, Contains, Option, Some, None, unwrap_or, is_some, IsSome, count_by, replicate, All, sym, ◌∙◌, ap, subst, inl, inr, refl, arith}
+use Rattle.std.proofs.Common.{◌≡◌, ◌≢◌, ◌⊎◌, ℕ, zero, suc, ◌+◌, ◌<◌, ◌≤◌, Bool, true, false, not, cond, List, [], length, get_or, set, Contains, Option, Some, None, unwrap_or, is_some, IsSome, count_by, replicate, All, sym, ◌∙◌, ap, subst, inl, inr, refl, arith}
 use Rattle.std.specs.declared.cmp.Ordering.{Ordering}
 use Rattle.std.specs.declared.cmp.Ordering.TheVariants.{Less, Equal}
 use Rattle.std.specs.Ordering.{nat_cmp}
-use Rattle.std.proofs.lemmas.Bool.{cases_lt, cases_eq}
+use Rattle.std.proofs.lemmas.Bool.{cases_lt, cases_eq, false≢true}
 use Rattle.std.proofs.lemmas.Cmp.{nat_cmp_total, ranked, tied_itself}
 use Rattle.std.proofs.lemmas.List.{get_or-set_same, get_or-set_other, get_or-replicate, length-replicate, get_or_past, get_or_default, length-set}
 use Rattle.std.proofs.lemmas.List.Sums.{sum_by-set}
@@ -15,10 +15,10 @@ use Rattle.cache_ident.specs.declared.idents.Kind.{Kind}
 use Rattle.slot_cache.specs.declared.loaded.Loaded.{Loaded}
 use Rattle.cache_ident.specs.declared.names.Name.{Name}
 use Rattle.cache_ident.specs.contracts.names.NameOrd.TheImpl as name
-use Rattle.slot_cache.specs.Index.{IsRising, IsKeyOf, IsInserted, IsRemoved}
+use Rattle.slot_cache.specs.Index.{IsRising, IsKeyOf, IsInserted, IsRelisted, IsRemoved}
 use Rattle.slot_cache.proofs.IndexLemmas.{less≢equal}
-use Rattle.slot_cache.specs.Cells.{cell_at, MayGo, MayNotGo, IsFull, IsLowestFree, IsVictim, NoneMayGo}
-use Rattle.slot_cache.specs.Table.{IsKeyed, IsFree, Lists, IsPlaced, IsProper, IsSound}
+use Rattle.slot_cache.specs.Cells.{cell_at, with_lock, MayGo, MayNotGo, IsFull, IsLowestFree, IsVictim, NoneMayGo}
+use Rattle.slot_cache.specs.Table.{is_unlocked, places_of, IsKeyed, IsFree, IsOncePerSerial, IsUnlocked, Lists, IsPlaced, IsProper, IsSound}
 
 -- what two equal options hold is equal
 pub some_same : {X : Type 0} (a b : X) → Some a ≡ Some b → a ≡ b
@@ -193,9 +193,9 @@ module _ {T K : Type 0} (cmp : K → K → Ordering) (key : Loaded T → K) (cel
         ];
       }
 
--- the place of an index names one of the cells
-pub listed_within : {T K : Type 0} (cmp : K → K → Ordering) (key : Loaded T → K) (cells : List (Option (Loaded T))) (places : List (K × ℕ)) → Lists cmp (IsKeyed key cells) places → (k : ℕ) (d : K × ℕ) → k < length places → (get_or places k d).1 < length cells
-listed_within cmp key cells places lists k d within =
+-- the place of the list by serials names one of the cells
+pub listed_within : {T : Type 0} (cells : List (Option (Loaded T))) (places : List (ℕ × ℕ)) → Lists nat_cmp (IsUnlocked cells) places → (k : ℕ) (d : ℕ × ℕ) → k < length places → (get_or places k d).1 < length cells
+listed_within cells places lists k d within =
     let was = lists.sound (get_or places k d) (Contains-get_or places k d within) in
     cell_within cells (get_or places k d).1 was.0 was.1
 
@@ -212,11 +212,11 @@ none_more cells places keep n d within none last k e lt = elim (cases_lt k n) [
       last x (ap (λ (p : ℕ × ℕ). cell_at cells p.1) (get_or_default places n d e within ∙ ap (λ k. get_or places k e) (sym same)) ∙ there)
 ]
 
-module _ {T : Type 0} (kind : Kind) (cells : List (Option (Loaded T))) (places : List (ℕ × ℕ)) (keep : List Ident) (placed : IsPlaced kind cells) (lists : Lists nat_cmp (IsKeyed (λ loaded. loaded.ident.serial) cells) places) where
+module _ {T : Type 0} (kind : Kind) (cells : List (Option (Loaded T))) (places : List (ℕ × ℕ)) (keep : List Ident) (placed : IsPlaced kind cells) (lists : Lists nat_cmp (IsUnlocked cells) places) where
   -- then no slot may, at the end
   pub none_may_go : (n : ℕ) → length places ≤ n → NoneBefore cells places keep n → NoneMayGo cells keep
   none_may_go n all none slot e there candidate =
-      let listed = lists.complete (e.ident.serial, slot) (e, there, refl) in
+      let listed = lists.complete (e.ident.serial, slot) (e, there, refl, candidate.unlocked) in
       let place : ℕ × ℕ = (e.ident.serial, slot) in
       none listed.0 place (omega (arith, listed.1)) e (ap (λ (p : ℕ × ℕ). cell_at cells p.1) listed.2 ∙ there) candidate
 
@@ -231,7 +231,7 @@ module _ {T : Type 0} (kind : Kind) (cells : List (Option (Loaded T))) (places :
         candidate = (e, ap (cell_at cells) slot_is ∙ go.1, go.2, go.3);
         smallest = λ slot x there candidate.
             let other : ℕ × ℕ = (x.ident.serial, slot) in
-            let at = lists.complete other (x, there, refl) in
+            let at = lists.complete other (x, there, refl, candidate.unlocked) in
             elim (cases_lt at.0 n) [
               | inl before ↦ absurd (none at.0 other before x (ap (λ (p : ℕ × ℕ). cell_at cells p.1) at.2 ∙ there) candidate)
               | inr not_before ↦ elim (cases_eq at.0 n) [
@@ -327,18 +327,147 @@ module _ {T K : Type 0} (cmp : K → K → Ordering) (key : Loaded T → K) (cel
       let was = lists.sound found.0 found.1 in
       (was.0, ap (cell_at cells) (sym found.3) ∙ was.1, was.2 ∙ one found.0.0 k found.2)
 
--- what stands at a slot is changed and keeps identifier and name
-pub sound-changed : {T : Type 0} (called : T → Name) (kind : Kind) (cells : List (Option (Loaded T))) (by_serial : Sorted ℕ ℕ) (by_name : Sorted Name ℕ) (free : Sorted ℕ (Unit {0})) (slot : ℕ) (e new : Loaded T) → cell_at cells slot ≡ Some e → new.ident ≡ e.ident → called new.value ≡ called e.value → IsSound called kind cells by_serial by_name free → IsSound called kind (set cells slot (Some new)) by_serial by_name free
-sound-changed {T} called kind cells by_serial by_name free slot e new some same_ident same_name sound =
+-- a lock is set or clear
+lock_is : (b : Bool) → b ≡ true → b ≡ false → ⊥
+lock_is b on off = false≢true (sym off ∙ on)
+
+not_locked : (b : Bool) → (b ≡ true → ⊥) → b ≡ false
+not_locked true off = absurd (off refl)
+not_locked false off = refl
+
+-- a slot stands in the list in as many places as it counts for
+pub counts_for : (b : Bool) → cond (not b) 1 0 ≡ places_of b
+counts_for true = refl
+counts_for false = refl
+
+module _ {T : Type 0} (cells : List (Option (Loaded T))) (slot : ℕ) where
+  -- what a write of a cell adds to what isn't locked
+  pub unlocked-count : (c : Option (Loaded T)) → slot < length cells → count_by is_unlocked (set cells slot c) + cond (is_unlocked (cell_at cells slot)) 1 0 ≡ count_by is_unlocked cells + cond (is_unlocked c) 1 0
+  unlocked-count c within = sum_by-set (λ c. cond (is_unlocked c) 1 0) cells slot c None within
+
+  pub unlocked-count_put : (e : Loaded T) → slot < length cells → cell_at cells slot ≡ None → e.locked ≡ false → count_by is_unlocked (set cells slot (Some e)) ≡ count_by is_unlocked cells + 1
+  unlocked-count_put e within none clear =
+      let n = rw none at (unlocked-count (Some e) within) in
+      let one : cond {A = ℕ} (not e.locked) 1 0 ≡ 1 = ap (λ b. cond {A = ℕ} (not b) 1 0) clear in
+      omega (arith, n, one)
+
+  pub unlocked-count_take : (e : Loaded T) → cell_at cells slot ≡ Some e → count_by is_unlocked (set cells slot None) + places_of e.locked ≡ count_by is_unlocked cells
+  unlocked-count_take e some =
+      let n = rw some at (unlocked-count None (cell_within cells slot e some)) in
+      omega (arith, n, counts_for e.locked)
+
+  pub unlocked-count_lock : (e new : Loaded T) → cell_at cells slot ≡ Some e → count_by is_unlocked (set cells slot (Some new)) + places_of e.locked ≡ count_by is_unlocked cells + places_of new.locked
+  unlocked-count_lock e new some =
+      let n = rw some at (unlocked-count (Some new) (cell_within cells slot e some)) in
+      omega (arith, n, counts_for e.locked, counts_for new.locked)
+
+  pub unlocked-count_same : (e new : Loaded T) → cell_at cells slot ≡ Some e → new.locked ≡ e.locked → count_by is_unlocked (set cells slot (Some new)) ≡ count_by is_unlocked cells
+  unlocked-count_same e new some same = omega (arith, unlocked-count_lock e new some, ap places_of same)
+
+  -- where a serial stands once, none but the slot has what stands there
+  pub others_apart : (e : Loaded T) → cell_at cells slot ≡ Some e → IsOncePerSerial cells → (k : ℕ) (x : Loaded T) → cell_at cells k ≡ Some x → x.ident.serial ≡ e.ident.serial → k ≡ slot
+  others_apart e some once k x there same = once k slot x e there some same
+
+  -- each serial stands once after a write of a cell whose serial no other slot has
+  pub once-set : (c : Option (Loaded T)) (serial : ℕ) → ((x : Loaded T) → c ≡ Some x → x.ident.serial ≡ serial) → slot < length cells → ((k : ℕ) (x : Loaded T) → cell_at cells k ≡ Some x → x.ident.serial ≡ serial → k ≡ slot) → IsOncePerSerial cells → IsOncePerSerial (set cells slot c)
+  once-set c serial is within apart once i j a b at_i at_j same = elim (cases_eq i slot) [
+    | inl i_here ↦ elim (cases_eq j slot) [
+      | inl j_here ↦ i_here ∙ sym j_here
+      | inr j_other ↦ absurd (j_other (apart j b (sym (elsewhere cells slot j c j_other) ∙ at_j) (sym same ∙ is a (written i a i_here at_i))))
+    ]
+    | inr i_other ↦ elim (cases_eq j slot) [
+      | inl j_here ↦ absurd (i_other (apart i a (sym (elsewhere cells slot i c i_other) ∙ at_i) (same ∙ is b (written j b j_here at_j))))
+      | inr j_other ↦ once i j a b (sym (elsewhere cells slot i c i_other) ∙ at_i) (sym (elsewhere cells slot j c j_other) ∙ at_j) same
+    ]
+  ]
+    where
+      written : (k : ℕ) (x : Loaded T) → k ≡ slot → cell_at (set cells slot c) k ≡ Some x → c ≡ Some x
+      written k x at there = sym (here cells slot c within) ∙ ap (cell_at (set cells slot c)) (sym at) ∙ there
+
+  -- the list of what isn't locked after a write of a cell, where the slot was listed anew by its lock
+  pub unlocked-set : (c : Option (Loaded T)) (serial : ℕ) (out : Bool) (old new : List (ℕ × ℕ)) → slot < length cells → ((x : Loaded T) → cell_at cells slot ≡ Some x → x.ident.serial ≡ serial) → (out ≡ false → (x : Loaded T) × (c ≡ Some x) × (x.ident.serial ≡ serial) × (x.locked ≡ false)) → ((x : Loaded T) → c ≡ Some x → x.locked ≡ false → (out ≡ false) × (x.ident.serial ≡ serial)) → Lists nat_cmp (IsUnlocked cells) old → IsRising nat_cmp new → IsRelisted old new (serial, slot) out → Lists nat_cmp (IsUnlocked (set cells slot c)) new
+  unlocked-set c serial out old new within was clear shut lists rising edit = record {
+    rising = rising;
+    sound = λ place there. elim (cases_eq place.1 slot) [
+      | inl at ↦ elim (cases_eq place.0 serial) [
+        | inl same ↦
+            let it : place ≡ (serial, slot) = pair_same place serial slot (sym same) (sym at) in
+            let on = clear (not_locked out (λ gone. edit.gone gone (subst (Contains new) it there))) in
+            (on.0, ap (cell_at (set cells slot c)) at ∙ here cells slot c within ∙ on.1, on.2 ∙ sym same, on.3)
+        | inr other ↦
+            let it = lists.sound place (edit.only place there (λ is. other (ap (λ (p : ℕ × ℕ). p.0) is))) in
+            absurd (other (sym it.2 ∙ was it.0 (ap (cell_at cells) (sym at) ∙ it.1)))
+      ]
+      | inr apart ↦
+          let it = lists.sound place (edit.only place there (λ is. apart (ap (λ (p : ℕ × ℕ). p.1) is))) in
+          (it.0, elsewhere cells slot place.1 c apart ∙ it.1, it.2, it.3)
+    ];
+    complete = λ place it. elim (cases_eq place.1 slot) [
+      | inl at ↦
+          let on = shut it.0 (sym (here cells slot c within) ∙ ap (cell_at (set cells slot c)) (sym at) ∙ it.1) it.3 in
+          subst (Contains new) (sym (pair_same place serial slot (sym on.1 ∙ it.2) (sym at))) (edit.here on.0)
+      | inr apart ↦ edit.kept place (lists.complete place (it.0, sym (elsewhere cells slot place.1 c apart) ∙ it.1, it.2, it.3)) (λ is. apart (ap (λ (p : ℕ × ℕ). p.1) is))
+    ];
+  }
+
+  -- as it is, a list has the slot by its lock
+  pub as_it_is : (e : Loaded T) (places : List (ℕ × ℕ)) → cell_at cells slot ≡ Some e → Lists nat_cmp (IsUnlocked cells) places → IsRelisted places places (e.ident.serial, slot) e.locked
+  as_it_is e places some lists = record {
+    here = λ clear. lists.complete (e.ident.serial, slot) (e, some, refl, clear);
+    gone = λ locked there.
+        let it = lists.sound (e.ident.serial, slot) there in
+        lock_is e.locked locked (ap (λ (x : Loaded T). x.locked) (one_at cells slot e it.0 some it.1) ∙ it.3);
+    kept = λ y there _. there;
+    only = λ y there _. there;
+  }
+
+  -- what is locked isn't listed, nor is its serial
+  pub locked_absent : (e : Loaded T) (places : List (ℕ × ℕ)) → cell_at cells slot ≡ Some e → IsOncePerSerial cells → Lists nat_cmp (IsUnlocked cells) places → e.locked ≡ true → (k : ℕ) (d : ℕ × ℕ) → k < length places → nat_cmp (get_or places k d).0 e.ident.serial ≡ Equal → ⊥
+  locked_absent e places some once lists locked k d within equal =
+      let it = lists.sound (get_or places k d) (Contains-get_or places k d within) in
+      let same = it.2 ∙ ranked (get_or places k d).0 e.ident.serial Equal (sym equal) in
+      let at = once (get_or places k d).1 slot it.0 e it.1 some same in
+      let one = one_at cells slot e it.0 some (ap (cell_at cells) (sym at) ∙ it.1) in
+      lock_is e.locked locked (ap (λ (x : Loaded T). x.locked) one ∙ it.3)
+
+  -- nor is a serial that nothing has
+  pub serial_absent : (serial : ℕ) (places : List (ℕ × ℕ)) → Lists nat_cmp (IsUnlocked cells) places → ((k : ℕ) (x : Loaded T) → cell_at cells k ≡ Some x → x.ident.serial ≢ serial) → (k : ℕ) (d : ℕ × ℕ) → k < length places → nat_cmp (get_or places k d).0 serial ≡ Equal → ⊥
+  serial_absent serial places lists none k d within equal =
+      let it = lists.sound (get_or places k d) (Contains-get_or places k d within) in
+      none (get_or places k d).1 it.0 it.1 (it.2 ∙ ranked (get_or places k d).0 serial Equal (sym equal))
+
+-- what stands at a slot is changed and keeps identifier, lock and name
+pub sound-changed : {T : Type 0} (called : T → Name) (kind : Kind) (cells : List (Option (Loaded T))) (by_serial : Sorted ℕ ℕ) (by_name : Sorted Name ℕ) (free : Sorted ℕ (Unit {0})) (slot : ℕ) (e new : Loaded T) → cell_at cells slot ≡ Some e → new.ident ≡ e.ident → new.locked ≡ e.locked → called new.value ≡ called e.value → IsSound called kind cells by_serial by_name free → IsSound called kind (set cells slot (Some new)) by_serial by_name free
+sound-changed {T} called kind cells by_serial by_name free slot e new some same_ident same_lock same_name sound =
     let n = length-set cells slot (Some new) in
     let count = count-same cells slot e new some in
     let place = sound.placed slot e some in
     record {
       placed = placed-put kind cells slot new (cell_within cells slot e some) (ap (λ (i : Ident). i.slot) same_ident ∙ place.0) (ap (λ (i : Ident). i.kind) same_ident ∙ place.1) sound.placed;
-      serials = keyed-same nat_cmp (λ (x : Loaded T). x.ident.serial) cells slot e new by_serial.entries some (ap (λ (i : Ident). i.serial) same_ident) sound.serials;
+      one_serial = once-set cells slot (Some new) e.ident.serial (λ x is. ap (λ (x : Loaded T). x.ident.serial) (some_same x new (sym is)) ∙ ap (λ (i : Ident). i.serial) same_ident) (cell_within cells slot e some) (others_apart cells slot e some sound.one_serial) sound.one_serial;
+      serials = unlocked-set cells slot (Some new) e.ident.serial e.locked by_serial.entries by_serial.entries (cell_within cells slot e some) (λ x there. ap (λ (x : Loaded T). x.ident.serial) (one_at cells slot x e there some)) (λ clear. (new, refl, ap (λ (i : Ident). i.serial) same_ident, same_lock ∙ clear)) (λ x is clear. (sym same_lock ∙ ap (λ (x : Loaded T). x.locked) (some_same new x is) ∙ clear, ap (λ (x : Loaded T). x.ident.serial) (some_same x new (sym is)) ∙ ap (λ (i : Ident). i.serial) same_ident)) sound.serials sound.serials.rising (as_it_is cells slot e by_serial.entries some sound.serials);
       names = keyed-same (name.ghosts).cmp (λ (x : Loaded T). called x.value) cells slot e new by_name.entries some same_name sound.names;
       gaps = free-same cells slot e new free.entries some sound.gaps;
-      serials_len = sound.serials_len ∙ sym count;
+      serials_len = sound.serials_len ∙ sym (unlocked-count_same cells slot e new some same_lock);
+      names_len = sound.names_len ∙ sym count;
+      gaps_len = rw (n, count) sound.gaps_len;
+    }
+
+-- the lock of what stands at a slot is set or cleared, and the slot listed by it
+pub sound-locked : {T : Type 0} (called : T → Name) (kind : Kind) (cells : List (Option (Loaded T))) (by_serial new_serial : Sorted ℕ ℕ) (by_name : Sorted Name ℕ) (free : Sorted ℕ (Unit {0})) (slot : ℕ) (e : Loaded T) (on : Bool) → cell_at cells slot ≡ Some e → IsRising nat_cmp new_serial.entries → IsRelisted by_serial.entries new_serial.entries (e.ident.serial, slot) on → length new_serial.entries + places_of e.locked ≡ length by_serial.entries + places_of on → IsSound called kind cells by_serial by_name free → IsSound called kind (set cells slot (Some (with_lock on e))) new_serial by_name free
+sound-locked {T} called kind cells by_serial new_serial by_name free slot e on some rising relisted len sound =
+    let new : Loaded T = with_lock on e in
+    let within = cell_within cells slot e some in
+    let n = length-set cells slot (Some new) in
+    let count = count-same cells slot e new some in
+    let place = sound.placed slot e some in
+    record {
+      placed = placed-put kind cells slot new within place.0 place.1 sound.placed;
+      one_serial = once-set cells slot (Some new) e.ident.serial (λ x is. ap (λ (x : Loaded T). x.ident.serial) (some_same x new (sym is))) within (others_apart cells slot e some sound.one_serial) sound.one_serial;
+      serials = unlocked-set cells slot (Some new) e.ident.serial on by_serial.entries new_serial.entries within (λ x there. ap (λ (x : Loaded T). x.ident.serial) (one_at cells slot x e there some)) (λ clear. (new, refl, refl, clear)) (λ x is clear. (ap (λ (x : Loaded T). x.locked) (some_same new x is) ∙ clear, ap (λ (x : Loaded T). x.ident.serial) (some_same x new (sym is)))) sound.serials rising relisted;
+      names = keyed-same (name.ghosts).cmp (λ (x : Loaded T). called x.value) cells slot e new by_name.entries some refl sound.names;
+      gaps = free-same cells slot e new free.entries some sound.gaps;
+      serials_len = omega (arith, len, sound.serials_len, unlocked-count_lock cells slot e new some);
       names_len = sound.names_len ∙ sym count;
       gaps_len = rw (n, count) sound.gaps_len;
     }
@@ -365,7 +494,8 @@ sound-new {T} called kind cells by_serial by_name free no_cell no_serial no_name
     let nothing : (slot : ℕ) (e : Loaded T) → cell_at cells slot ≡ Some e → ⊥ = λ slot e there. absurd (omega (arith, cell_within cells slot e there, ap length no_cell)) in
     record {
       placed = λ slot e there. absurd (nothing slot e there);
-      serials = rw no_serial (lists-nil nat_cmp (IsKeyed (λ (x : Loaded T). x.ident.serial) cells) (λ place keyed. nothing place.1 keyed.0 keyed.1));
+      one_serial = λ i j a b at_i at_j same. absurd (nothing i a at_i);
+      serials = rw no_serial (lists-nil nat_cmp (IsUnlocked cells) (λ place clear. nothing place.1 clear.0 clear.1));
       names = rw no_name (lists-nil (name.ghosts).cmp (IsKeyed (λ (x : Loaded T). called x.value) cells) (λ place keyed. nothing place.1 keyed.0 keyed.1));
       gaps = rw no_free (lists-nil nat_cmp (IsFree cells) (λ place it. absurd (omega (arith, it.0, ap length no_cell))));
       serials_len = rw (no_serial, no_cell) refl;
@@ -397,6 +527,6 @@ one_slot {T} {K} cmp itself key cells places lists i j a b at_i at_j same =
 pub proper : {T : Type 0} (called : T → Name) (itself : (a : Name) → (name.ghosts).cmp a a ≡ Equal) (kind : Kind) (cells : List (Option (Loaded T))) (by_serial : Sorted ℕ ℕ) (by_name : Sorted Name ℕ) (free : Sorted ℕ (Unit {0})) → IsSound called kind cells by_serial by_name free → IsProper called kind cells
 proper {T} called itself kind cells by_serial by_name free sound = record {
   placed = sound.placed;
-  one_serial = one_slot nat_cmp (tied_itself nat_cmp_total) (λ (x : Loaded T). x.ident.serial) cells by_serial.entries sound.serials;
+  one_serial = sound.one_serial;
   one_name = one_slot (name.ghosts).cmp itself (λ (x : Loaded T). called x.value) cells by_name.entries sound.names;
 }

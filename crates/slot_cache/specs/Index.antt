@@ -1,5 +1,5 @@
 -- Lists of keys with values in the order of the keys, and what an edit leaves.
-use Rattle.std.specs.Prelude.{◌≡◌, ◌≢◌, ℕ, ◌+◌, ◌<◌, ◌⊎◌, List, length, slice_index_or, Contains}
+use Rattle.std.specs.Prelude.{◌≡◌, ◌≢◌, ℕ, ◌+◌, ◌<◌, ◌⊎◌, Bool, true, false, List, length, slice_index_or, Contains}
 use Rattle.std.specs.declared.cmp.Ordering.{Ordering}
 use Rattle.std.specs.declared.cmp.Ordering.TheVariants.{Less, Equal}
 
@@ -25,3 +25,10 @@ pub record IsRemoved {X : Type 0} (old new : List X) (x : X) : Type 0 where
   pub kept : (y : X) → Contains old y → y ≢ x → Contains new y
   pub only : (y : X) → Contains new y → Contains old y
   pub shorter : length new + 1 ≡ length old
+
+-- the new list has x exactly if it isn't out, and of others what the old one had
+pub record IsRelisted {X : Type 0} (old new : List X) (x : X) (out : Bool) : Type 0 where
+  pub here : out ≡ false → Contains new x
+  pub gone : out ≡ true → Contains new x → ⊥
+  pub kept : (y : X) → Contains old y → y ≢ x → Contains new y
+  pub only : (y : X) → Contains new y → y ≢ x → Contains old y

@@ -1,5 +1,5 @@
 -- What holds of all slots, and what holds of their indexes.
-use Rattle.std.specs.Prelude.{◌≡◌, ℕ, ◌+◌, ◌-◌, ◌<◌, ◌≤◌, ◌^◌, List, ◌++◌, length, replicate, Option, Some, None, count_by, is_some, Contains, Vec, vec_capacity}
+use Rattle.std.specs.Prelude.{◌≡◌, ℕ, ◌+◌, ◌-◌, ◌<◌, ◌≤◌, ◌^◌, Bool, true, false, not, List, ◌++◌, length, replicate, Option, Some, None, count_by, is_some, Contains, Vec, vec_capacity}
 use Rattle.std.specs.declared.cmp.Ordering.{Ordering}
 use Rattle.std.specs.Ordering.{nat_cmp}
 use Rattle.std.specs.declared.alloc.Global.{Global}
@@ -14,6 +14,24 @@ use Rattle.slot_cache.specs.Cells.{cell_at}
 -- what a place of an index says: its slot holds a descriptor with its key
 abbrev pub IsKeyed : {T K : Type 0} → (Loaded T → K) → List (Option (Loaded T)) → K × ℕ → Type 0
 IsKeyed {T} key cells place = (loaded : Loaded T) × (cell_at cells place.1 ≡ Some loaded) × (key loaded ≡ place.0)
+
+-- what a place of the list by serials says: its slot holds a descriptor with that serial that isn't locked
+abbrev pub IsUnlocked : {T : Type 0} → List (Option (Loaded T)) → ℕ × ℕ → Type 0
+IsUnlocked {T} cells place = (loaded : Loaded T) × (cell_at cells place.1 ≡ Some loaded) × (loaded.ident.serial ≡ place.0) × (loaded.locked ≡ false)
+
+-- whether a cell holds a descriptor that isn't locked
+abbrev pub is_unlocked : {T : Type 0} → Option (Loaded T) → Bool
+is_unlocked None = false
+is_unlocked (Some loaded) = not loaded.locked
+
+-- in how many places of that list a slot stands, by its lock
+abbrev pub places_of : Bool → ℕ
+places_of true = 0
+places_of false = 1
+
+-- no serial stands twice
+abbrev pub IsOncePerSerial : {T : Type 0} → List (Option (Loaded T)) → Type 0
+IsOncePerSerial {T} cells = (i j : ℕ) (a b : Loaded T) → cell_at cells i ≡ Some a → cell_at cells j ≡ Some b → a.ident.serial ≡ b.ident.serial → i ≡ j
 
 -- what a place of the free list says: its slot is free
 abbrev pub IsFree : {T : Type 0} → List (Option (Loaded T)) → ℕ × Unit {0} → Type 0
@@ -32,7 +50,7 @@ IsPlaced {T} kind cells = (slot : ℕ) (loaded : Loaded T) → cell_at cells slo
 -- what holds of all slots: each descriptor stands in the slot of its identifier, no serial stands twice, and no name
 pub record IsProper {T : Type 0} (called : T → Name) (kind : Kind) (cells : List (Option (Loaded T))) : Type 0 where
   pub placed : IsPlaced kind cells
-  pub one_serial : (i j : ℕ) (a b : Loaded T) → cell_at cells i ≡ Some a → cell_at cells j ≡ Some b → a.ident.serial ≡ b.ident.serial → i ≡ j
+  pub one_serial : IsOncePerSerial cells
   pub one_name : (i j : ℕ) (a b : Loaded T) → cell_at cells i ≡ Some a → cell_at cells j ≡ Some b → called a.value ≡ called b.value → i ≡ j
 
 -- so many slots, of which those that were never used are not written
@@ -46,13 +64,15 @@ pub record IsGrown {T : Type 0} (old new : List (Option (Loaded T))) (slot : ℕ
   pub reaches : slot < length new
   pub few : (cap : ℕ) → length old ≤ cap → slot < cap → length new ≤ cap
 
--- the three lists list what is loaded by serial and by name, and what is free of the cells that are written
+-- the three lists list what is loaded and not locked by serial, what is loaded by name, and what is free of the cells that
+-- are written
 pub record IsSound {T : Type 0} (called : T → Name) (kind : Kind) (cells : List (Option (Loaded T))) (by_serial : Sorted ℕ ℕ) (by_name : Sorted Name ℕ) (free : Sorted ℕ (Unit {0})) : Type 0 where
   pub placed : IsPlaced kind cells
-  pub serials : Lists nat_cmp (IsKeyed (λ loaded. loaded.ident.serial) cells) by_serial.entries
+  pub one_serial : IsOncePerSerial cells
+  pub serials : Lists nat_cmp (IsUnlocked cells) by_serial.entries
   pub names : Lists (name.ghosts).cmp (IsKeyed (λ loaded. called loaded.value) cells) by_name.entries
   pub gaps : Lists nat_cmp (IsFree cells) free.entries
-  pub serials_len : length by_serial.entries ≡ count_by is_some cells
+  pub serials_len : length by_serial.entries ≡ count_by is_unlocked cells
   pub names_len : length by_name.entries ≡ count_by is_some cells
   pub gaps_len : length free.entries + count_by is_some cells ≡ length cells
 

@@ -1,10 +1,12 @@
 //! The slots of one kind, with what is loaded in them.
 
-ghost use Rattle.std.specs.Prelude.{◌≡◌, ◌+◌, ◌<◌, ◌≤◌, ◌↔◌, replicate, length, count_by, is_some, slice_set, Contains, IfOk, IfSome, IfNone, IsTrue, vec_capacity};
+ghost use Rattle.std.specs.Prelude.{◌≡◌, ◌≢◌, ◌+◌, ◌<◌, ◌≤◌, ◌↔◌, true, false, replicate, length, count_by, is_some, slice_set, All, Contains, IfOk, IfSome, IfNone, IsTrue, vec_capacity};
 ghost use Rattle.std.specs.Fn.{FnOnceReturnsAtMut};
 ghost use Rattle.std.specs.Ordering.{nat_cmp};
 ghost use Rattle.slot_cache.specs.Cells.{cell_at, changed, filled, just_loaded, with_lock, with_value, HasExactlyLoaded, HasNoName, HasNoSerial, IsContent, IsFoundAs, IsFull, IsInOrderOfSlot, IsLoaded, IsLowestFree, IsUpdated, IsVictim, KeepsName, loaded_in, LockIs, MayGo, MayNotGo, NameIs, NoneMayGo};
-ghost use Rattle.slot_cache.specs.Table.{IsFree, IsGrown, IsProper, Lists};
+ghost use Rattle.std.specs.declared.cmp.Ordering.TheVariants.{Equal};
+ghost use Rattle.slot_cache.specs.Index.{IsRelisted, IsRising};
+ghost use Rattle.slot_cache.specs.Table.{places_of, IsFree, IsGrown, IsProper, Lists};
 
 use super::index;
 use super::iter::Iter;
@@ -24,8 +26,9 @@ pub struct Cache<T: Descriptor> {
     cap: u32,
     // The slots up to the last one that was ever used. Those behind are free, and not written yet.
     cells: Vec<Option<Loaded<T>>>,
-    // The slots that hold something, in the order of serials and in that of names.
+    // The slots that hold what isn't locked, in the order of serials.
     by_serial: SortedList<u64, u32>,
+    // The slots that hold something, in the order of names.
     by_name: SortedList<Name, u32>,
     // The other slots of `cells`.
     free: SortedList<u32, ()>,
@@ -92,7 +95,7 @@ impl<T: Descriptor + Drop> Cache<T> {
         let name = value.name();
         reach(&mut self.cells, &mut self.free, slot);
         index::remove(&mut self.free, slot, ());
-        index::insert(&mut self.by_serial, ident.serial, slot);
+        relist(&mut self.by_serial, ident.serial, slot, true, false);
         index::insert(&mut self.by_name, name, slot);
         self.cells[slot as usize] = Some(Loaded {
             ident,
@@ -111,8 +114,12 @@ impl<T: Descriptor + Drop> Cache<T> {
         let cell = &mut self.cells[slot as usize];
         match cell.take() {
             Some(loaded) => {
-                let Loaded { ident, value, .. } = loaded;
-                index::remove(&mut self.by_serial, ident.serial, slot);
+                let Loaded {
+                    ident,
+                    value,
+                    locked,
+                } = loaded;
+                relist(&mut self.by_serial, ident.serial, slot, locked, true);
                 index::remove(&mut self.by_name, value.name(), slot);
                 index::insert(&mut self.free, slot, ());
                 value
@@ -176,8 +183,7 @@ impl<T: Descriptor + Drop> Cache<T> {
     }
 
     /// Of the loaded identifiers that are neither locked nor in `keep`, the one with the smallest serial;
-    /// `None` where each is locked or kept. It passes over locked and kept ones, and over no others, in a logarithmic
-    /// time for each.
+    /// `None` where each is locked or kept. It passes over kept ones, and over no others, in a logarithmic time for each.
     pub fn victim(&self, keep: &[Ident]) -> Option<Ident>
         ensures victim { IfSome result (IsVictim self.now keep.now) }
         ensures none { IfNone result (NoneMayGo self.now keep.now) }
@@ -193,14 +199,18 @@ impl<T: Descriptor + Drop> Cache<T> {
         None
     }
 
-    /// Sets or clears the lock of a loaded descriptor. Constant time.
+    /// Sets or clears the lock of a loaded descriptor. Its time is logarithmic in what is loaded and not locked; where the
+    /// lock is so already, constant.
     pub fn set_lock(&mut self, ident: Ident, on: bool)
         requires { IsLoaded self.old ident }
         ensures { self.new ≡ changed self.old ident.slot (with_lock on) }
     {
         let cell = &mut self.cells[ident.slot as usize];
         match cell {
-            Some(loaded) => loaded.locked = on,
+            Some(loaded) => {
+                let was = mem::replace(&mut loaded.locked, on);
+                relist(&mut self.by_serial, ident.serial, ident.slot, was, on);
+            }
             None => unreachable!(),
         }
     }
@@ -239,7 +249,26 @@ impl<T: Descriptor + Drop> Cache<T> {
         ensures len { result ≡ count_by is_some self.now }
         ensures proper { IsProper T.called T.KIND self.now }
     {
-        self.by_serial.len() as u32
+        self.by_name.len() as u32
+    }
+}
+
+// Lists a slot, or takes it out of the list, as its lock goes. What stands in it was locked or not, and is so now: a slot
+// that holds nothing counts as locked.
+fn relist(by_serial: &mut SortedList<u64, u32>, serial: u64, slot: u32, was: bool, is: bool)
+    requires rising { IsRising nat_cmp by_serial.old.entries }
+    requires there { was ≡ false → Contains by_serial.old.entries (serial, slot) }
+    requires absent { was ≡ true → All (λ place. nat_cmp place.0 serial ≢ Equal) by_serial.old.entries }
+    requires room { was ≡ true → is ≡ false → length by_serial.old.entries < by_serial.old.room }
+    ensures rising { IsRising nat_cmp by_serial.new.entries }
+    ensures relisted { IsRelisted by_serial.old.entries by_serial.new.entries (serial, slot) is }
+    ensures len { length by_serial.new.entries + places_of was ≡ length by_serial.old.entries + places_of is }
+    ensures room { by_serial.new.room ≡ by_serial.old.room }
+{
+    match (was, is) {
+        (true, false) => index::insert(by_serial, serial, slot),
+        (false, true) => index::remove(by_serial, serial, slot),
+        (true, true) | (false, false) => {}
     }
 }
 

@@ -5,7 +5,7 @@ use Rattle.slot_cache.proofs.cache.Cache.len.Goals as goal
 pub returns-clause-len : goal.returns-clause-len
 returns-clause-len g c =
     let i = c.self.inside in
-    rw (← c.self.view_is, pad_count i.cap i.cells.items) (c.len.ensures.len ∙ c.self.invariant.0.serials_len)
+    rw (← c.self.view_is, pad_count i.cap i.cells.items) (c.len.ensures.len ∙ c.self.invariant.0.names_len)
 
 pub returns-clause-proper : goal.returns-clause-proper
 returns-clause-proper g c =

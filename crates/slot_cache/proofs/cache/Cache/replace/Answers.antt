@@ -27,7 +27,7 @@ invariant_of-self g c =
     let within = cell_within cells c.args.ident.slot held.0 held.1 in
     let there = read_cell cells c.args.ident.slot c.index_mut-cell.result.now within c.index_mut-cell.ensures.value ∙ c.in-Some.is in
     let named = rw (← c.self.view_is) at c.requires.name in (
-      sound-changed g.T.Descriptor.called g.T.Descriptor.KIND cells i.by_serial i.by_name i.free c.args.ident.slot c.in-Some.loaded _ there refl (ap g.T.Descriptor.called c.replace.ensures.after ∙ sym (named c.in-Some.loaded (pad_at i.cap cells c.args.ident.slot ∙ there))) c.self.invariant.0,
+      sound-changed g.T.Descriptor.called g.T.Descriptor.KIND cells i.by_serial i.by_name i.free c.args.ident.slot c.in-Some.loaded _ there refl refl (ap g.T.Descriptor.called c.replace.ensures.after ∙ sym (named c.in-Some.loaded (pad_at i.cap cells c.args.ident.slot ∙ there))) c.self.invariant.0,
       roomy-set i.cap i.cells c.args.ident.slot _ i.by_serial i.by_name i.free c.self.invariant.1,
     )
 

@@ -29,7 +29,7 @@ invariant_of-self g c =
     let there = read_cell cells c.args.ident.slot c.index_mut-cell.result.now within c.index_mut-cell.ensures.value ∙ c.in-Some.is in
     let gave : FnOnceReturnsAtMut g.F.FnOnce c.args.change c.in-Some.loaded.value c.change.result c.change.new.arg2 = record { shown = _; shows = refl; left = _; met = c.change.ensures; leaves = refl } in
     let named = rw (← c.self.view_is) at c.requires.name in (
-      sound-changed g.T.Descriptor.called g.T.Descriptor.KIND cells i.by_serial i.by_name i.free c.args.ident.slot c.in-Some.loaded _ there refl (named c.in-Some.loaded c.change.result c.change.new.arg2 (pad_at i.cap cells c.args.ident.slot ∙ there) gave) c.self.invariant.0,
+      sound-changed g.T.Descriptor.called g.T.Descriptor.KIND cells i.by_serial i.by_name i.free c.args.ident.slot c.in-Some.loaded _ there refl refl (named c.in-Some.loaded c.change.result c.change.new.arg2 (pad_at i.cap cells c.args.ident.slot ∙ there) gave) c.self.invariant.0,
       roomy-set i.cap i.cells c.args.ident.slot _ i.by_serial i.by_name i.free c.self.invariant.1,
     )
 
