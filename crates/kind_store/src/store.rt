@@ -166,7 +166,7 @@ impl<T: Descriptor + Drop> KindStore<T> {
     }
 
     /// Of the loaded identifiers that are neither locked nor in `keep`, the one with the smallest serial; `None` where
-    /// each is locked or kept. It passes over locked and kept ones, and over no others.
+    /// each is locked or kept. It passes over kept ones, and over no others.
     pub fn victim(&self, keep: &[Ident]) -> Option<Ident>
         ensures victim { IfSome result (IsVictim self.now.cells keep.now) }
         ensures none { IfNone result (NoneMayGo self.now.cells keep.now) }
@@ -232,7 +232,7 @@ impl<T: Descriptor + Drop> KindStore<T> {
         roll.depart(ident, at);
     }
 
-    /// Locks a loaded descriptor, so that it is no victim. Constant time.
+    /// Locks a loaded descriptor, so that it is no victim. Its time is logarithmic in what is loaded and not locked.
     pub fn lock(&mut self, ident: Ident)
         requires { IsLoaded self.old.cells ident }
         ensures cells { self.new ≡ record self.old { cells = changed self.old.cells ident.slot (with_lock true) } }
@@ -243,7 +243,7 @@ impl<T: Descriptor + Drop> KindStore<T> {
         self.cache.set_lock(ident, true);
     }
 
-    /// Ends the lock of a loaded descriptor. Constant time.
+    /// Ends the lock of a loaded descriptor. Its time is logarithmic in what is loaded and not locked.
     pub fn unlock(&mut self, ident: Ident)
         requires { IsLoaded self.old.cells ident }
         ensures cells { self.new ≡ record self.old { cells = changed self.old.cells ident.slot (with_lock false) } }

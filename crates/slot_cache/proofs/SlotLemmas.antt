@@ -303,10 +303,6 @@ absent_key cmp key one cells places lists k none i d within equal =
     let was = lists.sound (get_or places i d) (Contains-get_or places i d within) in
     none (get_or places i d).1 was.0 was.1 (was.2 ∙ one _ _ equal)
 
--- numbers that compare as equal are one
-pub same_number : (a b : ℕ) → nat_cmp a b ≡ Equal → a ≡ b
-same_number a b equal = ranked a b Equal (sym equal)
-
 -- a fact holds where nothing was answered
 pub if_none : {X : Type 0} (r : Option X) (P : Type 0) → P → IfNone r P
 if_none None P p = p

@@ -7,6 +7,7 @@ ghost use Rattle.sorted_list.specs.Sorted.{by_parts};
 ghost use Rattle.sorted_list.specs.Trees.{Stands, Tree, items_of};
 
 use super::nodes::{Branch, Node};
+use std::cmp::Ordering;
 
 /// A place between items, which an item is before or behind.
 pub(crate) trait Cut<T> {
@@ -33,7 +34,11 @@ impl<'a, K: Ord, V: Ord> Cut<(K, V)> for AtEntry<'a, K, V> {
     ghost is_behind_of = { λ cut entry. is_lt (by_parts K.cmp V.cmp entry (cut.0.now, cut.1.now)) };
 
     fn is_behind(&self, item: &(K, V)) -> bool {
-        item.0.cmp(self.0).then(item.1.cmp(self.1)).is_lt()
+        match item.0.cmp(self.0) {
+            Ordering::Less => true,
+            Ordering::Equal => item.1.cmp(self.1).is_lt(),
+            Ordering::Greater => false,
+        }
     }
 }
 
