@@ -54,8 +54,8 @@ impl<T: Descriptor + Drop> KindStore<T> {
     }
 
     /// Makes `room` at least one more than it was. Where memory is wanted nothing changes. It doubles the room of the shelf,
-    /// so that its time, which grows with what is there, is constant for each descriptor that it makes room for, but for a
-    /// logarithm: call it only where `room` is too small.
+    /// so that its time, which grows with what is there, is constant for each descriptor that it makes room for: call it only
+    /// where `room` is too small.
     pub fn make_room(&mut self) -> Result<(), NoMemory>
         ensures cells { self.new.cells ≡ self.old.cells }
         ensures rows { self.new.rows ≡ self.old.rows }

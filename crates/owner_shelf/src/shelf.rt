@@ -50,8 +50,8 @@ impl<R: Descriptor + Drop> Shelf<R> {
     }
 
     /// Makes `room` at least one more than it was. It doubles the room, so that its time, which grows with the rows that
-    /// are there, is constant for each row that it makes room for, but for a logarithm. Where memory is wanted, or there
-    /// would be room for 2^32 rows or more, nothing changes.
+    /// are there, is constant for each row that it makes room for. Where memory is wanted, or there would be room for 2^32
+    /// rows or more, nothing changes.
     pub fn make_room(&mut self) -> Result<(), NoMemory>
         ensures rows { self.new.rows ≡ self.old.rows }
         ensures ok { OnOk result (self.old.room < self.new.room) }

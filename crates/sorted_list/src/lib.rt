@@ -1,4 +1,4 @@
-//! A sorted list in memory that is made once: searched and changed in logarithmic time.
+//! A sorted list in memory that is made beforehand: searched and changed in logarithmic time.
 #![tactic(auto)]
 
 mod fixed;
