@@ -1,5 +1,5 @@
 -- The names of what is asked, one after another.
-use Rattle.std.proofs.Common.{◌≡◌, ◌⊎◌, ℕ, ◌+◌, ◌/◌, ◌%◌, ◌<◌, ◌≤◌, Bool, true, false, List, [], Contains, ap₂, sym, subst, inl, inr, arith}
+use Rattle.std.proofs.Common.{◌≡◌, ℕ, ◌+◌, ◌/◌, ◌%◌, Bool, true, false, List, [], Contains, ap₂, sym, subst, inl, inr, arith}
 use Rattle.std.specs.Prelude.{Result, Ok, Err, IfOk}
 use Rattle.std.proofs.lemmas.Bool.{cases_lt}
 use Rattle.cache_ident.specs.declared.names.Frame.{Frame}
@@ -9,7 +9,6 @@ use Rattle.flat_laws.proofs.Members.{contains_nothing}
 use Rattle.residents.specs.declared.relying.Reliance.{Reliance}
 use Rattle.residents.specs.declared.relying.Reliance.TheVariants.{Signals, Rights}
 use Rattle.residents.specs.declared.relying.RelyingRows.{RelyingRows}
-use Rattle.residents.specs.Relying.{IsRelying}
 use Rattle.journal_rules.specs.declared.calls.Touched.TheVariants.{Nothing, OnFrame, RightsOf}
 use Rattle.journal_rules.specs.Touched.{AddsOne, AddsPlaces, AreRelying, Changes, HasOne, HaveOnes}
 

@@ -1,9 +1,8 @@
 -- One of all that rely on the same tells whether a call spoils them.
-use Rattle.std.proofs.Common.{◌≡◌, ◌≢◌, ℕ, ◌+◌, ◌*◌, ◌/◌, ◌%◌, ◌<◌, Bool, true, false, List, [], ◌∷◌, ◌++◌, filter, map, Option, Some, None, is_some, slice_get, Contains, ◌⊎◌, refl, ap, ap₂, sym, ◌∙◌, subst, inl, inr, arith}
+use Rattle.std.proofs.Common.{◌≡◌, ◌≢◌, ℕ, ◌/◌, ◌%◌, Bool, true, false, List, [], ◌∷◌, filter, map, Option, Some, None, is_some, slice_get, Contains, ◌⊎◌, refl, ap, ap₂, sym, ◌∙◌, subst, inl, inr, arith}
 use Rattle.std.specs.Prelude.{if◌then◌else◌, ◌&&◌, ◌||◌, option_to_list, unwrap_or}
-use Rattle.std.specs.List.{find}
 use Rattle.std.specs.Option.{option_map}
-use Rattle.std.proofs.lemmas.Bool.{cases_Bool, cases_eq, false≢true}
+use Rattle.std.proofs.lemmas.Bool.{cases_Bool, cases_eq}
 use Rattle.std.proofs.lemmas.Option.{same_Some, none-some}
 use Rattle.std.proofs.lemmas.List.Elements.{Contains-append_cases, Contains-append_left, Contains-append_right}
 use Rattle.cache_ident.specs.declared.names.Frame.{Frame}
@@ -29,13 +28,13 @@ use Rattle.flat_state.specs.Translation.{rights_in, kernel_rights, is_fit_row}
 use Rattle.flat_state.specs.Declaration.{declared, with_right}
 use Rattle.flat_state.specs.Dependence.{signal_rows_of, parents_of_row, parents_of_found, parents, Depends}
 use Rattle.flat_state.specs.Names.{stands, is_fit_found, is_fit_name}
-use Rattle.flat_state.specs.Call.{answered, refusal, made, mapping, rule_of_mapping, mapped, is_first, granting, rule_of_granting, granted, completed_so, completed, complete_if, completion_for, after_completion, is_completable}
+use Rattle.flat_state.specs.Call.{answered, refusal, made, mapping, rule_of_mapping, is_first, granting, rule_of_granting, completed_so, complete_if, completion_for, after_completion, is_completable}
 use Rattle.flat_state.specs.Events.{applied}
 use Rattle.flat_state.proofs.Places.{get-set_other}
 use Rattle.flat_laws.proofs.Members.{contains_nothing, Contains-here, Contains-behind, Contains-cases, Contains-map, Contains-from_map}
 use Rattle.run_journal.specs.Groups.{HasParents}
 use Rattle.run_journal.specs.Legal.{StaysGood}
-use Rattle.journal_laws.specs.Touching.{IsRowWith, TouchesBy, TouchesFor, Touches}
+use Rattle.journal_laws.specs.Touching.{IsRowWith, TouchesBy, TouchesFor}
 use Rattle.journal_laws.proofs.Untouched.{find-append, untouched_stays}
 use Rattle.residents.specs.declared.relying.Reliance.{Reliance}
 use Rattle.residents.specs.declared.relying.Reliance.TheVariants.{Signals, Rights}

@@ -1,16 +1,12 @@
 -- Each event of a legal journal fits where it stands.
-use Rattle.std.proofs.Common.{◌≡◌, ℕ, zero, suc, ◌<◌, Bool, true, false, List, [], ◌∷◌, ◌++◌, replicate, take, Option, Some, None, slice_get, refl, ap, sym, ◌∙◌, subst, arith}
+use Rattle.std.proofs.Common.{◌≡◌, ℕ, zero, suc, ◌<◌, true, false, List, [], ◌∷◌, ◌++◌, replicate, take, Option, Some, slice_get, ap, subst, arith}
 use Rattle.std.specs.Prelude.{is_some, IsSome}
 use Rattle.std.proofs.lemmas.Option.{same_Some}
-use Rattle.cache_ident.specs.declared.idents.Cause.{Cause}
-use Rattle.cache_ident.specs.declared.idents.Cause.TheVariants as causes
-use Rattle.cache_ident.specs.declared.idents.Ident.{Ident}
 use Rattle.cache_ident.specs.declared.names.ThreadNo.{ThreadNo}
 use Rattle.cache_ident.specs.Residents.{Resident}
 use Rattle.flat_state.specs.declared.events.Event.{Event}
-use Rattle.flat_state.specs.declared.events.Event.TheVariants.{Declare, Step, Complete}
+use Rattle.flat_state.specs.declared.events.Event.TheVariants.{Step}
 use Rattle.flat_state.specs.State.{FlatState, nothing_declared}
-use Rattle.flat_state.specs.Declaration.{broken_rule}
 use Rattle.flat_state.specs.Events.{declared_unless, after_event, after_events, applied}
 use Rattle.run_journal.specs.declared.entries.Entry.{Entry}
 use Rattle.run_journal.specs.declared.entries.Entry.TheVariants.{Declared, Sealed, Loaded, WrittenBack, Locked, Unlocked, Ran, Ended, Completed}

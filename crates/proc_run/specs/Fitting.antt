@@ -1,5 +1,5 @@
 -- What the plain run claims of its journal: each step and each completion fits, in order.
-use Rattle.std.specs.Prelude.{◌≡◌, ℕ, ◌<◌, ◌≤◌, Bool, true, false, ◌||◌, List, [], ◌∷◌, None, IsSome}
+use Rattle.std.specs.Prelude.{◌≡◌, ◌<◌, ◌≤◌, Bool, true, false, ◌||◌, List, [], ◌∷◌, None, IsSome}
 use Rattle.flat_state.specs.declared.events.Decl.TheVariants.{Machine}
 use Rattle.flat_state.specs.declared.events.Event.TheVariants.{Complete}
 use Rattle.flat_state.specs.State.{FlatState, nothing_declared}
