@@ -61,7 +61,7 @@ TEXT
 }
 
 for kind in grant map; do
-    for size in '1000 500' '4000 2000' '16000 8000' '65000 32000'; do
+    for size in '1000 500' '4000 2000' '16000 8000' '40000 20000'; do
         read -r rows calls <<< "$size"
         journal "$kind" "$rows" "$calls" > "$texts/input"
         start=$(date +%s%N)
