@@ -31,6 +31,11 @@ def back(instructions):
     return (n >> 20 & 1) << 31 | (n >> 1 & 0x3FF) << 21 | (n >> 11 & 1) << 20 | (n >> 12 & 0xFF) << 12 | 0x6F
 
 
+def loaded(slot, page):
+    return f'loaded M{slot}.{3 + slot} row {SPACE} {page} cpu 0'
+
+
+SPACE = 0
 ADD, XOR, ECALL = 0, 4, 0x73
 A0, A1, A2, A3, A7 = 10, 11, 12, 13, 17
 if kind == 'grant':
@@ -51,8 +56,8 @@ for row in range(rows):
 for place, it in enumerate(words):
     lines.append(f'word 0 {4 * place} {it:08x}')
     decls.append(f'word 0 {4 * place} {it:08x}')
-entries = ['sealed', 'loaded K0.0 kernel 0 cpu 0', 'locked K0.0 cpu 0', 'loaded S0.1 space 0 cpu 0', 'loaded T0.2 thread 0 cpu 0', 'loaded M0.3 row 0 0 cpu 0']
-entries += [f'loaded M{1 + row}.{4 + row} row 0 {16 + row} cpu 0' for row in range(rows)]
+entries = ['sealed', 'loaded K0.0 kernel 0 cpu 0', 'locked K0.0 cpu 0', 'loaded S0.1 space 0 cpu 0', 'loaded T0.2 thread 0 cpu 0', loaded(0, 0)]
+entries += [loaded(1 + row, 16 + row) for row in range(rows)]
 for call in range(calls):
     entries.append(f'ran 0 {first if call == 0 else steps[(call - 1) % len(steps)]} cpu 0')
     entries.append('completed 0 cpu 0')
