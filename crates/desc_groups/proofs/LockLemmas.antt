@@ -14,7 +14,8 @@ use Rattle.run_journal.specs.Groups.{ArePairsOf}
 use Rattle.run_journal.specs.Legal.{locked_by, AreGood}
 use Rattle.kernel_cache.specs.declared.KernelRec.{KernelRec}
 use Rattle.desc_parents.specs.resident_pairs.proofs.Staying.{lock_keeps}
-use Rattle.desc_parents.specs.group_laws.specs.Leaving.{lock_of, AreApart}
+use Rattle.desc_parents.specs.journal_laws.specs.Leaving.{AreApart}
+use Rattle.desc_parents.specs.group_laws.specs.Leaving.{lock_of}
 use Rattle.desc_parents.specs.group_laws.proofs.LockCounts.{locks_locked, locks_unlocked}
 use Rattle.desc_parents.specs.group_laws.proofs.StayingGood.{good_locked}
 use Rattle.desc_parents.specs.desc_stores.specs.declared.items.Item.TheVariants as item

@@ -30,8 +30,8 @@ use Rattle.desc_admits.specs.shown_state.proofs.ContentLemmas.{item_has_name}
 use Rattle.desc_admits.specs.store_residents.proofs.ResidentLemmas.{live_iff, one_each, resident_loaded, serials_rise}
 use Rattle.desc_admits.specs.store_residents.proofs.SlotLaws.{are_few}
 use Rattle.desc_admits.specs.store_residents.proofs.SlotLemmas.{kind_is}
-use Rattle.desc_admits.specs.journal_laws.specs.Leaving.{HaveOneEach}
-use Rattle.desc_admits.specs.group_laws.specs.Leaving.{lock_of, without_all, AreApart}
+use Rattle.desc_admits.specs.journal_laws.specs.Leaving.{AreApart, HaveOneEach}
+use Rattle.desc_admits.specs.group_laws.specs.Leaving.{lock_of, without_all}
 use Rattle.desc_admits.specs.group_laws.proofs.LockCounts.{lock_is_there, locks_loaded, locks_locked, locks_unlocked}
 use Rattle.desc_admits.specs.desc_parents.specs.Seen.{seen}
 use Rattle.desc_admits.specs.desc_groups.specs.Moves.{KeepsButCounts, MayBeLocked}

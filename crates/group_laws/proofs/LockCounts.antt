@@ -12,8 +12,8 @@ use Rattle.flat_state.specs.State.{FlatState}
 use Rattle.flat_state.specs.Dependence.{owner}
 use Rattle.flat_laws.proofs.Members.{Contains-here, Contains-behind}
 use Rattle.run_journal.specs.Legal.{is_kernel, is_kind, locked_by}
-use Rattle.journal_laws.specs.Leaving.{HaveOneEach}
-use Rattle.group_laws.specs.Leaving.{AreApart, lock_of}
+use Rattle.journal_laws.specs.Leaving.{AreApart, HaveOneEach}
+use Rattle.group_laws.specs.Leaving.{lock_of}
 use Rattle.group_laws.proofs.Counting.{count-loaded, count-without, count-locked, count-same}
 
 module _ (s : FlatState) (rs : List Resident) (kernel : KernelNo) (kind : Kind) where

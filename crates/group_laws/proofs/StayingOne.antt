@@ -9,8 +9,8 @@ use Rattle.cache_ident.specs.Rolls.{is_same}
 use Rattle.cache_ident.specs.Residents.{Resident, IsIdentResident, IsNameResident, with_loaded, without, locked_if, with_lock}
 use Rattle.flat_laws.proofs.Members.{Contains-from_map}
 use Rattle.run_journal.proofs.Others.{without_cases, locked_keeps}
-use Rattle.journal_laws.specs.Leaving.{HaveOneEach}
-use Rattle.group_laws.specs.Leaving.{AreApart, without_all}
+use Rattle.journal_laws.specs.Leaving.{AreApart, HaveOneEach}
+use Rattle.group_laws.specs.Leaving.{without_all}
 use Rattle.group_laws.proofs.Counting.{apart_behind, apart_first}
 
 pub one_left : (rs : List Resident) (ident : Ident) → HaveOneEach rs → HaveOneEach (without ident rs)

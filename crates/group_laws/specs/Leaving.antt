@@ -1,5 +1,5 @@
 -- What stays resident as a group leaves, and what is counted of it.
-use Rattle.std.specs.Prelude.{◌≡◌, ◌≢◌, ℕ, true, ◌&&◌, is_some, if◌then◌else◌, List, [], ◌∷◌, AllPairs, Contains}
+use Rattle.std.specs.Prelude.{◌≡◌, ℕ, true, ◌&&◌, is_some, if◌then◌else◌, List, [], ◌∷◌, Contains}
 use Rattle.cache_ident.specs.declared.idents.Ident.{Ident}
 use Rattle.cache_ident.specs.declared.idents.Kind.{Kind}
 use Rattle.cache_ident.specs.declared.names.KernelNo.{KernelNo}
@@ -18,11 +18,6 @@ without_all (ident ∷ idents) rs = without_all idents (without ident rs)
 -- the flags of each row agree with its receiver: so no message row has a receiver
 abbrev pub AreAgreed : FlatState → Type 0
 AreAgreed s = (row : Row) → Contains s.rows row → agree row.flags (is_some row.receiver) ≡ true
-
--- no two places of the list have one identifier. (`HaveOneEach` speaks of residents and not of places: it holds of a list
--- in which one resident stands twice, which is counted twice.)
-abbrev pub AreApart : List Resident → Type 0
-AreApart rs = AllPairs (λ a b. a.ident ≢ b.ident) rs
 
 -- 1 if it is locked, of the kind, and the kernel owns it
 abbrev pub lock_of : FlatState → Resident → KernelNo → Kind → ℕ

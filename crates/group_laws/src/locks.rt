@@ -9,8 +9,8 @@ ghost use Rattle.cache_ident.specs.declared.names.Name.{Name};
 ghost use Rattle.flat_state.specs.State.{FlatState};
 ghost use Rattle.flat_state.specs.Dependence.{owner};
 ghost use Rattle.run_journal.specs.Legal.{locked_by};
-ghost use Rattle.journal_laws.specs.Leaving.{HaveOneEach};
-ghost use Rattle.group_laws.specs.Leaving.{AreApart, lock_of};
+ghost use Rattle.journal_laws.specs.Leaving.{AreApart, HaveOneEach};
+ghost use Rattle.group_laws.specs.Leaving.{lock_of};
 
 /// What leaves takes its lock along, what is loaded has none, a lock adds one, and its end takes it; and where each resident
 /// has the owner in one state that it has in another, as many are locked there.

@@ -4,8 +4,8 @@ ghost use Rattle.std.specs.Prelude.{Bool, List, Contains};
 ghost use Rattle.cache_ident.specs.Residents.{Resident, IsIdentResident, IsNameResident, with_loaded, with_lock, without};
 ghost use Rattle.cache_ident.specs.declared.idents.Ident.{Ident};
 ghost use Rattle.cache_ident.specs.declared.names.Name.{Name};
-ghost use Rattle.journal_laws.specs.Leaving.{HaveOneEach};
-ghost use Rattle.group_laws.specs.Leaving.{AreApart, without_all};
+ghost use Rattle.journal_laws.specs.Leaving.{AreApart, HaveOneEach};
+ghost use Rattle.group_laws.specs.Leaving.{without_all};
 
 /// Each resident has an identifier and a name of its own after a departure, after a lock or its end, and after a load of what
 /// isn't resident under an identifier that none has.

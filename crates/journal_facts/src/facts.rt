@@ -232,7 +232,7 @@ impl Facts {
             self.alloc,
             &mut self.flat,
             self.tables.residents(),
-            self.tables.frames(),
+            self.tables.relying(),
             thread,
         )?;
         self.go_on(Due::Anything);

@@ -21,9 +21,8 @@ use Rattle.run_journal.specs.Groups.{node_of, IsGroup}
 use Rattle.run_journal.specs.Legal.{is_kind, count_of, AreGood}
 use Rattle.run_journal.proofs.Growth.{count-append}
 use Rattle.run_journal.proofs.Others.{other_ident, without_cases, stays_without}
-use Rattle.journal_tables.specs.journal_laws.specs.Leaving.{LacksParent, HaveOneEach, HaveLeft}
+use Rattle.journal_tables.specs.journal_laws.specs.Leaving.{AreApart, HaveLeft, HaveOneEach, LacksParent}
 use Rattle.journal_tables.specs.journal_laws.proofs.GroupLaw.{group_if, order_if}
-use Rattle.journal_tables.specs.Whole.{AreApart}
 use Rattle.journal_tables.proofs.Counting.{count-without}
 use Rattle.journal_groups.specs.declared.gone.Gone.{Gone}
 use Rattle.journal_groups.specs.declared.group.Group.{Group}

@@ -11,8 +11,7 @@ use Rattle.flat_state.specs.State.{FlatState}
 use Rattle.flat_state.specs.Names.{class_of}
 use Rattle.run_journal.specs.Groups.{node_of}
 use Rattle.run_journal.specs.Legal.{count_of, AreGood}
-use Rattle.journal_tables.specs.journal_laws.specs.Leaving.{HaveOneEach, LacksParent}
-use Rattle.journal_tables.specs.Whole.{AreApart}
+use Rattle.journal_tables.specs.journal_laws.specs.Leaving.{AreApart, HaveOneEach, LacksParent}
 use Rattle.journal_groups.specs.declared.group.Group.{Group}
 use Rattle.journal_groups.specs.declared.gone.Gone.{Gone}
 

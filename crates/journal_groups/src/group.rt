@@ -8,8 +8,7 @@ ghost use Rattle.flat_state.specs.WellFormed.{IsWellFormed};
 ghost use Rattle.residents.specs.Tables.{AreThose, resident_of};
 ghost use Rattle.run_journal.specs.Groups.{IsGroup};
 ghost use Rattle.run_journal.specs.Legal.{AreGood, count_of, is_kind};
-ghost use Rattle.journal_tables.specs.journal_laws.specs.Leaving.{HaveOneEach};
-ghost use Rattle.journal_tables.specs.Whole.{AreApart};
+ghost use Rattle.journal_tables.specs.journal_laws.specs.Leaving.{AreApart, HaveOneEach};
 
 use crate::gone::Gone;
 use cache_ident::{Kind, NoMemory};

@@ -75,7 +75,7 @@ keeps_thread s u n t v name keeps here same = keeps_then s u (with_thread u n v)
 
 -- ---- lists
 
-find-append : {X : Type 0} (p : X → Bool) (xs ys : List X) (x : X) → find p xs ≡ Some x → find p (xs ++ ys) ≡ Some x
+pub find-append : {X : Type 0} (p : X → Bool) (xs ys : List X) (x : X) → find p xs ≡ Some x → find p (xs ++ ys) ≡ Some x
 find-append p [] ys x e = absurd (cc)
 find-append {X} p (z ∷ xs) ys x e = by (λ later. find-append p xs ys x later) (p z) e
   where

@@ -1,5 +1,5 @@
 -- What left before a root, and what stays behind it.
-use Rattle.std.specs.Prelude.{◌≡◌, ◌≢◌, ◌⊎◌, List, Contains}
+use Rattle.std.specs.Prelude.{◌≡◌, ◌≢◌, ◌⊎◌, List, AllPairs, Contains}
 use Rattle.cache_ident.specs.declared.names.Name.{Name}
 use Rattle.cache_ident.specs.Residents.{Resident, IsNameResident}
 use Rattle.flat_state.specs.State.{FlatState}
@@ -13,6 +13,11 @@ LacksParent s rs name = (parent : Name) × Depends s name parent × (IsNameResid
 pub record HaveOneEach (rs : List Resident) : Type 0 where
   pub idents : (a b : Resident) → Contains rs a → Contains rs b → a.ident ≡ b.ident → a ≡ b
   pub names : (a b : Resident) → Contains rs a → Contains rs b → a.name ≡ b.name → a ≡ b
+
+-- no two places of the list have one identifier. (`HaveOneEach` speaks of residents and not of places: it holds of a list
+-- in which one resident stands twice, which is counted twice.)
+abbrev pub AreApart : List Resident → Type 0
+AreApart rs = AllPairs (λ a b. a.ident ≢ b.ident) rs
 
 -- of what was resident before, these left, and then the root; the rest is resident after
 pub record HaveLeft (before after gone : List Resident) (root : Resident) : Type 0 where

@@ -1,6 +1,7 @@
 -- Completed calls, and what they leave.
 use Rattle.std.proofs.Common.{◌≡◌, ℕ, ◌+◌, ◌<◌, Bool, true, false, List, [], ◌∷◌, length, get_or, Option, Some, None, is_some, IsSome, slice_get, Contains, ◌⊎◌, refl, ap, sym, ◌∙◌, subst, inl, inr, arith}
 use Rattle.std.specs.Bool.{MatchBool}
+use Rattle.std.specs.Prelude.{IfSome}
 use Rattle.std.proofs.lemmas.Bool.{cases_lt, false≢true}
 use Rattle.std.proofs.lemmas.List.{get_or_default}
 use Rattle.cache_ident.specs.declared.names.Name.{Name}
@@ -13,12 +14,16 @@ use Rattle.flat_state.specs.Call.{is_completable, complete_if, completion_for, a
 use Rattle.flat_state.specs.Events.{after_event, applied}
 use Rattle.flat_laws.proofs.Members.{contains_nothing, Contains-here, Contains-behind, Contains-cases}
 use Rattle.run_journal.specs.Legal.{StaysGood, AreGood}
-use Rattle.journal_laws.specs.Touching.{TouchesFor, Touches}
-use Rattle.journal_laws.proofs.Untouched.{untouched_stays}
+use Rattle.residents.specs.declared.list.Residents.{Residents}
+use Rattle.residents.specs.declared.relying.RelyingRows.{RelyingRows}
+use Rattle.residents.specs.Tables.{AreThose}
 use Rattle.residents.proofs.NameLemmas.{name_or}
 use Rattle.journal_rules.specs.declared.calls.Touched.{Touched}
+use Rattle.journal_rules.specs.declared.calls.Touched.TheVariants.{Nothing, Row, OnFrame, RightsOf}
+use Rattle.journal_rules.specs.Relied.{reliances_of, AreRelyingOn}
 use Rattle.journal_rules.specs.Running.{AreGoodNames, LeavesGood, SpoilOne}
-use Rattle.journal_rules.specs.Touched.{IsTouched, TouchesAll}
+use Rattle.journal_rules.specs.Touched.{AreAsked, AreRelying, Changes, CoversCall, HasOne, IsAlone}
+use Rattle.journal_rules.proofs.Represented.{IsTold, spared}
 
 -- ---- whether it fits
 
@@ -35,8 +40,8 @@ fits_not s thread t found may fit = false≢true (sym (ap is_some (fits_is s thr
 pub fits_none : (s : FlatState) (thread : ThreadNo) → None ≡ slice_get s.threads thread.0 → IsSome (after_event s (Complete thread)) → ⊥
 fits_none s thread found fit = false≢true (sym (ap is_some (fits_is s thread None found)) ∙ fit)
 
-pub touched_all : (s : FlatState) (thread : ThreadNo) (t : FlatThread) (by : Touched) → Some t ≡ slice_get s.threads thread.0 → TouchesAll t by → (name : Name) → Touches s thread name → IsTouched s by name
-touched_all s thread t by found all name touches = all s name (subst (λ (o : Option FlatThread). TouchesFor o s name) (sym found) touches)
+pub covers_found : (s : FlatState) (thread : ThreadNo) (t : FlatThread) (touched : Touched) → Some t ≡ slice_get s.threads thread.0 → CoversCall t touched → IfSome (slice_get s.threads thread.0) (λ t. CoversCall t touched)
+covers_found s thread t touched found covers = subst (λ (o : Option FlatThread). IfSome o (λ t. CoversCall t touched)) found covers
 
 -- ---- what it leaves
 
@@ -50,22 +55,75 @@ contains_or (x ∷ xs) name = elim (name_or x name) [
   ]
 ]
 
--- the names are of residents, and every resident that the call touches has one of them
-pub leaves_by : (s u : FlatState) (rs : List Resident) (thread : ThreadNo) (names : List Name) (b : Bool) → u ≡ applied s (Complete thread) → IsSome (after_event s (Complete thread)) → AreGood s rs
-    → ((name : Name) → IsNameResident rs name → Touches s thread name → Contains names name) → ((name : Name) → Contains names name → IsNameResident rs name)
+-- ---- one of all that rely on the same
+
+-- a name that is asked is a resident's
+asked_resident : (residents : Residents) (rows : RelyingRows) (s : FlatState) (rs : List Resident) (touched : Touched) (names : List Name) → AreThose residents rs → AreRelyingOn rows s rs → AreAsked residents rows touched names
+    → (name : Name) → Contains names name → IsNameResident rs name
+asked_resident residents rows s rs touched names those relying asked name there = by touched asked
+  where
+    of_row : AreRelying rows names → IsNameResident rs name
+    of_row all = let its = all name there in ((relying its.0 name).0 its.1).0
+
+    by : (touched : Touched) → AreAsked residents rows touched names → IsNameResident rs name
+    by Nothing asked = of_row asked.rows_alone
+    by (OnFrame frame) asked = of_row asked.rows_alone
+    by (RightsOf kernel group) asked = of_row asked.rows_alone
+    by (Row row) asked = let its = (asked rs those name).0 there in subst (λ (n : Name). IsNameResident rs n) (sym its.0) its.1
+
+-- of all that rely on what changes one is asked
+asked_told : (residents : Residents) (rows : RelyingRows) (s u : FlatState) (rs : List Resident) (touched : Touched) (names : List Name) → AreThose residents rs → AreRelyingOn rows s rs → AreAsked residents rows touched names
+    → AreGoodNames u rs names → (r : Resident) → Contains rs r → IsTold s u rs touched r.name
+asked_told residents rows s u rs touched names those relying asked good r there q changes on = by touched changes asked
+  where
+    of_ones : HasOne rows names q → (o : Resident) × StaysGood u rs o × Contains (reliances_of s o.name) q
+    of_ones has =
+        let one = has r.name ((relying q r.name).1 ((r, there, refl), on)) in
+        let its = (relying q one.0).0 one.2 in
+        (its.0.0, good its.0.0 (subst (λ (n : Name). Contains names n) (sym its.0.2) one.1), subst (λ (n : Name). Contains (reliances_of s n) q) (sym its.0.2) its.1)
+
+    by : (touched : Touched) → Changes touched q → AreAsked residents rows touched names → (o : Resident) × StaysGood u rs o × Contains (reliances_of s o.name) q
+    by Nothing changes asked = absurd changes
+    by (Row row) changes asked = absurd changes
+    by (OnFrame frame) changes asked = of_ones (asked.ones q changes)
+    by (RightsOf kernel group) changes asked = of_ones (asked.ones q changes)
+
+-- a row that goes is asked where it is resident
+asked_row : (residents : Residents) (rows : RelyingRows) (rs : List Resident) (touched : Touched) (names : List Name) → AreThose residents rs → AreAsked residents rows touched names
+    → (r : Resident) → Contains rs r → (row : Name) → touched ≡ Row row → r.name ≡ row → Contains names r.name
+asked_row residents rows rs touched names those asked r there row is same =
+    let alone : IsAlone residents row names = subst (λ (t : Touched). AreAsked residents rows t names) is asked in
+    (alone rs those r.name).1 (same, (r, there, same))
+
+fits_call : (s : FlatState) (thread : ThreadNo) (o : Option FlatThread) → o ≡ slice_get s.threads thread.0 → IsSome (completion_for s thread.0 o) → (t : FlatThread) × (slice_get s.threads thread.0 ≡ Some t) × (is_completable t ≡ true)
+fits_call s thread None found fit = absurd (false≢true fit)
+fits_call s thread (Some t) found fit = (t, sym found, by (is_completable t) fit)
+  where
+    by : (b : Bool) → IsSome (complete_if b s thread.0 t) → b ≡ true
+    by true fit = refl
+    by false fit = absurd (false≢true fit)
+
+-- the names of what is asked tell of all that is resident
+pub leaves_by : (residents : Residents) (rows : RelyingRows) (s u : FlatState) (rs : List Resident) (thread : ThreadNo) (touched : Touched) (names : List Name) (b : Bool) → u ≡ applied s (Complete thread) → IsSome (after_event s (Complete thread)) → AreGood s rs
+    → AreThose residents rs → AreRelyingOn rows s rs → IfSome (slice_get s.threads thread.0) (λ t. CoversCall t touched) → AreAsked residents rows touched names
     → MatchBool b (AreGoodNames u rs names) (SpoilOne u rs names) → MatchBool b (LeavesGood s rs thread × (u ≡ applied s (Complete thread))) (LeavesGood s rs thread → ⊥)
-leaves_by s u rs thread names true is fit before all only good = (
-  record {
-    fits = fit;
-    good = λ r there. elim (contains_or names r.name) [
-      | inl named ↦ subst (λ (v : FlatState). StaysGood v rs r) is (good r named)
-      | inr other ↦ untouched_stays s thread rs r (before r there) (λ touches. other (all r.name (r, there, refl) touches))
-    ];
-  },
-  is,
-)
-leaves_by s u rs thread names false is fit before all only spoilt = λ leaves.
-    let found = only spoilt.0 spoilt.1 in
+leaves_by residents rows s u rs thread touched names true is fit before those relying covers asked good =
+    let call = fits_call s thread (slice_get s.threads thread.0) refl (subst (λ (o : Option FlatState). IsSome o) (fits_is s thread (slice_get s.threads thread.0) refl) fit) in
+    let its : CoversCall call.0 touched = subst (λ (o : Option FlatThread). IfSome o (λ t. CoversCall t touched)) call.1 covers in
+    let after : AreGoodNames (applied s (Complete thread)) rs names = subst (λ (v : FlatState). AreGoodNames v rs names) is good in (
+      record {
+        fits = fit;
+        good = λ r there. elim (contains_or names r.name) [
+          | inl named ↦ after r named
+          | inr other ↦ spared s thread call.0 call.1 call.2 rs r (before r there) touched its
+              (λ row is same. other (asked_row residents rows rs touched names those asked r there row is same))
+              (asked_told residents rows s (applied s (Complete thread)) rs touched names those relying asked after r there)
+        ];
+      },
+      is,
+    )
+leaves_by residents rows s u rs thread touched names false is fit before those relying covers asked spoilt = λ leaves.
+    let found = asked_resident residents rows s rs touched names those relying asked spoilt.0 spoilt.1 in
     spoilt.2 found.0 found.2 (subst (λ (v : FlatState). StaysGood v rs found.0) (sym is) (leaves.good found.0 found.1))
 
 -- ---- names one after another

@@ -1,5 +1,5 @@
 pub use Rattle.flat_machine
 pub use Rattle.journal_laws
 pub mod Running
-pub mod Framed
+pub mod Relied
 pub mod Touched

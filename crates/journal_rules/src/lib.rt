@@ -10,5 +10,5 @@ mod steps;
 pub use calls::complete;
 pub use flat_machine::Flat;
 pub use follow::is_followed;
-pub use names::{cap, class, frame, has_parents, limit, owner, stands, stays_good};
+pub use names::{cap, class, has_parents, limit, owner, reliances, stands, stays_good};
 pub use steps::{may_step, run};

@@ -9,13 +9,17 @@ ghost use Rattle.residents.specs.Tables.{AreThose};
 ghost use Rattle.run_journal.specs.Groups.{HasParents};
 ghost use Rattle.run_journal.specs.Legal.{StaysGood, cap_of, limit_of};
 ghost use Rattle.journal_laws.specs.Leaving.{LacksParent};
-ghost use Rattle.journal_laws.specs.Touching.{frame_of};
+ghost use Rattle.journal_rules.specs.Relied.{reliances_of, relied_on};
 ghost use Rattle.journal_rules.specs.Running.{AreResident, LackOne};
 
-use cache_ident::{Class, Frame, KernelNo, Kind, Name};
+use arrayvec::ArrayVec;
+use cache_ident::{Class, KernelNo, Kind, Name};
 use flat_machine::Flat;
 use phys_groups::Row;
-use residents::Residents;
+use residents::{Reliance, Residents};
+
+/// How many frames a page group has.
+pub(crate) const GROUP_FRAMES: u32 = 128;
 
 /// Whether there is a descriptor of that name. It costs the logarithm of the rows.
 pub fn stands(flat: &Flat, name: Name) -> bool
@@ -62,19 +66,41 @@ pub fn owner(flat: &Flat, name: Name) -> Option<KernelNo>
     }
 }
 
-/// The frame of the row that has the name, if there is such a row. It costs the logarithm of the rows.
-pub fn frame(flat: &Flat, name: Name) -> Option<Frame>
-    ensures { result ≡ frame_of flat.now name }
+/// What the row that has the name relies on, if there is such a row. It costs the logarithm of the rows.
+pub fn reliances(flat: &Flat, name: Name) -> ArrayVec<Reliance, 2>
+    ensures { result.items ≡ reliances_of flat.now name }
 {
     match name {
-        Name::Kernel(_) => None,
-        Name::Space(_) => None,
-        Name::Thread(_) => None,
-        Name::Mapping(space, vpn) => {
-            let row = flat.row(space, vpn)?;
-            Some(row.frame)
-        }
+        Name::Kernel(_) => ArrayVec::new(),
+        Name::Space(_) => ArrayVec::new(),
+        Name::Thread(_) => ArrayVec::new(),
+        Name::Mapping(space, vpn) => match flat.row(space, vpn) {
+            Some(row) => reliances_of_row(flat, row),
+            None => ArrayVec::new(),
+        },
     }
+}
+
+// A row relies on the rights of its space's kernel, and a message row also on the signal rows of its frame.
+fn reliances_of_row(flat: &Flat, row: &Row) -> ArrayVec<Reliance, 2>
+    ensures { result.items ≡ relied_on flat.now (Some row.now) }
+{
+    let mut reliances = ArrayVec::new();
+    if let Some(kernel) = flat.kernel_of(row.space) {
+        reliances.push(Reliance::Rights {
+            kernel,
+            group: row.frame.0 / GROUP_FRAMES,
+            reads: row.flags.r || row.flags.x,
+            writes: row.flags.w,
+        });
+    }
+    if row.flags.m {
+        reliances.push(Reliance::Signals {
+            group: row.frame.0 / GROUP_FRAMES,
+            place: row.frame.0 % GROUP_FRAMES,
+        });
+    }
+    reliances
 }
 
 /// The class by which what has the name leaves. It costs the logarithm of the rows.

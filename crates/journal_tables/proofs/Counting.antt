@@ -9,7 +9,7 @@ use Rattle.cache_ident.specs.Residents.{Resident, with_loaded, without, locked_i
 use Rattle.flat_state.proofs.Places.{count_by-cons}
 use Rattle.flat_laws.proofs.Members.{Contains-here, Contains-behind, Contains-cases, contains_nothing}
 use Rattle.run_journal.proofs.Others.{differ}
-use Rattle.journal_tables.specs.Whole.{AreApart}
+use Rattle.journal_rules.specs.journal_laws.specs.Leaving.{AreApart}
 
 pub apart_behind : (x : Resident) (xs : List Resident) → AreApart (x ∷ xs) → AreApart xs
 apart_behind x xs apart = λ i j d lower within. apart (suc i) (suc j) d (omega arith) (omega arith)

@@ -7,4 +7,3 @@ pub mod PairLemmas
 pub mod LockLemmas
 pub mod TableLemmas
 pub mod Staying
-mod FramedLemmas

@@ -11,7 +11,7 @@ use Rattle.run_journal.proofs.Others.{without_cases, stays_without, locked_keeps
 use Rattle.residents.specs.declared.slots.Slots.{Slots}
 use Rattle.residents.specs.Slots.{IsCount, IsTakenIn}
 use Rattle.journal_tables.specs.Tables.{AreSlotsOf}
-use Rattle.journal_tables.specs.Whole.{AreApart}
+use Rattle.journal_rules.specs.journal_laws.specs.Leaving.{AreApart}
 use Rattle.journal_tables.proofs.Counting.{count-loaded, count-without, count-locked}
 use Rattle.journal_tables.proofs.KindLemmas.{is_kind-refl, kind_is_not}
 

@@ -6,7 +6,6 @@ use Rattle.cache_ident.specs.declared.idents.Cause.{Cause}
 use Rattle.cache_ident.specs.declared.idents.Cause.TheVariants as causes
 use Rattle.cache_ident.specs.declared.idents.Ident.{Ident}
 use Rattle.cache_ident.specs.declared.idents.Kind.{Kind}
-use Rattle.cache_ident.specs.declared.names.Frame.{Frame}
 use Rattle.cache_ident.specs.declared.names.KernelNo.{KernelNo}
 use Rattle.cache_ident.specs.declared.names.Name.{Name}
 use Rattle.cache_ident.specs.Names.{kind_of}
@@ -17,15 +16,15 @@ use Rattle.run_journal.specs.declared.entries.Entry.TheVariants.{Loaded, Written
 use Rattle.run_journal.specs.Told.{Told, told_after}
 use Rattle.run_journal.specs.Legal.{IsTaken, MayLoad, MayLeave, MayLock, MayUnlock, StaysGood, cap_of, first_ident, limit_of, locked_by}
 use Rattle.residents.specs.declared.dependents.Dependents.{Dependents}
-use Rattle.residents.specs.declared.frames.FrameRows.{FrameRows}
+use Rattle.residents.specs.declared.relying.Reliance.{Reliance}
+use Rattle.residents.specs.declared.relying.RelyingRows.{RelyingRows}
 use Rattle.residents.specs.declared.list.Held.{Held}
 use Rattle.residents.specs.declared.slots.Slots.{Slots}
-use Rattle.residents.specs.Framed.{IsFramed}
+use Rattle.residents.specs.Relying.{IsRelying}
 use Rattle.residents.specs.Pairs.{IsPair}
 use Rattle.residents.specs.Slots.{IsCount, IsLowest, IsTakenIn}
 use Rattle.residents.specs.Tables.{AreThose, HasNoSerial, IsHeldAs, resident_of}
-use Rattle.journal_rules.specs.journal_laws.specs.Touching.{frame_of}
-use Rattle.journal_rules.specs.Framed.{AreFramedBy}
+use Rattle.journal_rules.specs.Relied.{reliances_of, AreRelyingOn}
 use Rattle.journal_tables.specs.declared.kind_slots.KindSlots.{KindSlots}
 use Rattle.journal_tables.specs.declared.locks.Locks.{Locks}
 use Rattle.journal_tables.specs.declared.tables.Tables.{Tables}
@@ -36,7 +35,6 @@ use Rattle.journal_tables.proofs.KindLemmas.{kind_or}
 use Rattle.journal_tables.proofs.WholeLemmas.{whole_loaded, whole_left, whole_locked, whole_unlocked}
 use Rattle.journal_tables.proofs.SlotLemmas.{slots_loaded, slots_loaded_other, slots_left, slots_left_other, slots_locked}
 use Rattle.journal_tables.proofs.PairLemmas.{pairs_loaded, pairs_left, pairs_locked}
-use Rattle.journal_tables.proofs.FramedLemmas.{frames_loaded, frames_left, frames_locked}
 use Rattle.journal_tables.proofs.LockLemmas.{AreLocksOf, locks_loaded, locks_gone, locks_locked, locks_unlocked}
 
 -- ---- slots
@@ -76,7 +74,7 @@ pub record Loads (old new : Tables) (s : FlatState) (rs : List Resident) (ident 
   pub count : (n : ℕ) → IsCount (slots_of old.slots ident.kind) n → IsCount (slots_of new.slots ident.kind) (n + 1)
   pub others : (other : Kind) → other ≢ ident.kind → slots_of new.slots other ≡ slots_of old.slots other
   pub adds : (parent other : Name) → IsPair new.dependents parent other ↔ (IsPair old.dependents parent other ⊎ ((other ≡ name) × Contains (parents s name) parent))
-  pub frames : (frame : Frame) (other : Name) → IsFramed new.frames frame other ↔ (IsFramed old.frames frame other ⊎ ((frame_of s name ≡ Some frame) × (other ≡ name)))
+  pub relies : (reliance : Reliance) (other : Name) → IsRelying new.relying reliance other ↔ (IsRelying old.relying reliance other ⊎ ((other ≡ name) × Contains (reliances_of s name) reliance))
   pub locks : new.locks ≡ old.locks
 
 pub of_loaded : (old new : Tables) (k : Told) (ident : Ident) (name : Name) (cpu : ℕ) → AreOf old k → MayLoad k ident name → Loads old new k.state k.residents ident name → AreOf new (told_after k (Loaded ident name cpu))
@@ -87,8 +85,8 @@ of_loaded old new k ident name cpu are may loads = record {
       (slots_loaded ident name k.residents (slots_of old.slots ident.kind) (slots_of new.slots ident.kind) loads.taken loads.count (are.slots ident.kind))
       (λ slots other apart was. slots_loaded_other ident name k.residents slots other apart was)
       are.slots;
-  pairs = pairs_loaded old.dependents new.dependents k.state k.residents ident name loads.adds are.pairs;
-  frames = frames_loaded old.frames new.frames k.state k.residents ident name loads.frames are.frames;
+  pairs = pairs_loaded (IsPair old.dependents) (IsPair new.dependents) (parents k.state) k.residents ident name loads.adds are.pairs;
+  relying = pairs_loaded (IsRelying old.relying) (IsRelying new.relying) (reliances_of k.state) k.residents ident name loads.relies are.relying;
   locks = subst (λ (l : Locks). AreLocksOf l k.state (with_loaded ident name k.residents)) (sym loads.locks) (locks_loaded old.locks k.state k.residents ident name are.locks);
 }
 
@@ -104,7 +102,7 @@ pub record Leaves (old new : Tables) (s : FlatState) (rs : List Resident) (held 
   pub count : IsTakenIn (slots_of old.slots held.ident.kind) held.ident.slot → (n : ℕ) → IsCount (slots_of old.slots held.ident.kind) (n + 1) → IsCount (slots_of new.slots held.ident.kind) n
   pub others : (other : Kind) → other ≢ held.ident.kind → slots_of new.slots other ≡ slots_of old.slots other
   pub removes : (parent other : Name) → IsPair new.dependents parent other ↔ (IsPair old.dependents parent other × (((other ≡ held.name) × Contains (parents s held.name) parent) → ⊥))
-  pub frames : (frame : Frame) (other : Name) → IsFramed new.frames frame other ↔ (IsFramed old.frames frame other × (((frame_of s held.name ≡ Some frame) × (other ≡ held.name)) → ⊥))
+  pub relies : (reliance : Reliance) (other : Name) → IsRelying new.relying reliance other ↔ (IsRelying old.relying reliance other × (((other ≡ held.name) × Contains (reliances_of s held.name) reliance) → ⊥))
   pub locks : RecountsIf held.locked old.locks new.locks (owner s held.name) held.ident.kind
 
 pub of_left : (old new : Tables) (k : Told) (held : Held) (cause : Cause) (cpu : ℕ) → AreOf old k → MayLeaveAs k held.ident held → Leaves old new k.state k.residents held → AreOf new (told_after k (WrittenBack held.ident cause cpu))
@@ -121,15 +119,15 @@ of_left old new k held cause cpu are may leaves = by cause
           (slots_left (resident_of held) k.residents are.whole.apart there are.whole.one.idents are.whole.slots (slots_of old.slots held.ident.kind) (slots_of new.slots held.ident.kind) leaves.taken leaves.count (are.slots held.ident.kind))
           (λ slots other apart was. slots_left_other (resident_of held) k.residents are.whole.apart there are.whole.one.idents are.whole.slots slots other apart was)
           are.slots;
-      pairs = pairs_left old.dependents new.dependents k.state k.residents (resident_of held) there are.whole.one.idents are.whole.one.names leaves.removes are.pairs;
-      frames = frames_left old.frames new.frames k.state k.residents (resident_of held) there are.whole.one.idents are.whole.one.names leaves.frames are.frames;
+      pairs = pairs_left (IsPair old.dependents) (IsPair new.dependents) (parents k.state) k.residents (resident_of held) there are.whole.one.idents are.whole.one.names leaves.removes are.pairs;
+      relying = pairs_left (IsRelying old.relying) (IsRelying new.relying) (reliances_of k.state) k.residents (resident_of held) there are.whole.one.idents are.whole.one.names leaves.relies are.relying;
       locks = locks_gone old.locks new.locks k.state k.residents (resident_of held) are.whole.apart there leaves.locks are.locks;
     }
 
     by : (c : Cause) → AreOf new (told_after k (WrittenBack held.ident c cpu))
     by causes.Dependent = now
-    by causes.Displaced = record { whole = now.whole; those = now.those; slots = now.slots; pairs = now.pairs; frames = now.frames; locks = now.locks }
-    by causes.Unloaded = record { whole = now.whole; those = now.those; slots = now.slots; pairs = now.pairs; frames = now.frames; locks = now.locks }
+    by causes.Displaced = record { whole = now.whole; those = now.those; slots = now.slots; pairs = now.pairs; relying = now.relying; locks = now.locks }
+    by causes.Unloaded = record { whole = now.whole; those = now.those; slots = now.slots; pairs = now.pairs; relying = now.relying; locks = now.locks }
 
 -- ---- one is locked
 
@@ -137,15 +135,15 @@ of_left old new k held cause cpu are may leaves = by cause
 pub its_held : (tables : Tables) (k : Told) (ident : Ident) (held : Held) → AreOf tables k → IsHeldAs k.residents ident held → (r : Resident) → Contains k.residents r → r.ident ≡ ident → r ≡ resident_of held
 its_held tables k ident held are is r there its = are.whole.one.idents r (resident_of held) there is.0 (its ∙ sym is.1)
 
-module _ (old new : Tables) (k : Told) (ident : Ident) (held : Held) (cpu : ℕ) (are : AreOf old k) (is : IsHeldAs k.residents ident held) (slots : new.slots ≡ old.slots) (dependents : new.dependents ≡ old.dependents) (frames : new.frames ≡ old.frames) where
+module _ (old new : Tables) (k : Told) (ident : Ident) (held : Held) (cpu : ℕ) (are : AreOf old k) (is : IsHeldAs k.residents ident held) (slots : new.slots ≡ old.slots) (dependents : new.dependents ≡ old.dependents) (relying : new.relying ≡ old.relying) where
   slots_then : (on : Bool) (kind : Kind) → AreSlotsOf (slots_of new.slots kind) (with_lock held.ident on k.residents) kind
   slots_then on kind = subst (λ (s : KindSlots). AreSlotsOf (slots_of s kind) (with_lock held.ident on k.residents) kind) (sym slots) (slots_locked on (resident_of held) k.residents (slots_of old.slots kind) kind are.whole.apart is.0 (are.slots kind))
 
   pairs_then : (on : Bool) → ArePairsBy new.dependents k.state (with_lock held.ident on k.residents)
-  pairs_then on = subst (λ (d : Dependents). ArePairsBy d k.state (with_lock held.ident on k.residents)) (sym dependents) (pairs_locked old.dependents k.state k.residents held.ident on are.pairs)
+  pairs_then on = subst (λ (d : Dependents). ArePairsBy d k.state (with_lock held.ident on k.residents)) (sym dependents) (pairs_locked (IsPair old.dependents) (parents k.state) k.residents held.ident on are.pairs)
 
-  frames_then : (on : Bool) → AreFramedBy new.frames k.state (with_lock held.ident on k.residents)
-  frames_then on = subst (λ (f : FrameRows). AreFramedBy f k.state (with_lock held.ident on k.residents)) (sym frames) (frames_locked old.frames k.state k.residents held.ident on are.frames)
+  relying_then : (on : Bool) → AreRelyingOn new.relying k.state (with_lock held.ident on k.residents)
+  relying_then on = subst (λ (rows : RelyingRows). AreRelyingOn rows k.state (with_lock held.ident on k.residents)) (sym relying) (pairs_locked (IsRelying old.relying) (reliances_of k.state) k.residents held.ident on are.relying)
 
   pub of_locked : (kernel : KernelNo) → MayLock k ident → held.locked ≡ false → owner k.state held.name ≡ Some kernel → AreThose new.residents (with_lock held.ident true k.residents)
       → Recounts old.locks new.locks kernel ident.kind (lock_count old.locks kernel ident.kind + 1) → AreOf new (told_after k (Locked ident cpu))
@@ -156,7 +154,7 @@ module _ (old new : Tables) (k : Told) (ident : Ident) (held : Held) (cpu : ℕ)
         those = those;
         slots = slots_then true;
         pairs = pairs_then true;
-        frames = frames_then true;
+        relying = relying_then true;
         locks = locks_locked old.locks new.locks k.state k.residents (resident_of held) kernel are.whole.apart is.0 off owned recounts_its are.locks;
       })
       may recounts
@@ -169,7 +167,7 @@ module _ (old new : Tables) (k : Told) (ident : Ident) (held : Held) (cpu : ℕ)
         those = those;
         slots = slots_then false;
         pairs = pairs_then false;
-        frames = frames_then false;
+        relying = relying_then false;
         locks = locks_unlocked old.locks new.locks k.state k.residents (resident_of held) are.whole.apart is.0 on (subst (λ (b : Bool). RecountsIf b old.locks new.locks (owner k.state held.name) held.ident.kind) on recounts) are.locks;
       })
       may

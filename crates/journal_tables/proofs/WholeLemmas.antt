@@ -16,7 +16,8 @@ use Rattle.run_journal.specs.Told.{Told, Anything, told_of, told_after}
 use Rattle.run_journal.specs.Legal.{MayHappen, MayLoad, MayLeave, MayLock, MayUnlock, MayRun, MayEnd, MayComplete, IsInPlace, IsByProcessor, Comes}
 use Rattle.run_journal.proofs.Others.{locked_keeps}
 use Rattle.run_journal.proofs.Whole.{IsWhole, whole_after}
-use Rattle.journal_tables.specs.Whole.{AreApart, AreWhole}
+use Rattle.journal_rules.specs.journal_laws.specs.Leaving.{AreApart}
+use Rattle.journal_tables.specs.Whole.{AreWhole}
 use Rattle.journal_tables.proofs.Counting.{apart_behind, apart_first}
 
 -- ---- no identifier stands twice

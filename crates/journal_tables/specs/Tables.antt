@@ -16,7 +16,7 @@ use Rattle.residents.specs.declared.slots.Slots.{Slots}
 use Rattle.residents.specs.Pairs.{IsPair}
 use Rattle.residents.specs.Slots.{IsCount, IsTakenIn}
 use Rattle.residents.specs.Tables.{AreThose, resident_of}
-use Rattle.journal_rules.specs.Framed.{AreFramedBy}
+use Rattle.journal_rules.specs.Relied.{AreRelyingOn}
 use Rattle.journal_tables.specs.declared.tables.Tables.{Tables}
 use Rattle.journal_tables.specs.KindSlots.{slots_of}
 use Rattle.journal_tables.specs.Locks.{lock_count}
@@ -37,7 +37,7 @@ pub record AreOf (tables : Tables) (k : Told) : Type 0 where
   pub those : AreThose tables.residents k.residents
   pub slots : (kind : Kind) → AreSlotsOf (slots_of tables.slots kind) k.residents kind
   pub pairs : ArePairsBy tables.dependents k.state k.residents
-  pub frames : AreFramedBy tables.frames k.state k.residents
+  pub relying : AreRelyingOn tables.relying k.state k.residents
   pub locks : (kernel : KernelNo) (kind : Kind) → lock_count tables.locks kernel kind ≡ locked_by k.state k.residents kernel kind
 
 -- this one has the identifier, and may leave as one of a group

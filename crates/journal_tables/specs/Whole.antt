@@ -1,14 +1,10 @@
 -- What holds of what is resident while a journal is legal.
-use Rattle.std.specs.Prelude.{◌≡◌, ◌≢◌, ℕ, ◌<◌, List, AllPairs, Contains}
+use Rattle.std.specs.Prelude.{◌≡◌, ℕ, ◌<◌, List, Contains}
 use Rattle.cache_ident.specs.Names.{kind_of}
 use Rattle.cache_ident.specs.Residents.{Resident}
 use Rattle.flat_state.specs.State.{FlatState}
 use Rattle.run_journal.specs.Legal.{AreGood}
-use Rattle.journal_rules.specs.journal_laws.specs.Leaving.{HaveOneEach}
-
--- no identifier stands twice
-abbrev pub AreApart : List Resident → Type 0
-AreApart rs = AllPairs (λ a b. a.ident ≢ b.ident) rs
+use Rattle.journal_rules.specs.journal_laws.specs.Leaving.{AreApart, HaveOneEach}
 
 -- After so many loads no identifier stands twice. Each has a serial that a load gave out, the kind of its name, and an
 -- identifier, a name and a slot of its own; it stands, is fit, and has all that it depends on.

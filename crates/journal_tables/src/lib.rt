@@ -1,5 +1,5 @@
 //! All that the checker of a journal keeps of what is resident: each with its identifier, its name and its lock, the slots of
-//! each kind, what depends on what, the rows of each frame, and how many are locked.
+//! each kind, what depends on what, which rows rely on what, and how many are locked.
 #![tactic(auto)]
 
 mod kind_slots;

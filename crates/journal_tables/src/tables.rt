@@ -1,28 +1,24 @@
 //! All that is kept of what is resident.
 
-ghost use Rattle.std.specs.Prelude.{◌≡◌, ◌⊎◌, ◌↔◌, ℕ, ◌+◌, ◌<◌, ◌^◌, Contains, IfOk, IsTrue, MatchOption, OnOk, Some, true};
+ghost use Rattle.std.specs.Prelude.{◌≡◌, ◌↔◌, ℕ, ◌+◌, ◌<◌, ◌^◌, IfOk, IsTrue, MatchOption, OnOk, true};
 ghost use Rattle.std.specs.Bool.{MatchBool};
 ghost use Rattle.cache_ident.specs.declared.idents.Cause.{Cause};
 ghost use Rattle.cache_ident.specs.declared.idents.Cause.TheVariants as causes;
-ghost use Rattle.cache_ident.specs.declared.names.Frame.{Frame};
-ghost use Rattle.cache_ident.specs.declared.names.Name.{Name};
 ghost use Rattle.flat_state.specs.Dependence.{owner};
-ghost use Rattle.residents.specs.Framed.{IsFramed};
 ghost use Rattle.residents.specs.Slots.{IsLowest};
 ghost use Rattle.residents.specs.Tables.{AreThose, resident_of};
 ghost use Rattle.run_journal.specs.declared.entries.Entry.TheVariants as entries;
 ghost use Rattle.run_journal.specs.Groups.{NothingDependsOn};
 ghost use Rattle.run_journal.specs.Legal.{MayLeave, MayLoad, MayLock, MayUnlock, cap_of, count_of};
 ghost use Rattle.run_journal.specs.Told.{Told, nothing_told, told_after};
-ghost use Rattle.journal_rules.specs.journal_laws.specs.Touching.{frame_of};
-ghost use Rattle.journal_rules.specs.Framed.{AreFramedBy};
+ghost use Rattle.journal_rules.specs.Relied.{AreRelyingOn};
 ghost use Rattle.journal_tables.specs.Locks.{RecountsIf};
 
 use crate::kind_slots::KindSlots;
 use crate::locks::Locks;
 use cache_ident::{Ident, Kind, Name, NoMemory};
-use journal_rules::{Flat, cap, frame, limit, owner, stays_good};
-use residents::{Dependents, FrameRows, Held, Residents};
+use journal_rules::{Flat, cap, limit, owner, reliances, stays_good};
+use residents::{Dependents, Held, RelyingRows, Residents};
 use std::alloc::Global;
 
 const FIRST: Ident = Ident {
@@ -40,7 +36,7 @@ pub struct Tables {
     residents: Residents,
     slots: KindSlots,
     dependents: Dependents,
-    frames: FrameRows,
+    relying: RelyingRows,
     locks: Locks,
 }
 
@@ -56,7 +52,7 @@ impl Tables {
             residents: Residents::new(alloc),
             slots: KindSlots::new(alloc),
             dependents: Dependents::new(alloc),
-            frames: FrameRows::new(alloc),
+            relying: RelyingRows::new(alloc),
             locks: Locks::new(alloc),
         }
     }
@@ -68,11 +64,11 @@ impl Tables {
         &self.residents
     }
 
-    /// The resident rows of each frame. Constant time.
-    pub fn frames(&self) -> &FrameRows
-        ensures { (k : Told) → AreOf self.now k → AreFramedBy result.now k.state k.residents }
+    /// Which resident rows rely on what. Constant time.
+    pub fn relying(&self) -> &RelyingRows
+        ensures { (k : Told) → AreOf self.now k → AreRelyingOn result.now k.state k.residents }
     {
-        &self.frames
+        &self.relying
     }
 
     /// How many of a kind are resident. Constant time.
@@ -101,7 +97,8 @@ impl Tables {
         self.slots.take(ident.kind, ident.slot);
         let parents = flat.parents(name);
         self.dependents.add(name, parents.as_slice())?;
-        put_on_frame(&mut self.frames, flat, name)?;
+        let relied = reliances(flat, name);
+        self.relying.add(name, relied.as_slice())?;
         Ok(true)
     }
 
@@ -200,31 +197,12 @@ impl Tables {
         self.slots.release(held.ident.kind, held.ident.slot)?;
         let parents = flat.parents(held.name);
         self.dependents.remove(held.name, parents.as_slice());
-        take_off_frame(&mut self.frames, flat, held.name);
+        let relied = reliances(flat, held.name);
+        self.relying.remove(held.name, relied.as_slice());
         forget_lock(&mut self.locks, flat, held);
         self.residents.remove(held);
         Ok(())
     }
-}
-
-// From now on a row is on its frame.
-fn put_on_frame(frames: &mut FrameRows, flat: &Flat, row: Name) -> Result<(), NoMemory>
-    ensures { OnOk result ((frame : Frame) (name : Name) → IsFramed frames.new frame name ↔ (IsFramed frames.old frame name ⊎ ((frame_of flat.now row ≡ Some frame) × (name ≡ row)))) }
-{
-    match frame(flat, row) {
-        Some(frame) => frames.add(frame, row),
-        None => Ok(()),
-    }
-}
-
-// From now on a row isn't on its frame.
-fn take_off_frame(frames: &mut FrameRows, flat: &Flat, row: Name)
-    ensures { (frame : Frame) (name : Name) → IsFramed frames.new frame name ↔ (IsFramed frames.old frame name × (((frame_of flat.now row ≡ Some frame) × (name ≡ row)) → ⊥)) }
-{
-    let Some(frame) = frame(flat, row) else {
-        return;
-    };
-    frames.remove(frame, row);
 }
 
 // One fewer of what its owner has is locked, if it is locked.

@@ -32,8 +32,8 @@ use Rattle.run_journal.proofs.Growth.{residents_told_from}
 use Rattle.run_journal.proofs.LegalGrowth.{state_told}
 use Rattle.run_journal.proofs.Others.{without_cases, locked_keeps}
 use Rattle.run_journal.proofs.Sound.{AreNumbered}
-use Rattle.run_journal.proofs.Whole.{nothing_whole, whole_after, IsWhole, AreApart as HaveSlots}
-use Rattle.group_laws.specs.Leaving.{AreApart}
+use Rattle.run_journal.proofs.Whole.{nothing_whole, whole_after, IsWhole, HaveSlots}
+use Rattle.journal_laws.specs.Leaving.{AreApart}
 use Rattle.group_laws.proofs.Counting.{apart_behind, apart_first}
 use Rattle.group_laws.proofs.StayingOne.{apart_left, apart_loaded, apart_locked}
 use Rattle.legal_laws.proofs.Machines.{step_machine, completed_machine}

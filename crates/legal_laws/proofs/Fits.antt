@@ -1,23 +1,12 @@
 -- Each event of a legal journal fits where it stands.
-use Rattle.std.proofs.Common.{◌≡◌, ℕ, zero, suc, ◌<◌, Bool, true, false, List, [], ◌∷◌, ◌++◌, replicate, take, Option, Some, None, slice_get, refl, ap, sym, ◌∙◌, subst, arith}
+use Rattle.std.proofs.Common.{◌≡◌, ℕ, zero, suc, ◌<◌, true, false, List, [], ◌∷◌, ◌++◌, replicate, take, Option, Some, slice_get, ap, subst, arith}
 use Rattle.std.specs.Prelude.{is_some, IsSome}
-use Rattle.std.specs.Option.{option_map}
-use Rattle.std.proofs.lemmas.Bool.{false≢true}
 use Rattle.std.proofs.lemmas.Option.{same_Some}
-use Rattle.cache_ident.specs.declared.idents.Cause.{Cause}
-use Rattle.cache_ident.specs.declared.idents.Cause.TheVariants as causes
-use Rattle.cache_ident.specs.declared.idents.Ident.{Ident}
 use Rattle.cache_ident.specs.declared.names.ThreadNo.{ThreadNo}
 use Rattle.cache_ident.specs.Residents.{Resident}
 use Rattle.flat_state.specs.declared.events.Event.{Event}
-use Rattle.flat_state.specs.declared.events.Event.TheVariants.{Declare, Step, Complete}
-use Rattle.flat_state.specs.declared.records.FlatThread.{FlatThread}
-use Rattle.flat_state.specs.declared.records.NextStep.{NextStep}
-use Rattle.flat_state.specs.State.{FlatState, is_ready, nothing_declared}
-use Rattle.flat_state.specs.Declaration.{broken_rule}
-use Rattle.flat_state.specs.Signals.{is_runnable}
-use Rattle.flat_state.specs.Step.{step_if, step_of, after_step}
-use Rattle.flat_state.specs.NextSteps.{next_step, next_step_if, next_step_of}
+use Rattle.flat_state.specs.declared.events.Event.TheVariants.{Step}
+use Rattle.flat_state.specs.State.{FlatState, nothing_declared}
 use Rattle.flat_state.specs.Events.{declared_unless, after_event, after_events, applied}
 use Rattle.run_journal.specs.declared.entries.Entry.{Entry}
 use Rattle.run_journal.specs.declared.entries.Entry.TheVariants.{Declared, Sealed, Loaded, WrittenBack, Locked, Unlocked, Ran, Ended, Completed}
@@ -25,6 +14,7 @@ use Rattle.run_journal.specs.Entries.{events_of, erase}
 use Rattle.run_journal.specs.Legal.{after_steps, AreLegal, IsLegal, MayCome, MayStep}
 use Rattle.run_journal.specs.Told.{Told, nothing_told, told_after}
 use Rattle.run_journal.proofs.Growth.{state_after}
+use Rattle.run_journal.proofs.Stepping.{step_fits}
 use Rattle.legal_laws.specs.Fitting.{EachFits}
 
 -- ---- one after another
@@ -44,19 +34,6 @@ fit_at s (x ∷ es) zero e fit there = subst (λ (y : Event). IsSome (after_even
 fit_at s (x ∷ es) (suc at) e fit there = fit_at (applied s x) es at e fit.1 there
 
 -- ---- one event
-
--- a runnable thread can take its step
-runs : (s : FlatState) (n : ℕ) (o : Option FlatThread) (next : NextStep) → option_map (next_step_of s) o ≡ Some next → next.runnable ≡ true → IsSome (step_of s n o)
-runs s n None next is runnable = absurd (cc)
-runs s n (Some t) next is runnable = by (is_ready t.status) (same_Some (next_step_of s t) next is)
-  where
-    by : (b : Bool) → next_step_if b s t ≡ next → IsSome (step_if (is_runnable s t) s n t)
-    by true same = let may : is_runnable s t ≡ true = ap (λ (x : NextStep). x.runnable) same ∙ runnable in rw may refl
-    by false same = absurd (false≢true (ap (λ (x : NextStep). x.runnable) same ∙ runnable))
-
-step_fits : (s : FlatState) (rs : List Resident) (thread : ThreadNo) (faults : Bool) → MayStep s rs thread faults → IsSome (after_event s (Step thread))
-unfolding after_step next_step
-step_fits s rs thread faults may = runs s thread.0 (slice_get s.threads thread.0) may.next may.its may.runs
 
 steps_fit : (n : ℕ) (s : FlatState) (rs : List Resident) (thread : ThreadNo) → ((k : ℕ) → k < n → MayStep (after_steps s thread k) rs thread false) → AllFit s (replicate n (Step thread))
 steps_fit zero s rs thread each = tt

@@ -2,4 +2,4 @@ pub mod NameLemmas
 pub mod TableLemmas
 pub mod PairLemmas
 pub mod SlotLemmas
-mod FrameLemmas
+pub mod RelyLemmas

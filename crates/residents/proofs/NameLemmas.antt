@@ -1,4 +1,4 @@
--- Names and pairs of names that compare as equal are one.
+-- Names that compare as equal are one.
 use Rattle.std.proofs.Common.{◌≡◌, ◌≢◌, ℕ, Bool, true, false, refl, ap, sym, ◌∙◌, ◌⊎◌, inl, inr, arith}
 use Rattle.std.specs.declared.cmp.Ordering.{Ordering}
 use Rattle.std.specs.declared.cmp.Ordering.TheVariants.{Less, Equal, Greater}
@@ -12,7 +12,6 @@ use Rattle.cache_ident.specs.declared.names.Name.TheVariants.{Kernel, Space, Thr
 use Rattle.cache_ident.specs.contracts.names.NamePartialEq.TheImpl as name_equality
 use Rattle.cache_ident.specs.contracts.names.NameOrd.TheImpl as name_order
 use Rattle.cache_ident.specs.contracts.names.NameOrd.TheImpl.Laws as name_laws
-use Rattle.residents.specs.Pairs.{pair_cmp}
 
 abbrev pub name_cmp : Name → Name → Ordering
 name_cmp = (name_order.ghosts).cmp
@@ -54,11 +53,6 @@ is_equal Less e = absurd (cc)
 is_equal Equal e = refl
 is_equal Greater e = absurd (cc)
 
-pub same_pair : (a b : Name × Name) → pair_cmp a b ≡ Equal → a ≡ b
-same_pair a b equal =
-    let both = then_equal (name_cmp a.0 b.0) (name_cmp a.1 b.1) equal in
-    ap (λ (n : Name). (n, a.1)) (same_name a.0 b.0 both.0) ∙ ap (λ (n : Name). (b.0, n)) (same_name a.1 b.1 both.1)
-
 -- a key of an order that tells keys apart is another, or is not found
 module _ {K : Type 0} (cmp : K → K → Ordering) (exact : (a b : K) → cmp a b ≡ Equal → a ≡ b) where
   pub at_is : (k q : K) → is_at (cmp k) q ≡ true → q ≡ k
@@ -85,20 +79,11 @@ module _ {K : Type 0} (cmp : K → K → Ordering) (exact : (a b : K) → cmp a 
 pub name_itself : (a : Name) → name_cmp a a ≡ Equal
 name_itself a = tied_itself name_laws.total-law a
 
-pub pair_itself : (a : Name × Name) → pair_cmp a a ≡ Equal
-pair_itself a = rw (name_itself a.0) (name_itself a.1)
-
 pub name_or : (q k : Name) → (q ≡ k) ⊎ (q ≢ k)
 name_or = one_or_other name_cmp same_name name_itself
 
 pub other_name : (k q : Name) → q ≢ k → is_at (name_cmp k) q ≡ false
 other_name = at_other name_cmp same_name
-
-pub pair_or : (q k : Name × Name) → (q ≡ k) ⊎ (q ≢ k)
-pair_or = one_or_other pair_cmp same_pair pair_itself
-
-pub other_pair : (k q : Name × Name) → q ≢ k → is_at (pair_cmp k) q ≡ false
-other_pair = at_other pair_cmp same_pair
 
 pub nat_or : (q k : ℕ) → (q ≡ k) ⊎ (q ≢ k)
 nat_or = one_or_other nat_cmp same_nat (tied_itself nat_cmp_total)

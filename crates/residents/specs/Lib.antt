@@ -2,4 +2,4 @@ pub mod Tables
 pub mod Freed
 pub mod Slots
 pub mod Pairs
-pub mod Framed
+pub mod Relying

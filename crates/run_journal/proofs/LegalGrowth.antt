@@ -24,7 +24,7 @@ use Rattle.run_journal.specs.Groups.{node_of, ArePairsOf, departures}
 use Rattle.run_journal.specs.Legal.{first_ident, Comes, IsInPlace, IsByProcessor, IsFullBefore, AreGood, MayLoad, MayLock, MayHappen, MayCome, AreLegal, IsLegal}
 use Rattle.run_journal.proofs.Growth.{told_from-append, after_events-append, erase-append, legal-append, state_from, residents_told_from, loads_from, sealed_from}
 use Rattle.run_journal.proofs.Sound.{no_group, AreNumbered, are_numbered, not_first}
-use Rattle.run_journal.proofs.Whole.{nothing_loaded, AreApart, whole_from, nothing_whole}
+use Rattle.run_journal.proofs.Whole.{nothing_loaded, HaveSlots, whole_from, nothing_whole}
 use Rattle.run_journal.proofs.Leaving.{departs}
 
 pub state_told : (j : List Entry) → (told j).state ≡ flat (erase j)
@@ -146,7 +146,7 @@ displaced_grows j root pairs nodes ident name cpu legal sealed some few there fi
 
 pub record IsWholeAs (s : FlatState) (loads : ℕ) (rs : List Resident) : Type 0 where
   pub numbered : AreNumbered loads rs
-  pub apart : AreApart rs
+  pub apart : HaveSlots rs
   pub good : AreGood s rs
 
 pub whole_told : (j : List Entry) → IsLegal j → IsWholeAs (flat (erase j)) (count_by is_load j) (residents j)

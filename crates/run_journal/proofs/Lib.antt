@@ -6,3 +6,4 @@ pub mod Leaving
 pub mod Whole
 pub mod LegalGrowth
 pub mod PointLaws
+pub mod Stepping

@@ -134,17 +134,17 @@ good_after k (Completed thread cpu) may unsealed are good = may.happens.good
 
 -- ---- names and slots
 
-pub record AreApart (rs : List Resident) : Type 0 where
+pub record HaveSlots (rs : List Resident) : Type 0 where
   pub names : (a b : Resident) → Contains rs a → Contains rs b → a.name ≡ b.name → a ≡ b
   pub slots : (a b : Resident) → Contains rs a → Contains rs b → a.ident.kind ≡ b.ident.kind → a.ident.slot ≡ b.ident.slot → a ≡ b
 
-apart_without : (ident : Ident) (rs : List Resident) → AreApart rs → AreApart (without ident rs)
+apart_without : (ident : Ident) (rs : List Resident) → HaveSlots rs → HaveSlots (without ident rs)
 apart_without ident rs are = record {
   names = λ a b a_there b_there same. are.names a b (without_cases ident rs a a_there).0 (without_cases ident rs b b_there).0 same;
   slots = λ a b a_there b_there kind slot. are.slots a b (without_cases ident rs a a_there).0 (without_cases ident rs b b_there).0 kind slot;
 }
 
-apart_lock : (ident : Ident) (on : Bool) (rs : List Resident) → AreApart rs → AreApart (with_lock ident on rs)
+apart_lock : (ident : Ident) (on : Bool) (rs : List Resident) → HaveSlots rs → HaveSlots (with_lock ident on rs)
 apart_lock ident on rs are = record {
   names = λ a b a_there b_there same.
       let was_a = Contains-from_map (locked_if ident on) rs a a_there in
@@ -158,7 +158,7 @@ apart_lock ident on rs are = record {
       sym was_a.2 ∙ ap (locked_if ident on) (are.slots was_a.0 was_b.0 was_a.1 was_b.1 (ap (λ (i : Ident). i.kind) ident_a ∙ kind ∙ ap (λ (i : Ident). i.kind) (sym ident_b)) (ap (λ (i : Ident). i.slot) ident_a ∙ slot ∙ ap (λ (i : Ident). i.slot) (sym ident_b))) ∙ was_b.2;
 }
 
-apart_load : (k : Told) (ident : Ident) (name : Name) → MayLoad k ident name → AreApart k.residents → AreApart (with_loaded ident name k.residents)
+apart_load : (k : Told) (ident : Ident) (name : Name) → MayLoad k ident name → HaveSlots k.residents → HaveSlots (with_loaded ident name k.residents)
 apart_load k ident name may are = record {
   names = λ a b a_there b_there same. elim (Contains-push_cases k.residents new a a_there) [
     | inl a_before ↦ elim (Contains-push_cases k.residents new b b_there) [
@@ -185,12 +185,12 @@ apart_load k ident name may are = record {
     new : Resident
     new = record { ident = ident; name = name; locked = false }
 
-apart_back : (k : Told) (ident : Ident) (cause : Cause) (cpu : ℕ) → AreApart k.residents → AreApart (told_after k (WrittenBack ident cause cpu)).residents
+apart_back : (k : Told) (ident : Ident) (cause : Cause) (cpu : ℕ) → HaveSlots k.residents → HaveSlots (told_after k (WrittenBack ident cause cpu)).residents
 apart_back k ident causes.Dependent cpu are = apart_without ident k.residents are
 apart_back k ident causes.Displaced cpu are = apart_without ident k.residents are
 apart_back k ident causes.Unloaded cpu are = apart_without ident k.residents are
 
-pub apart_after : (k : Told) (e : Entry) → MayCome k e → AreApart k.residents → AreApart (told_after k e).residents
+pub apart_after : (k : Told) (e : Entry) → MayCome k e → HaveSlots k.residents → HaveSlots (told_after k e).residents
 apart_after k (Declared d) may are = are
 apart_after k Sealed may are = are
 apart_after k (Loaded ident name cpu) may are = apart_load k ident name may.happens are
@@ -205,7 +205,7 @@ apart_after k (Completed thread cpu) may are = are
 
 pub record IsWhole (k : Told) : Type 0 where
   pub numbered : AreNumbered k.loads k.residents
-  pub apart : AreApart k.residents
+  pub apart : HaveSlots k.residents
   pub good : AreGood k.state k.residents
   pub unsealed : IsUnsealed k
 

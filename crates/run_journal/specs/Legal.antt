@@ -157,8 +157,22 @@ pub record MayStep (s : FlatState) (rs : List Resident) (thread : ThreadNo) (fau
   pub fetch : IsRowResident rs next.fetch_row
   pub «data» : faults ≡ false → IsRowResident rs next.data_row
 
+-- does the step end its thread because an access doesn't translate? Not where there is no such thread.
+abbrev pub is_faulty : Option NextStep → Bool
+is_faulty None = false
+is_faulty (Some next) = next.faults
+
+-- the next step of the thread fits, and whether it faults, whatever is resident
+abbrev pub TakesStep : FlatState → ThreadNo → Bool → Type 0
+TakesStep s thread faulty = IsSome (after_event s (Step thread)) × (is_faulty (next_step s thread.0) ≡ faulty)
+
+-- the machine after so many steps of a thread
 abbrev pub after_steps : FlatState → ThreadNo → ℕ → FlatState
 after_steps s thread n = after_events s (replicate n (Step thread))
+
+-- so many steps of a thread, one after another, each fit, and none faults
+abbrev pub TakesSteps : FlatState → ThreadNo → ℕ → Type 0
+TakesSteps s thread n = (k : ℕ) → k < n → TakesStep (after_steps s thread k) thread false
 
 pub record MayRun (k : Told) (thread : ThreadNo) (steps : ℕ) : Type 0 where
   pub some : 0 < steps

@@ -1,6 +1,6 @@
 //! Laws of journals, each as the contract of a call that does nothing.
 
-ghost use Rattle.std.specs.Prelude.{◌≡◌, ◌≢◌, ℕ, ◌+◌, ◌<◌, ◌∷◌, ◌++◌, [], List, true, false, None, Contains, count_by, length};
+ghost use Rattle.std.specs.Prelude.{◌≡◌, ◌≢◌, ℕ, ◌+◌, ◌<◌, ◌∷◌, ◌++◌, [], Bool, List, true, false, None, Some, Contains, count_by, length};
 ghost use Rattle.std.specs.List.{list_any};
 ghost use Rattle.cache_ident.specs.declared.idents.Cause.TheVariants as causes;
 ghost use Rattle.cache_ident.specs.declared.idents.Ident.{Ident};
@@ -10,8 +10,11 @@ ghost use Rattle.cache_ident.specs.Names.{first_name, kind_of};
 ghost use Rattle.depend_lists.specs.declared.nodes.Node.{Node};
 ghost use Rattle.writeback_order.specs.Order.{IsOrder};
 ghost use Rattle.flat_state.specs.declared.events.Decl.{Decl};
+ghost use Rattle.flat_state.specs.declared.records.NextStep.{NextStep};
 ghost use Rattle.flat_state.specs.Declaration.{broken_rule};
 ghost use Rattle.flat_state.specs.Events.{after_events, flat};
+ghost use Rattle.flat_state.specs.NextSteps.{next_step};
+ghost use Rattle.flat_state.specs.State.{FlatState};
 ghost use Rattle.cache_ident.specs.Residents.{Resident};
 ghost use Rattle.run_journal.specs.declared.entries.Entry.{Entry};
 ghost use Rattle.run_journal.specs.declared.entries.Entry.TheVariants as entries;
@@ -19,7 +22,7 @@ ghost use Rattle.run_journal.specs.Entries.{erase, steps_in};
 ghost use Rattle.run_journal.specs.Told.{residents, residents_from, is_load, is_seal, Anything, told, told_from};
 ghost use Rattle.run_journal.specs.Standing.{StandsAs, standing_of, standing_from};
 ghost use Rattle.run_journal.specs.Groups.{node_of, ArePairsOf, departures};
-ghost use Rattle.run_journal.specs.Legal.{first_ident, AreLegal, IsFullBefore, IsLegal, StaysGood, MayComplete, MayEnd, MayLoad, MayLock, MayRun, MayUnlock};
+ghost use Rattle.run_journal.specs.Legal.{first_ident, AreLegal, IsFullBefore, IsLegal, IsRowResident, StaysGood, TakesStep, MayComplete, MayEnd, MayLoad, MayLock, MayRun, MayStep, MayUnlock};
 ghost use Rattle.run_journal.specs.Points.{KeepsAll, opening};
 
 /// What a longer journal tells is what the entries behind tell beyond the shorter one.
@@ -39,6 +42,14 @@ pub fn what_is_told_is_so()
     ensures loads { (j : List Entry) → (told j).loads ≡ count_by is_load j }
     ensures sealed { (j : List Entry) → (told j).sealed ≡ list_any is_seal j }
     ensures standing { (j : List Entry) (ident : Ident) → StandsAs j ident (standing_of j ident) }
+{}
+
+/// A step that a thread may take over what is resident is its next step in the machine with unlimited tables, and faults as
+/// that does. And that step may be taken where the rows that it goes through are resident.
+pub fn a_step_that_may_be_taken_fits()
+    ensures fits { (s : FlatState) (rs : List Resident) (thread : ThreadNo) (faults : Bool) → MayStep s rs thread faults → TakesStep s thread faults }
+    ensures may { (s : FlatState) (rs : List Resident) (thread : ThreadNo) (faults : Bool) (next : NextStep) → TakesStep s thread faults → next_step s thread.0 ≡ Some next
+        → IsRowResident rs next.fetch_row → (faults ≡ false → IsRowResident rs next.data_row) → MayStep s rs thread faults }
 {}
 
 /// A legal journal stays legal by what may come next, where nothing more has to come behind it. And what begins a legal

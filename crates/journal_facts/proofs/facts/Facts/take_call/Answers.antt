@@ -5,7 +5,7 @@ use Rattle.flat_state.specs.State.{FlatState}
 use Rattle.run_journal.specs.declared.entries.Entry.TheVariants.{Completed}
 use Rattle.run_journal.specs.Told.{told_after}
 use Rattle.run_journal.specs.Legal.{MayComplete, AreGood}
-use Rattle.journal_groups.specs.journal_rules.specs.Framed.{AreFramedBy}
+use Rattle.journal_groups.specs.journal_rules.specs.Relied.{AreRelyingOn}
 use Rattle.journal_groups.specs.journal_rules.specs.Running.{LeavesGood}
 use Rattle.journal_groups.specs.journal_tables.proofs.Staying.{of_completed}
 use Rattle.journal_facts.specs.Facts.{AreFactsOf}
@@ -22,7 +22,7 @@ returns c = λ k are sealed.
     let there = (c.has.ensures k are).0 c.if-not-has.false in
     match_map _ _ _ (MayComplete k thread × ((cpu : ℕ) → AreFactsOf c.go_on.new.self (after cpu))) (MayComplete k thread → ⊥)
     (c.in_ok-done.ensures k.residents (c.residents.ensures k are.stand.tables)
-    (subst (λ (s : FlatState). AreFramedBy c.frames.result.now s k.residents) are.stand.state (c.frames.ensures k are.stand.tables))
+    (subst (λ (s : FlatState). AreRelyingOn c.relying.result.now s k.residents) are.stand.state (c.relying.ensures k are.stand.tables))
     (subst (λ (s : FlatState). AreGood s k.residents) are.stand.state are.stand.tables.whole.good))
     (λ done.
     let leaves = subst (λ (s : FlatState). LeavesGood s k.residents thread) (sym are.stand.state) done.0 in

@@ -1,12 +1,12 @@
-use Rattle.std.proofs.Common.{◌≡◌, ◌↔◌, ◌⊎◌, List, Contains, Some, refl, ap, sym, ◌∙◌, subst}
+use Rattle.std.proofs.Common.{◌≡◌, ◌↔◌, ◌⊎◌, List, Contains, refl, ap, sym, ◌∙◌, subst}
 use Rattle.std.proofs.lemmas.Bool.{false≢true}
-use Rattle.cache_ident.specs.declared.names.Frame.{Frame}
 use Rattle.cache_ident.specs.declared.names.Name.{Name}
 use Rattle.flat_state.specs.State.{FlatState}
 use Rattle.flat_state.specs.Dependence.{parents}
-use Rattle.residents.specs.Framed.{IsFramed}
+use Rattle.residents.specs.Relying.{IsRelying}
+use Rattle.residents.specs.declared.relying.Reliance.{Reliance}
 use Rattle.residents.specs.Pairs.{IsPair}
-use Rattle.journal_rules.specs.journal_laws.specs.Touching.{frame_of}
+use Rattle.journal_rules.specs.Relied.{reliances_of}
 use Rattle.journal_tables.proofs.TableLemmas.{of_loaded, fresh_serial}
 use Rattle.journal_tables.proofs.tables.Tables.load.Goals as goal
 
@@ -24,7 +24,8 @@ returns c = λ k state loads are.
         others = c.take.ensures.others;
         adds = subst (λ (ps : List Name). (parent other : Name) → IsPair c.add.new.self parent other ↔ (IsPair c.args.self.now.dependents parent other ⊎ ((other ≡ c.args.name) × Contains ps parent)))
             (c.as_slice.ensures.value ∙ c.parents-parents.ensures ∙ ap (λ (s : FlatState). parents s c.args.name) (sym state)) c.in_ok-add.ensures;
-        frames = subst (λ (s : FlatState). (frame : Frame) (other : Name) → IsFramed c.put_on_frame.new.frames frame other ↔ (IsFramed c.args.self.now.frames frame other ⊎ ((frame_of s c.args.name ≡ Some frame) × (other ≡ c.args.name)))) (sym state) c.in_ok-put_on_frame.ensures;
+        relies = subst (λ (qs : List Reliance). (reliance : Reliance) (other : Name) → IsRelying c.add-2.new.self reliance other ↔ (IsRelying c.args.self.now.relying reliance other ⊎ ((other ≡ c.args.name) × Contains qs reliance)))
+            (c.as_slice-2.ensures.value ∙ c.reliances-relied.ensures ∙ ap (λ (s : FlatState). reliances_of s c.args.name) (sym state)) c.in_ok-add-2.ensures;
         locks = refl;
       }),
     )

@@ -1,0 +1,23 @@
+use Rattle.std.proofs.Common.{◌≡◌, length, subst, arith}
+use Rattle.std.proofs.lemmas.List.{get_or_default}
+use Rattle.residents.specs.contracts.relying.RelianceOrd.TheImpl.Laws as reliance_laws
+use Rattle.residents.proofs.RelyLemmas.{reliance_cmp, same_reliance}
+use Rattle.residents.proofs.PairLemmas.{other_pair, added_none, added_more, all_added, AreAdded}
+use Rattle.residents.proofs.relying.RelyingRows.add.Goals as goal
+
+pub loop-reliance-init : goal.loop-reliance-init
+loop-reliance-init c = added_none reliance_cmp same_reliance reliance_laws.total-law c.args.self.now.pairs c.args.row c.args.reliances.now
+
+pub loop-reliance-preserved : goal.loop-reliance-preserved
+loop-reliance-preserved c =
+    let updates = c.in_ok-insert.ensures.updates in
+    added_more reliance_cmp same_reliance reliance_laws.total-law c.args.self.now.pairs c.loop-reliance.self.pairs c.insert.new.self c.args.row c.args.reliances.now c.loop-reliance.reliance-index c.loop-reliance-test.true _
+    (λ d. get_or_default c.args.reliances.now c.loop-reliance.reliance-index d _ c.loop-reliance-test.true)
+    (record { here = updates.1; others = λ q other. updates.2 q (other_pair reliance_cmp same_reliance reliance_laws.total-law _ q other) })
+    c.loop-reliance.invariant
+
+pub returns : goal.returns
+returns c =
+    let whole : c.loop-reliance.reliance-index ≡ length c.args.reliances.now = omega arith in
+    all_added reliance_cmp same_reliance reliance_laws.total-law c.args.self.now.pairs c.loop-reliance.self.pairs c.args.row c.args.reliances.now
+    (subst (λ n. AreAdded reliance_cmp same_reliance reliance_laws.total-law c.args.self.now.pairs c.loop-reliance.self.pairs c.args.row c.args.reliances.now n) whole c.loop-reliance.invariant)
