@@ -92,7 +92,8 @@ pub enum Op {
         cpu: u32,
         thread: ThreadNo,
     },
-    /// Make room, so that calls want no memory until `n` more identifiers are issued.
+    /// Make room for `n` more identifiers and entries. While there is room for 22 and one more for each descriptor that is
+    /// loaded, no call wants memory but a declaration, a completion and this one.
     Reserve {
         n: usize,
     },

@@ -2,10 +2,12 @@
 #![tactic(auto)]
 
 ghost use Rattle.std.specs.Prelude.{◌≡◌, [], ◌↔◌, All, Contains, IfSome, IsNone};
+ghost use Rattle.std.specs.Ordering.{is_lt};
 ghost use Rattle.cache_ident.specs.declared.names.ThreadNo.{ThreadNo};
 ghost use Rattle.ready_queue.specs.Choice.{IsChosen, is_before};
 
 use cache_ident::ThreadNo;
+use std::cmp::Ordering;
 
 /// A loaded thread that can run and is on no processor.
 #[derive(Clone, Copy, PartialEq, Eq, Debug, Default)]
@@ -17,8 +19,18 @@ pub struct Candidate {
     pub last: u64,
 }
 
-/// The candidate of the highest priority; among those the one that was checked out the longest ago;
-/// among those the one with the lowest number. `None` only where nobody waits.
+/// By this candidates stand in the order of choice: the one of the higher priority is less; of the same priority, the one that
+/// was checked out longer ago; and else the one with the lower number.
+pub fn in_order(a: &Candidate, b: &Candidate) -> Ordering
+    ensures { is_lt result ≡ is_before a.now b.now }
+{
+    b.priority
+        .cmp(&a.priority)
+        .then(a.last.cmp(&b.last))
+        .then(a.no.cmp(&b.no))
+}
+
+/// The first of the candidates in the order of choice. `None` only where nobody waits.
 ///
 /// It goes once over the candidates and takes no memory.
 pub fn choose(waiting: &[Candidate]) -> Option<ThreadNo>
@@ -27,24 +39,11 @@ pub fn choose(waiting: &[Candidate]) -> Option<ThreadNo>
 {
     let mut best = *waiting.first()?;
     for candidate in waiting {
-        if goes_before(candidate, &best) {
+        if in_order(candidate, &best).is_lt() {
             best = *candidate;
         }
     }
     Some(best.no)
-}
-
-// Whether the first is chosen before the second.
-fn goes_before(a: &Candidate, b: &Candidate) -> bool
-    ensures { result ≡ is_before a.now b.now }
-{
-    if a.priority != b.priority {
-        a.priority > b.priority
-    } else if a.last != b.last {
-        a.last < b.last
-    } else {
-        a.no < b.no
-    }
 }
 
 #[cfg(test)]

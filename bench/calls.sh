@@ -1,0 +1,151 @@
+#!/usr/bin/env bash
+# Usage: bench/calls.sh [PROGRAM]
+# Counts the instructions that calls of the board take, by valgrind's callgrind, which no other work on the machine disturbs:
+# - a row that is unloaded and loaded again where 1,024 are loaded, a thread where 64 are, and a row that displaces another
+#   where the caches hold 6 kernels, 5 spaces, 5 threads and 6 rows;
+# - a completed call that grants rights on a group (9), and calls that make a signal row and take it out again (6 and 7),
+#   where 1,024 and where 65,536 rows are loaded and nothing leaves. Of these the same steps with a call that does nothing
+#   are taken off.
+# Counted are the operations alone, without the reading of their lines and the writing of answers. A call's count is the
+# difference between a long list and a shorter one. PROGRAM is a v_drive to count instead of the one that is built, as an older
+# one.
+#
+# The bars: 30,000 for the row, 18,000 for the thread, 20,000 for the displacing row; 3 for the ratios. While each look went by
+# name, these took 48,800, 32,600 and 28,200, and a grant at 65,536 rows some 60 milliseconds.
+set -euo pipefail
+script=bench/calls.sh
+top="$(cd "$(dirname "$0")/.." && pwd)"
+source "$top/scripts/program.sh"
+take_help "$@"
+command -v valgrind > /dev/null || { echo "$script: valgrind isn't on the path" >&2; exit 1; }
+place="$(mktemp -d)"
+trap 'rm -rf "$place"' EXIT
+if [[ -n ${1:-} ]]; then
+    counted_program="$(realpath "$1")"
+else
+    "$top/build"
+    find_proved v_drive
+    counted_program="$proved"
+fi
+
+# Prints how many instructions the operations of the file list take, and leaves their answers in the file answers.
+count() {
+    valgrind --tool=callgrind --toggle-collect='cache_board::driving::perform' --callgrind-out-file=/dev/null \
+        "$counted_program" < "$place/list" 2> "$place/said" > "$place/answers"
+    sed -n 's/.*Collected : //p' "$place/said"
+}
+
+# per_cycle MAKER CYCLES ARGUMENT..: instructions of one cycle, as the list has so many more of them.
+per_cycle() {
+    local maker="$1" cycles="$2" few many
+    shift 2
+    "$maker" 0 "$@" > "$place/list"
+    few=$(count)
+    "$maker" "$cycles" "$@" > "$place/list"
+    many=$(count)
+    ! grep -q '^refused\|^operation fault\|^scenario fault' "$place/answers" || { echo "$script: $maker is refused something" >&2; exit 1; }
+    echo $(((many - few) / cycles))
+}
+
+machine() {
+    echo 'mem 16'
+    [[ -z ${1:-} ]] || echo "caps $1"
+    echo 'kernel 0'
+    for group in $(seq 0 15); do echo "right 0 $group rw"; done
+    echo 'space 0 0'
+}
+
+# rows CYCLES LOADED: so many rows are loaded; in a cycle the first leaves and comes back.
+rows() {
+    machine
+    awk -v cycles="$1" -v rows="$2" 'BEGIN {
+        for (i = 0; i < rows; i++) print "map 0", i, i % 2048, "r"
+        print "end\nseal\nload space 0 K0.0 0"
+        for (i = 0; i < rows; i++) print "load row", 0, "K0.0 S0.1", i, "-"
+        serial = 2
+        for (i = 0; i < cycles; i++) {
+            print "unload 0 K0.0 M0." serial
+            print "load row", 0, "K0.0 S0.1", 0, "-"
+            serial = rows + 2 + i
+        }
+    }'
+}
+
+# threads CYCLES LOADED: the same of threads.
+threads() {
+    machine
+    awk -v cycles="$1" -v threads="$2" 'BEGIN {
+        for (i = 0; i < threads; i++) print "thread", i, 0, 0
+        print "end\nseal\nload space 0 K0.0 0"
+        for (i = 0; i < threads; i++) print "load thread 0 K0.0 S0.1", i
+        serial = 2
+        for (i = 0; i < cycles; i++) {
+            print "unload 0 K0.0 T0." serial
+            print "load thread 0 K0.0 S0.1 0"
+            serial = threads + 2 + i
+        }
+    }'
+}
+
+# displaced CYCLES: six rows fill their cache; in a cycle the next of twelve comes.
+displaced() {
+    machine '6 5 5 6'
+    awk -v cycles="$1" 'BEGIN {
+        for (i = 0; i < 12; i++) print "map 0", i, i, "r"
+        print "end\nseal\nload space 0 K0.0 0"
+        for (i = 0; i < 6 + cycles; i++) print "load row", 0, "K0.0 S0.1", i % 12, "-"
+    }'
+}
+
+# called CYCLES ROWS CALLS: a thread of kernel 0 makes two calls in a cycle, of the numbers and arguments that CALLS tells, where so
+# many rows of frame 1 are loaded, in a space of kernel 1.
+called() {
+    machine
+    echo 'kernel 1'
+    echo 'right 1 0 rw'
+    echo 'space 1 1'
+    echo 'thread 0 0 0'
+    echo 'map 0 0 0 x'
+    awk -v rows="$2" 'BEGIN { for (i = 0; i < rows - 2; i++) print "map 1", i, 1, "r" }'
+    echo 'code 0 0'
+    case "$3" in
+        grants) printf '%s\n' again: 'addi a0, zero, 1' 'addi a1, zero, 0' 'addi a2, zero, 3' 'addi a3, zero, 0' 'addi a7, zero, 9' ecall \
+            'addi a0, zero, 1' 'addi a7, zero, 9' ecall ;;
+        signals) printf '%s\n' again: 'addi a0, zero, 16' 'addi a1, zero, 1' 'addi a2, zero, 1' 'addi a3, zero, 1' 'addi a7, zero, 6' ecall \
+            'addi a0, zero, 16' 'addi a7, zero, 7' ecall ;;
+        nothing) printf '%s\n' again: 'addi a0, zero, 16' 'addi a1, zero, 1' 'addi a2, zero, 1' 'addi a3, zero, 1' 'addi a7, zero, 4' ecall \
+            'addi a0, zero, 16' 'addi a7, zero, 4' ecall ;;
+    esac
+    printf '%s\n' 'jal zero, again' endcode end seal 'load kernel 0 K0.0 1' 'load space 0 K0.0 0' 'load space 0 K1.1 1' \
+        'load thread 0 K0.0 S0.2 0'
+    awk -v cycles="$1" -v rows="$2" 'BEGIN {
+        print "load row", 0, "K0.0 S0.2", 0, "-"
+        for (i = 0; i < rows - 2; i++) print "load row", 0, "K1.1 S1.3", i, "-"
+        for (i = 0; i < cycles; i++) {
+            for (j = 0; j < 6; j++) print "heal 0 0"
+            print "complete 0 K0.0 T0.4"
+            for (j = 0; j < 3; j++) print "heal 0 0"
+            print "complete 0 K0.0 T0.4\nheal 0 0"
+        }
+    }'
+}
+
+# What a cycle takes whose calls do nothing, by the number of rows.
+declare -A steps=()
+
+# calls WHAT: what two such calls take with few rows and with many, beyond calls that do nothing.
+calls() {
+    local rows each=()
+    for rows in 1024 65536; do
+        [[ -n ${steps[$rows]:-} ]] || steps[$rows]=$(per_cycle called 20 "$rows" nothing)
+        each+=($(($(per_cycle called 20 "$rows" "$1") - ${steps[$rows]})))
+        echo "$1: ${each[-1]} instructions for two calls where $rows rows are loaded"
+    done
+    awk -v few="${each[0]}" -v many="${each[1]}" 'BEGIN { print "ratio", many / few }'
+}
+
+echo "row: $(per_cycle rows 1000 1024) instructions to unload it and load it again"
+echo "thread: $(per_cycle threads 1000 64) instructions to unload it and load it again"
+echo "displacing row: $(per_cycle displaced 1000) instructions to load it"
+calls grants
+calls signals
