@@ -183,7 +183,7 @@ module _ (s u : FlatState) (goes : GoesOn s u) (rs : List Resident) where
   by_signals o row another is says message good other there =
       let frames : another.frame.0 ≡ row.frame.0 = same_place another.frame.0 row.frame.0 says.1 says.2 in
       let same : signals_on u row.flags.m row.frame ≡ signals_on u another.flags.m another.frame =
-          ap₂ (λ (m : Bool) (n : ℕ). signals_on u m (record { 0 = n })) (message ∙ sym says.0) (sym frames) in
+      ap₂ (λ (m : Bool) (n : ℕ). signals_on u m (record { 0 = n })) (message ∙ sym says.0) (sym frames) in
       signals_then u o.name another other (row_then o.name another is) good.parents (subst (λ (rows : List Row). Contains rows other) same there)
 
   -- no row but a message row has signal rows
@@ -194,10 +194,10 @@ module _ (s u : FlatState) (goes : GoesOn s u) (rs : List Resident) where
   by_rights : (o : Resident) (row another : Row) (kernel : KernelNo) → IsRow s o.name another → slice_get s.spaces row.space.0 ≡ Some kernel → SaysOf s (rights_asked row kernel) another → StaysGood u rs o → is_fit_row u row ≡ true
   by_rights o row another kernel is owned says good =
       let spaces : slice_get u.spaces row.space.0 ≡ slice_get u.spaces another.space.0 =
-          ap (λ (xs : List KernelNo). slice_get xs row.space.0) goes.spaces ∙ owned ∙ sym says.0 ∙ sym (ap (λ (xs : List KernelNo). slice_get xs another.space.0) goes.spaces) in
+      ap (λ (xs : List KernelNo). slice_get xs row.space.0) goes.spaces ∙ owned ∙ sym says.0 ∙ sym (ap (λ (xs : List KernelNo). slice_get xs another.space.0) goes.spaces) in
       let same : is_fit_row u row ≡ is_fit_row u another =
-          ap₂ (λ (owner : Option KernelNo) (group : ℕ). covered u owner group (row.flags.r || row.flags.x) row.flags.w) spaces (sym says.1)
-          ∙ ap₂ (covered u (slice_get u.spaces another.space.0) (another.frame.0 / 128)) (sym says.2) (sym says.3) in
+      ap₂ (λ (owner : Option KernelNo) (group : ℕ). covered u owner group (row.flags.r || row.flags.x) row.flags.w) spaces (sym says.1)
+      ∙ ap₂ (covered u (slice_get u.spaces another.space.0) (another.frame.0 / 128)) (sym says.2) (sym says.3) in
       same ∙ fit_then o another (row_then o.name another is) good
 
   -- the signal rows of a row, as another resident tells of them where they change
