@@ -13,7 +13,8 @@ use Rattle.cache_ident.specs.Rolls.{standing_in}
 use Rattle.depend_lists.specs.declared.nodes.Node.{Node}
 use Rattle.flat_state.proofs.Places.{count_by-cons}
 use Rattle.run_journal.specs.Groups.{IsGroup}
-use Rattle.cached_machine.specs.group_laws.specs.Leaving.{without_all, AreApart}
+use Rattle.cached_machine.specs.group_laws.specs.Leaving.{without_all}
+use Rattle.cached_machine.specs.journal_laws.specs.Leaving.{AreApart}
 use Rattle.cached_machine.specs.group_laws.proofs.Counting.{count-without}
 use Rattle.cached_machine.specs.group_laws.proofs.FromBelow.{group_leaves}
 use Rattle.cached_machine.specs.group_laws.proofs.Remaining.{without_all-push}
