@@ -89,7 +89,7 @@ impl Stores {
 
     /// Makes room for one more of each kind that has none. Nothing else changes, and where memory is wanted no room falls.
     /// Where there is room of each kind it takes constant time. Otherwise its time, which grows with what is there, is
-    /// constant for each descriptor that it makes room for, but for a logarithm.
+    /// constant for each descriptor that it makes room for.
     pub fn make_room(&mut self) -> Result<(), NoMemory>
         ensures only { OnlyMakesRoom self.old self.new }
         ensures left { LeavesWhatHasRoom self.old self.new }
@@ -286,7 +286,7 @@ impl Stores {
     }
 
     /// Of the loaded identifiers of a kind that are neither locked nor in `keep`, the one with the smallest serial;
-    /// `None` where each is locked or kept. It passes over locked and kept ones, and over no others.
+    /// `None` where each is locked or kept. It passes over kept ones, and over no others.
     pub fn victim(&self, kind: Kind, keep: &[Ident]) -> Option<Ident>
         ensures victim { IfSome result (IsVictimOf self.now kind keep.now) }
         ensures none { IfNone result (NoneMayGoOf self.now kind keep.now) }
@@ -382,7 +382,7 @@ impl Stores {
         }
     }
 
-    /// Locks a loaded descriptor, so that it is no victim. Constant time.
+    /// Locks a loaded descriptor, so that it is no victim.
     pub fn lock(&mut self, ident: Ident)
         requires { standing_in self.old.issued ident ≡ Live }
         ensures contents { KeepsContents self.old self.new }
@@ -397,7 +397,7 @@ impl Stores {
         }
     }
 
-    /// Ends the lock of a loaded descriptor. Constant time.
+    /// Ends the lock of a loaded descriptor.
     pub fn unlock(&mut self, ident: Ident)
         requires { standing_in self.old.issued ident ≡ Live }
         ensures contents { KeepsContents self.old self.new }

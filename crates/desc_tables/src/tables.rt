@@ -108,8 +108,8 @@ impl Tables {
     }
 
     /// Makes room for one more descriptor of each kind. Nothing else changes, and no room falls, also where memory is
-    /// wanted. Its time, which grows with what is there, is constant for each descriptor that it makes room for, but for a
-    /// logarithm; where there is room it is constant.
+    /// wanted. Its time, which grows with what is there, is constant for each descriptor that it makes room for; where
+    /// there is room it is constant.
     pub fn make_room(&mut self) -> Result<(), NoMemory>
         ensures only { OnlyMakesRoom self.old.contents self.new.contents }
         ensures rest { self.new ≡ record self.old { contents = self.new.contents } }
@@ -198,7 +198,7 @@ impl Tables {
     /// neither locked nor in `keep`, the one that was loaded first. What leaves does so from the place `at` of the journal on.
     ///
     /// It takes a time logarithmic in what is there for each descriptor that comes or leaves, and searches the victim past the
-    /// locked and the kept ones alone.
+    /// kept ones alone.
     pub fn load(&mut self, name: Name, keep: &[Ident], at: u64) -> Ident
         requires may { MayBeLoaded self.old.contents name keep.now }
         requires places { HasPlacesFor self.old.contents name keep.now at }

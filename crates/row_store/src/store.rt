@@ -78,7 +78,7 @@ impl RowStore {
 
     /// Makes `room` at least one more than it was. Where memory is wanted nothing changes. It doubles the room of each list
     /// that has no more than `room`, so that its time, which grows with the rows that stand, is constant for each row that
-    /// it makes room for, but for a logarithm: call it only where `room` is too small.
+    /// it makes room for: call it only where `room` is too small.
     pub fn make_room(&mut self) -> Result<(), NoMemory>
         ensures cells { self.new.kept.cells ≡ self.old.kept.cells }
         ensures rows { self.new.kept.rows ≡ self.old.kept.rows }
@@ -196,7 +196,7 @@ impl RowStore {
     }
 
     /// Of the loaded identifiers that are neither locked nor in `keep`, the one with the smallest serial; `None` where
-    /// each is locked or kept. It passes over locked and kept ones, and over no others.
+    /// each is locked or kept. It passes over kept ones, and over no others.
     pub fn victim(&self, keep: &[Ident]) -> Option<Ident>
         ensures victim { IfSome result (IsVictim self.now.kept.cells keep.now) }
         ensures none { IfNone result (NoneMayGo self.now.kept.cells keep.now) }
@@ -300,7 +300,7 @@ impl RowStore {
         self.rows.leave(ident, owner, roll, at);
     }
 
-    /// Locks a loaded row, so that it is no victim. Constant time.
+    /// Locks a loaded row, so that it is no victim.
     pub fn lock(&mut self, ident: Ident)
         requires { IsLoaded self.old.kept.cells ident }
         ensures cells { self.new.kept ≡ record self.old.kept { cells = changed self.old.kept.cells ident.slot (with_lock true) } }
@@ -313,7 +313,7 @@ impl RowStore {
         self.rows.lock(ident);
     }
 
-    /// Ends the lock of a loaded row. Constant time.
+    /// Ends the lock of a loaded row.
     pub fn unlock(&mut self, ident: Ident)
         requires { IsLoaded self.old.kept.cells ident }
         ensures cells { self.new.kept ≡ record self.old.kept { cells = changed self.old.kept.cells ident.slot (with_lock false) } }
