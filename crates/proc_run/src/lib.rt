@@ -9,7 +9,7 @@ mod text;
 pub use machine::run_machine;
 pub use outcome::{Kept, Outcome, RunStatus};
 pub use run_journal::{Entry, Journal};
-pub use run_words::Words;
+pub use run_words::{Words, program_words};
 
 /// Memory ran out, and what was called is as it was before.
 pub use flat_machine::NoMemory;

@@ -1,4 +1,5 @@
 mod Found
-mod Taken
+mod Runs
+pub mod Taken
 mod Values
-mod Steps
+mod Within

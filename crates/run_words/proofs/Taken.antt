@@ -1,78 +1,61 @@
--- Which words the command takes.
-use Rattle.std.proofs.Common.{◌≡◌, Bool, true, false, List, [], ◌∷◌, length, Option, Some, None, refl, sym, ap, ◌∙◌, ◌⊎◌, inl, inr, ◌==◌, Result, Ok, Err, arith}
-use Rattle.std.proofs.lemmas.Bool.{ne_eqb}
-use Rattle.std.proofs.lemmas.Option.{same_Some}
-use Rattle.std.specs.Prelude.{if◌then◌else◌, IfOk}
+-- What words ask for, by what a command finds in them.
+use Rattle.std.proofs.Common.{◌≡◌, true, false, List, [], ◌∷◌, Option, Some, None, refl, sym, ap, ◌∙◌, ◌⊎◌, inl, inr, Result, Err, arith}
+use Rattle.std.proofs.lemmas.Bool.{and_parts, ne_eqb}
 use Rattle.std.specs.Option.{ok_or}
-use Rattle.clap.specs.Words.{IsAmong, Kinds, Row, Text, fault_of, is_simple, is_simple_and_free, matches_of}
+use Rattle.clap.specs.Words.{App, IsAmong, Kinds, Row, Text, fault_of, is_simple, is_simple_and_free, matches_of}
 use Rattle.clap.specs.Walk.{is_empty}
 use Rattle.clap.specs.declared.error.kind.ErrorKind.{ErrorKind}
 use Rattle.clap.specs.declared.error.kind.ErrorKind.TheVariants.{OutOfMemory}
-use Rattle.clap.proofs.OnLiterals.{clap_on_literals}
-use Rattle.run_words.specs.declared.options.Options.{Options}
-use Rattle.run_words.specs.Command.{command}
-use Rattle.run_words.specs.Examples.{AreTaken, AreRefused}
 use Rattle.run_words.specs.declared.options.WordsFault.{WordsFault}
 use Rattle.run_words.specs.declared.options.WordsFault.TheVariants.{NoMemory, Refused}
-use Rattle.run_words.specs.Options.{by_default, fault_by, IsReading, options, options_in}
+use Rattle.run_words.specs.Options.{are_taken, asked, fault_by, IfRefused, IsReading}
 
-pub command_is_simple : is_simple command ≡ true
-unfolding clap_on_literals
-command_is_simple = refl
+-- ---- what a parse says of words
 
-pub command_is_free : is_simple_and_free command ≡ true
-unfolding clap_on_literals
-command_is_free = refl
+pub no_fault : (app : App) (words : List Text) → fault_of app words ≡ [] → are_taken app words ≡ true
+no_fault app words none = ap (λ (kinds : Kinds). is_empty kinds) none
 
-pub chosen : {A : Type 0} (kinds : Kinds) (o : Option A) → kinds ≡ [] → (if is_empty kinds then o else None) ≡ o
-chosen kinds o none = ap (λ (k : Kinds). if is_empty k then o else None) none
+some_kind : (kinds : Kinds) (kind : ErrorKind) → IsAmong kind kinds → is_empty kinds ≡ false
+some_kind [] kind among = absurd among
+some_kind (k ∷ ks) kind among = ne_eqb _ _ (λ e. absurd (omega (arith, e)))
 
-pub not_chosen : {A : Type 0} (kinds : Kinds) (kind : ErrorKind) (o : Option A) → IsAmong kind kinds → (if is_empty kinds then o else None) ≡ None
-not_chosen [] kind o among = absurd among
-not_chosen (k ∷ ks) kind o among =
-    let some : (length (k ∷ ks) == 0) ≡ false = ne_eqb _ _ (λ e. absurd (omega (arith, e))) in
-    ap (λ (none : Bool). if none then o else None) some
-
--- words in which the command finds no fault ask for what their matches do
-pub taken_as : (words : List Text) (rows : List Row) → fault_of command words ≡ [] → rows ≡ matches_of command words → options words ≡ options_in rows
-unfolding options
-taken_as words rows none is = chosen (fault_of command words) (options_in (matches_of command words)) none ∙ ap options_in (sym is)
-
--- others for nothing
-pub refused_so : (words : List Text) (kind : ErrorKind) → IsAmong kind (fault_of command words) → options words ≡ None
-unfolding options
-refused_so words kind among = not_chosen (fault_of command words) kind (options_in (matches_of command words)) among
-
--- what the matches ask for is what the words do
-pub read_so : (words : List Text) (o : Option Options) (r : Result Options WordsFault) → o ≡ options words → r ≡ ok_or o Refused → IsReading words r
-read_so words (Some x) r is made = rw made (sym is)
-read_so words None r is made = rw made (sym is)
+pub is_fault : (app : App) (words : List Text) (kind : ErrorKind) → IsAmong kind (fault_of app words) → are_taken app words ≡ false
+is_fault app words kind among = some_kind (fault_of app words) kind among
 
 -- a parse that fails
-pub failed_so : (words : List Text) (kind : ErrorKind) → (kind ≡ OutOfMemory) ⊎ IsAmong kind (fault_of command words) → IsReading words (Err (fault_by kind))
-failed_so words kind (inl memory) = rw memory tt
-failed_so words kind (inr among) = go (fault_by kind) refl
+pub refused_by : (A : Type 0) (app : App) (words : List Text) (kind : ErrorKind) → (kind ≡ OutOfMemory) ⊎ IsAmong kind (fault_of app words)
+    → IfRefused {A = A} (Err (fault_by kind)) (are_taken app words ≡ false)
+refused_by A app words kind (inl memory) = rw memory tt
+refused_by A app words kind (inr among) = go (fault_by kind)
   where
-    go : (f : WordsFault) → fault_by kind ≡ f → IsReading words (Err (fault_by kind))
-    go NoMemory e = rw e tt
-    go Refused e = rw e (refused_so words kind among)
+    go : (f : WordsFault) → IfRefused {A = A} (Err f) (are_taken app words ≡ false)
+    go NoMemory = tt
+    go Refused = is_fault app words kind among
 
--- ---- no words
+pub simple_of : (app : App) → is_simple_and_free app ≡ true → is_simple app ≡ true
+simple_of app both = (and_parts (is_simple app) _ both).0
 
-pub no_words : options [] ≡ Some by_default
-unfolding options options_in clap_on_literals
-no_words = refl
+-- ---- what words ask for
 
-pub by_default_so : (words : List Text) (r : Result Options WordsFault) → words ≡ [] → IsReading words r → IfOk r (λ o. o ≡ by_default)
-by_default_so words (Ok o) none meant = same_Some o by_default (sym meant ∙ (ap options none ∙ no_words))
-by_default_so words (Err fault) none meant = tt
+-- words that are taken ask for what their matches do
+pub asked_so : {A : Type 0} (app : App) (read : List Row → Option A) (words : List Text) → are_taken app words ≡ true → asked app read words ≡ read (matches_of app words)
+asked_so app read words taken = rw taken refl
 
--- ---- examples
+-- others for nothing
+pub not_asked : {A : Type 0} (app : App) (read : List Row → Option A) (words : List Text) → are_taken app words ≡ false → asked app read words ≡ None
+not_asked app read words refused = rw refused refl
 
-pub examples_are_taken : AreTaken
-unfolding options options_in clap_on_literals
-examples_are_taken = refl
+meant_so : {A : Type 0} (meant o : Option A) (r : Result A WordsFault) → o ≡ meant → r ≡ ok_or o Refused → IsReading meant r
+meant_so meant (Some x) r is made = rw made (sym is)
+meant_so meant None r is made = rw made (sym is)
 
-pub examples_are_refused : AreRefused
-unfolding options options_in clap_on_literals
-examples_are_refused = refl
+-- what is read of the matches of words that are taken is what the words ask for
+pub read_so : {A : Type 0} (app : App) (read : List Row → Option A) (words : List Text) (rows : List Row) (o : Option A) (r : Result A WordsFault) → are_taken app words ≡ true
+    → rows ≡ matches_of app words → o ≡ read rows → r ≡ ok_or o Refused → IsReading (asked app read words) r
+read_so app read words rows o r taken is found made = meant_so (asked app read words) o r (found ∙ ap read is ∙ sym (asked_so app read words taken)) made
+
+-- where the parse failed
+pub failed_so : {A : Type 0} (B : Type 0) (app : App) (read : List Row → Option A) (words : List Text) (f : WordsFault) → IfRefused {A = B} (Err f) (are_taken app words ≡ false)
+    → IsReading (asked app read words) (Err f)
+failed_so B app read words NoMemory refused = tt
+failed_so B app read words Refused refused = not_asked app read words refused

@@ -1,3 +1,4 @@
+pub mod Ranges
 pub mod Command
 pub mod Options
 pub mod Examples

@@ -4,7 +4,9 @@ use Rattle.std.specs.Str.Parse.{digits_value, without_leading_plus}
 use Rattle.clap.specs.Words.{Text}
 use Rattle.clap.specs.ValueTests.{is_unsigned_in}
 use Rattle.run_words.specs.declared.options.Options.{Options}
+use Rattle.run_words.specs.declared.ranges.NumberRange.{NumberRange}
 use Rattle.run_words.specs.Options.{options, by_default, mode_named}
+use Rattle.run_words.specs.Ranges.{any_number, cpus_range, frames_range, steps_range}
 
 -- what the one word `--mode=name` asks for
 abbrev pub ModesAreNamed : Type 0
@@ -12,12 +14,13 @@ ModesAreNamed = (name : Text) → options ((codes "--mode=" ++ name) ∷ []) ≡
 
 -- behind the front of the word stands a number in decimal digits, perhaps behind a plus, in this range; any other word with
 -- that front isn't taken
-abbrev pub TakesNumbers : Text → ℕ → ℕ → (ℕ → Options) → Type 0
-TakesNumbers front low high set = (value : Text) → options ((front ++ value) ∷ []) ≡ (if is_unsigned_in low high value then Some (set (digits_value 10 (without_leading_plus value))) else None)
+abbrev pub TakesNumbers : Text → NumberRange → (ℕ → Options) → Type 0
+TakesNumbers front numbers set =
+    (value : Text) → options ((front ++ value) ∷ []) ≡ (if is_unsigned_in numbers.lowest numbers.highest value then Some (set (digits_value 10 (without_leading_plus value))) else None)
 
 abbrev pub NumbersHaveRanges : Type 0
 NumbersHaveRanges =
-    TakesNumbers (codes "--cpus=") 1 8 (λ n. record by_default { cpus = n })
-    × TakesNumbers (codes "--steps=") 1 1000000 (λ n. record by_default { steps = n })
-    × TakesNumbers (codes "--seed=") 0 4294967295 (λ n. record by_default { seed = n })
-    × TakesNumbers (codes "--frames=") 2 2048 (λ n. record by_default { frames = n })
+    TakesNumbers (codes "--cpus=") cpus_range (λ n. record by_default { cpus = n })
+    × TakesNumbers (codes "--steps=") steps_range (λ n. record by_default { steps = n })
+    × TakesNumbers (codes "--seed=") any_number (λ n. record by_default { seed = n })
+    × TakesNumbers (codes "--frames=") frames_range (λ n. record by_default { frames = n })

@@ -3,10 +3,11 @@
 ghost use Rattle.std.specs.Prelude.{◌≡◌, IfOk};
 ghost use Rattle.clap.specs.Words.{app_of};
 ghost use Rattle.run_words.specs.Command.{drive_command};
-ghost use Rattle.run_words.specs.Options.{IsReadingOfSteps};
+ghost use Rattle.run_words.specs.Options.{steps_allowed, IsReading};
 
-use crate::command::{bare, fault_by, number_in, steps_option};
+use crate::command::{bare, matches_in, number_within, steps_option};
 use crate::options::WordsFault;
+use crate::ranges::STEPS;
 use crate::words::Words;
 use clap::Command;
 use std::alloc::{AllocError, Global};
@@ -22,11 +23,9 @@ fn command<'a>(alloc: Global) -> Result<Command<'a>, AllocError>
 /// How many steps the words allow, where the board by hand takes them: 1 to 1,000,000, and 1,000,000 without words.
 pub fn read_steps(alloc: Global, words: &Words) -> Result<u32, WordsFault>
     // The words allow so many; or they aren't taken, or memory ran out.
-    ensures { IsReadingOfSteps words.now result }
+    ensures { IsReading (steps_allowed words.now) result }
 {
     let command = command(alloc)?;
-    match command.try_get_matches_from(words.as_slice()) {
-        Ok(matches) => number_in(&matches, "steps").ok_or(WordsFault::Refused),
-        Err(error) => Err(fault_by(error.kind())),
-    }
+    let matches = matches_in(command, words)?;
+    number_within(&matches, "steps", STEPS).ok_or(WordsFault::Refused)
 }

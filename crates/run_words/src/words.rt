@@ -4,7 +4,10 @@ ghost use Rattle.std.specs.Prelude.{◌≡◌, [], ◌∷◌, ◌++◌, OnOk, On
 ghost use Rattle.std.specs.String.{string_bytes};
 
 use std::alloc::{AllocError, Global};
+use std::env;
+use std::io::ErrorKind;
 use std::marker::Model;
+use std::rt::Env;
 
 /// The words behind a program's name. A contract sees the list of their bytes.
 #[derive(Drop)]
@@ -48,4 +51,19 @@ impl Words {
     {
         self.words.as_slice()
     }
+}
+
+/// The words behind the name of the program that runs. One that is no text stands as a question mark, which no program takes.
+pub fn program_words<R: Env + AllocGlobal>(rt: &R) -> Result<Words, AllocError> {
+    let mut words = Words::new(rt.alloc());
+    match env::args(rt) {
+        Ok(args) => {
+            for word in args.skip(1) {
+                words.push(&word)?;
+            }
+        }
+        Err(error) if error.kind() == ErrorKind::InvalidData => words.push("?")?,
+        Err(_) => return Err(AllocError),
+    }
+    Ok(words)
 }

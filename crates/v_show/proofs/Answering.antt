@@ -1,7 +1,5 @@
 -- What is due for an input, by what the check found.
-use Rattle.std.proofs.Common.{◌≡◌, ℕ, ◌<◌, ◌≤◌, List, length, Option, Some, None, Result, Ok, Err, refl, sym, subst, ◌∙◌, ◌⊎◌, inl, inr, arith}
-use Rattle.std.specs.Prelude.{IfSome}
-use Rattle.std.specs.Io.KnownBytes.{IsAtEnd}
+use Rattle.std.proofs.Common.{◌≡◌, ℕ, ◌≤◌, List, length, Option, Some, None, Result, refl, sym, subst, ◌∙◌, ◌⊎◌, inl, inr}
 use Rattle.flat_state.specs.declared.events.Decl.{Decl}
 use Rattle.scenario_reader.specs.declared.fault.ScenarioFault.{ScenarioFault}
 use Rattle.scenario_reader.specs.Scenarios.{scenario}
@@ -11,12 +9,11 @@ use Rattle.check_mode.specs.Answers.{IsChecked}
 use Rattle.check_mode.specs.Parts.{scenario_part}
 use Rattle.v_show.specs.declared.endings.Ending.{Ending}
 use Rattle.v_show.specs.declared.endings.Ending.TheVariants.{Legal, Broken, ReadFault, WriteFault, BadScenario, BadJournal, NoMemory, Usage, TooLong}
-use Rattle.v_show.specs.declared.machine.NoText.{NoText}
-use Rattle.v_show.specs.declared.machine.NoText.TheVariants as no_text
 use Rattle.v_show.specs.declared.options.Options.{Options}
-use Rattle.v_show.specs.Dues.{OnFailed}
+use Rattle.due_text.specs.Inputs.{IsWhole, IsTooLong, most_bytes}
+use Rattle.due_text.proofs.Inputs.{not_too_long, same_input}
 use Rattle.v_show.specs.Words.{options}
-use Rattle.v_show.specs.Endings.{ComesFrom, ComesOut, ComesOutOrNoMemory, IsAnswer, IsDue, IsDueBy, IsDueFor, IsRefusal, most_bytes}
+use Rattle.v_show.specs.Endings.{ComesOut, ComesOutOrNoMemory, IsAnswer, IsDue, IsDueBy, IsDueFor, IsRefusal}
 
 -- ---- the answer
 
@@ -31,7 +28,7 @@ answered o input (found.BadJournal line said) ending text checked due =
 
 -- ---- what is due
 
-pub by_input : (o : Options) (bytes left : Option (List ℕ)) (input : List ℕ) (ending : Ending) (text : List ℕ) → ComesFrom bytes left input → IsAnswer o input ending text → IsDueBy o bytes left ending text
+pub by_input : (o : Options) (bytes left : Option (List ℕ)) (input : List ℕ) (ending : Ending) (text : List ℕ) → IsWhole bytes left input → IsAnswer o input ending text → IsDueBy o bytes left ending text
 by_input o bytes left input Legal text from answer = (input, from, answer)
 by_input o bytes left input Broken text from answer = (input, from, answer)
 by_input o bytes left input ReadFault text from answer = absurd answer
@@ -41,9 +38,6 @@ by_input o bytes left input (BadJournal line) text from answer = (input, from, a
 by_input o bytes left input NoMemory text from answer = absurd answer
 by_input o bytes left input Usage text from answer = absurd answer
 by_input o bytes left input TooLong text from answer = absurd answer
-
-pub from_read : (bytes left : Option (List ℕ)) (items input : List ℕ) → input ≡ items → IfSome bytes (λ told. items ≡ told) → IsAtEnd left → length items ≤ most_bytes → ComesFrom bytes left input
-from_read bytes left items input is told at_end few = subst (λ (x : List ℕ). ComesFrom bytes left x) (sym is) (told, at_end, few)
 
 pub by_words : (words : List (List ℕ)) (o : Options) (bytes left : Option (List ℕ)) (ending : Ending) (text : List ℕ) → options words ≡ Some o → IsDueBy o bytes left ending text → IsDue words bytes left ending text
 by_words words o bytes left Legal text taken due = (o, taken, due)
@@ -91,17 +85,8 @@ comes_out o input NoMemory text answer = absurd answer
 comes_out o input Usage text answer = absurd answer
 comes_out o input TooLong text answer = absurd answer
 
--- an input that is told, of bytes that the source had
-same_input : (bytes left : Option (List ℕ)) (input told : List ℕ) → bytes ≡ Some told → ComesFrom bytes left input → input ≡ told
-same_input bytes left input told is from = subst (λ (b : Option (List ℕ)). IfSome b (λ t. input ≡ t)) is from.0
-
-not_too_long : (bytes : Option (List ℕ)) (told : List ℕ) → bytes ≡ Some told → length told ≤ most_bytes → IfSome bytes (λ bs. most_bytes < length bs) → ⊥
-not_too_long bytes told is few long =
-    let more : most_bytes < length told = subst (λ (b : Option (List ℕ)). IfSome b (λ bs. most_bytes < length bs)) is long in
-    omega (arith, few, more)
-
 answer_parts : (o : Options) (bytes left : Option (List ℕ)) (ending : Ending) (text : List ℕ) → IsDueBy o bytes left ending text
-    → IfSome bytes (λ bs. most_bytes < length bs) ⊎ ((input : List ℕ) × ComesFrom bytes left input × IsAnswer o input ending text)
+    → IsTooLong bytes left ⊎ ((input : List ℕ) × IsWhole bytes left input × IsAnswer o input ending text)
 answer_parts o bytes left Legal text due = inr due
 answer_parts o bytes left Broken text due = inr due
 answer_parts o bytes left ReadFault text due = inr due
@@ -142,13 +127,7 @@ completes words o bytes left ending text told taken is few due =
     elim (words_parts words bytes left ending text due) [
       | inl none ↦ taken_or_not words o _ none taken
       | inr h ↦ elim (answer_parts h.0 bytes left ending text h.2) [
-        | inl long ↦ absurd (not_too_long bytes told is few long)
+        | inl long ↦ absurd (not_too_long bytes left told is few long)
         | inr a ↦ or_no_memory (scenario (scenario_part told)) ending (subst (λ (x : List ℕ). ComesOut (scenario (scenario_part x)) ending) (same_input bytes left a.0 told is a.1) (comes_out h.0 a.0 ending text a.2))
       ]
     ]
-
--- what is known of a fault of the source
-pub failed_by : {X : Type 0} (r : Result X NoText) (P Q : Type 0) → (P → Q) → OnFailed r P → OnFailed r Q
-failed_by (Ok x) P Q more h = h
-failed_by (Err no_text.ReadFault) P Q more h = more h
-failed_by (Err no_text.NoMemory) P Q more h = h

@@ -1,3 +1,2 @@
 mod Answering
-mod Found
-mod Taken
+mod Free

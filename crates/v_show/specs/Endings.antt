@@ -1,8 +1,8 @@
 -- What is due to be written, and what each ending of the whole run says.
-use Rattle.std.specs.Prelude.{◌≡◌, ℕ, ◌<◌, ◌≤◌, List, ◌++◌, length, codes, Option, Some, None, IfSome, Result, Ok, Err}
-use Rattle.std.specs.Fmt.{decimal}
-use Rattle.std.specs.Io.KnownBytes.{IsAtEnd, Keeps}
-use Rattle.byte_ports.specs.Whole.{TakesMore}
+use Rattle.std.specs.Prelude.{◌≡◌, ℕ, List, codes, Option, Some, None, Result, Ok, Err}
+use Rattle.std.specs.Io.KnownBytes.{Keeps}
+use Rattle.due_text.specs.Inputs.{IsWhole, IsTooLong}
+use Rattle.due_text.specs.Lines.{scenario_fault_line, too_long_line}
 use Rattle.flat_state.specs.declared.events.Decl.{Decl}
 use Rattle.scenario_reader.specs.declared.fault.ScenarioFault.{ScenarioFault}
 use Rattle.scenario_reader.specs.declared.fault.ScenarioFault.TheVariants as faults
@@ -21,18 +21,8 @@ use Rattle.v_show.specs.declared.endings.Ending.TheVariants.{Legal, Broken, Read
 use Rattle.v_show.specs.declared.options.Options.{Options}
 use Rattle.v_show.specs.Words.{options}
 
--- how many bytes an input may have
-abbrev pub most_bytes : ℕ
-most_bytes = 4194304
-
 abbrev pub usage_line : List ℕ
 usage_line = codes "usage: v_show [--from N] [--to N] [--steps N]\n"
-
-abbrev pub too_long_line : List ℕ
-too_long_line = codes "too long\n"
-
-abbrev pub scenario_fault_line : ℕ → ℕ → List ℕ
-scenario_fault_line line rule = codes "scenario fault line " ++ (decimal line ++ (codes " rule " ++ (decimal rule ++ codes "\n")))
 
 abbrev pub exit_status : Ending → ℕ
 exit_status Legal = 0
@@ -77,14 +67,10 @@ IsAnswer o input (BadJournal line) text = IsShown o input (BadJournal line) text
 IsAnswer o input (BadScenario line rule) text = (scenario (scenario_part input) ≡ Err (faults.Bad line rule)) × (text ≡ scenario_fault_line line rule)
 IsAnswer o input _ text = ⊥
 
--- the input is what the source has told, which it empties, and not more than an input may have
-abbrev pub ComesFrom : Option (List ℕ) → Option (List ℕ) → List ℕ → Type 0
-ComesFrom bytes left input = IfSome bytes (λ told. input ≡ told) × IsAtEnd left × (length input ≤ most_bytes)
-
 -- This text is due with this ending for options, where the source had these bytes and has those left.
 abbrev pub IsDueBy : Options → Option (List ℕ) → Option (List ℕ) → Ending → List ℕ → Type 0
-IsDueBy o bytes left TooLong text = IfSome bytes (λ told. most_bytes < length told) × TakesMore bytes left most_bytes × (text ≡ too_long_line)
-IsDueBy o bytes left ending text = (input : List ℕ) × ComesFrom bytes left input × IsAnswer o input ending text
+IsDueBy o bytes left TooLong text = IsTooLong bytes left × (text ≡ too_long_line)
+IsDueBy o bytes left ending text = (input : List ℕ) × IsWhole bytes left input × IsAnswer o input ending text
 
 -- The same by words. Those that aren't taken are answered with the usage line.
 abbrev pub IsDue : List (List ℕ) → Option (List ℕ) → Option (List ℕ) → Ending → List ℕ → Type 0

@@ -1,31 +1,28 @@
 //! The whole run: from words and the bytes of a scenario with a journal to the page that is due.
 
 ghost use Rattle.std.specs.Prelude.{◌≡◌, ◌≢◌, ◌≤◌, List, ℕ, IfOk, Some, None, length};
-ghost use Rattle.std.specs.String.{string_bytes};
 ghost use Rattle.std.specs.Io.KnownBytes.{Appends, Keeps};
 ghost use Rattle.byte_ports.specs.Faults.{HasRisen};
 ghost use Rattle.byte_ports.specs.Whole.{AppendsFront};
 ghost use Rattle.scenario_reader.specs.Scenarios.{scenario};
 ghost use Rattle.check_mode.specs.Parts.{scenario_part};
 ghost use Rattle.v_show.specs.declared.endings.Ending.{Ending};
-ghost use Rattle.v_show.specs.declared.machine.NoText.TheVariants as no_text;
 ghost use Rattle.v_show.specs.declared.options.Options.{Options};
-ghost use Rattle.v_show.specs.Dues.{OnFailed, UnlessFailed};
-ghost use Rattle.v_show.specs.Endings.{ComesOutOrNoMemory, IsAnswer, IsDrawn, IsDue, IsDueBy, IsDueFor, IsRefusal, OnNothingDue, OnReadFault, OnWriteFault, OnWritten, UnlessReadFault, UnlessWriteFault, most_bytes, scenario_fault_line};
+ghost use Rattle.due_text.specs.Inputs.{OnFailed, UnlessFailed, most_bytes};
+ghost use Rattle.due_text.specs.Lines.{scenario_fault_line};
+ghost use Rattle.v_show.specs.Endings.{ComesOutOrNoMemory, IsAnswer, IsDrawn, IsDue, IsDueBy, IsDueFor, IsRefusal, OnNothingDue, OnReadFault, OnWriteFault, OnWritten, UnlessReadFault, UnlessWriteFault};
 ghost use Rattle.v_show.specs.Words.{options};
 
 use crate::endings::Ending;
 use crate::options::{Options, read};
-use byte_ports::{ReadError, Sink, Source, read_to_end, write_all};
+use byte_ports::{Sink, Source, write_all};
 use check_mode::{Checked, answer};
+use due_text::{Input, NoText, read_input, scenario_fault_line, too_long_line};
 use journal_picture::{Judged, Part, picture};
 use run_journal::Journal;
 use run_words::{Words, WordsFault};
 use scenario_reader::ScenarioFault;
 use std::alloc::{AllocError, Global};
-
-/// How many bytes the input may have.
-const MOST_BYTES: usize = 4_194_304;
 
 const USAGE: &[u8] = b"usage: v_show [--from N] [--to N] [--steps N]\n";
 
@@ -36,21 +33,6 @@ struct DueText {
     text: Vec<u8>,
 }
 
-// Why no text is due.
-#[derive(Clone, Copy)]
-enum NoText {
-    ReadFault,
-    NoMemory,
-}
-
-impl From<AllocError> for NoText {
-    ghost from_gives = { λ _ e. e ≡ no_text.NoMemory };
-
-    fn from(_e: AllocError) -> NoText {
-        NoText::NoMemory
-    }
-}
-
 // A line that is due alone.
 fn line(alloc: Global, ending: Ending, text: &[u8]) -> Result<DueText, AllocError>
     ensures ending { IfOk result (λ d. d.ending ≡ ending) }
@@ -58,12 +40,6 @@ fn line(alloc: Global, ending: Ending, text: &[u8]) -> Result<DueText, AllocErro
 {
     let text = Vec::from_slice(alloc, text)?;
     Ok(DueText { ending, text })
-}
-
-fn scenario_fault_line(alloc: Global, number: u64, rule: u32) -> Result<String, AllocError>
-    ensures { IfOk result (λ line. string_bytes line ≡ scenario_fault_line number rule) }
-{
-    format!(in alloc; "scenario fault line {number} rule {rule}\n")
 }
 
 // The first fault of a text that is no scenario.
@@ -137,11 +113,9 @@ fn due_of<S: Source>(alloc: Global, options: Options, source: &mut S) -> Result<
     ensures fault { OnFailed result (HasRisen (S.faults source.old) (S.faults source.new)) }
     ensures faultless { UnlessFailed result (S.faults source.new ≡ S.faults source.old) }
 {
-    match read_to_end(alloc, source, MOST_BYTES) {
-        Ok(bytes) => due_for(alloc, options, &bytes),
-        Err(ReadError::TooLong) => Ok(line(alloc, Ending::TooLong, b"too long\n")?),
-        Err(ReadError::Failed) => Err(NoText::ReadFault),
-        Err(ReadError::NoMemory) => Err(NoText::NoMemory),
+    match read_input(alloc, source)? {
+        Input::Whole(bytes) => due_for(alloc, options, &bytes),
+        Input::TooLong => Ok(line(alloc, Ending::TooLong, too_long_line())?),
     }
 }
 

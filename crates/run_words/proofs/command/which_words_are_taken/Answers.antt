@@ -1,4 +1,4 @@
-use Rattle.run_words.proofs.Taken.{examples_are_taken, examples_are_refused}
+use Rattle.run_words.proofs.Runs.{examples_are_taken, examples_are_refused}
 use Rattle.run_words.proofs.Values.{modes_are_named, numbers_have_ranges}
 use Rattle.run_words.proofs.command.which_words_are_taken.Goals as goal
 

@@ -1,28 +1,32 @@
-use Rattle.std.proofs.Common.{◌≡◌, ◌∙◌, ◌⊎◌, [], Err, ap, ap₂, map, subst, sym}
-use Rattle.std.specs.String.{string_bytes}
-use Rattle.clap.specs.Words.{HasKind, IsAmong, Kinds, app_of, fault_of, found_of, is_simple, is_simple_and_free, kind_of, matches_of, rows_of}
-use Rattle.clap.specs.declared.error.kind.ErrorKind.TheVariants.{OutOfMemory}
-use Rattle.run_words.specs.declared.options.WordsFault.{WordsFault}
+use Rattle.std.proofs.Common.{◌≡◌, ◌∙◌, true, false, ap, subst, Err, codes, sym}
+use Rattle.std.proofs.lemmas.Result.{err_from_is_err_and}
+use Rattle.clap.specs.Words.{App, app_of, found_of, is_simple_and_free, matches_of, rows_of}
+use Rattle.clap.specs.declared.parser.matches.ArgMatches.{ArgMatches}
 use Rattle.run_words.specs.Command.{drive_command}
-use Rattle.run_words.specs.Options.{fault_by, IsReadingOfSteps}
-use Rattle.run_words.proofs.Steps.{command_is_free, command_is_simple, steps_failed_so, steps_read_so, steps_taken_as}
+use Rattle.run_words.specs.Options.{are_taken, IfRefused, number_within, steps_allowed}
+use Rattle.run_words.specs.Ranges.{steps_range}
+use Rattle.run_words.proofs.Runs.{drive_command_is_free}
+use Rattle.run_words.proofs.Taken.{failed_so, read_so}
 use Rattle.run_words.proofs.drive.read_steps.Goals as goal
 
-pub returns-in-Ok : goal.returns-in-Ok
-returns-in-Ok c =
-    let words = c.args.words.now in
-    let is : app_of c.in_ok-command.command ≡ drive_command = c.in_ok-command.ensures in
-    let given : map string_bytes c.as_slice.result.now ≡ words = c.as_slice.ensures in
-    let none : fault_of drive_command words ≡ [] = sym (ap₂ fault_of is given) ∙ c.in-Ok.ensures.kinds (ap is_simple_and_free is ∙ command_is_free) in
-    let rows : rows_of (found_of c.in-Ok.matches) ≡ matches_of drive_command words = (c.in-Ok.ensures.matches (ap is_simple is ∙ command_is_simple)).0 ∙ ap₂ matches_of is given in
-    steps_read_so words c.number_in.result c.ok_or.result (c.number_in.ensures ∙ sym (steps_taken_as words (rows_of (found_of c.in-Ok.matches)) none rows)) c.ok_or.ensures.value
+pub matches_in-requires : goal.matches_in-requires
+matches_in-requires c = ap is_simple_and_free c.in_ok-command.ensures ∙ drive_command_is_free
 
-pub returns-in-Err : goal.returns-in-Err
-returns-in-Err c =
+pub returns-in_err-matches : goal.returns-in_err-matches
+unfolding steps_allowed
+returns-in_err-matches c =
     let words = c.args.words.now in
-    let error = c.in-Err.error in
+    let fault = c.in_err-matches.field-0.0 in
+    let failed = err_from_is_err_and c.from_residual-in_err-matches.result c.from_residual-in_err-matches.ensures.1 in
+    let refused : IfRefused {A = ArgMatches} (Err fault) (are_taken drive_command words ≡ false) =
+    subst (λ (app : App). IfRefused {A = ArgMatches} (Err fault) (are_taken app words ≡ false)) c.in_ok-command.ensures c.in_err-matches.ensures.refused in
+    rw (failed.1, failed.2) (failed_so ArgMatches drive_command (number_within (codes "steps") steps_range) words fault refused)
+
+pub returns : goal.returns
+unfolding steps_allowed
+returns c =
+    let words = c.args.words.now in
     let is : app_of c.in_ok-command.command ≡ drive_command = c.in_ok-command.ensures in
-    let given : map string_bytes c.as_slice.result.now ≡ words = c.as_slice.ensures in
-    let failed : (kind_of error ≡ OutOfMemory) ⊎ IsAmong (kind_of error) (fault_of drive_command words) =
-    subst (λ (k : Kinds). HasKind k error) (ap₂ fault_of is given) (c.in-Err.ensures.kinds (ap is_simple_and_free is ∙ command_is_free)) in
-    subst (λ (f : WordsFault). IsReadingOfSteps words (Err f)) (sym (c.fault_by.ensures ∙ ap fault_by c.kind.ensures)) (steps_failed_so words (kind_of error) failed)
+    let taken : are_taken drive_command words ≡ true = ap (λ app. are_taken app words) (sym is) ∙ c.in_ok-matches.ensures.taken in
+    let rows : rows_of (found_of c.in_ok-matches.matches) ≡ matches_of drive_command words = c.in_ok-matches.ensures.matches ∙ ap (λ app. matches_of app words) is in
+    read_so drive_command (number_within (codes "steps") steps_range) words _ c.number_within.result c.ok_or.result taken rows c.number_within.ensures c.ok_or.ensures.value

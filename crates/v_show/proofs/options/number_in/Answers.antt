@@ -1,9 +1,0 @@
-use Rattle.std.specs.Str.Parse.{ParsesUnsigned, ExplainsUnsignedError, HasUnsignedDigitsIfOk}
-use Rattle.clap.specs.Words.{found_of}
-use Rattle.v_show.proofs.Found.{number_found}
-use Rattle.v_show.proofs.options.number_in.Goals as goal
-
-pub returns : goal.returns
-returns c =
-    number_found _ (λ bs r. ParsesUnsigned 32 10 bs r × ExplainsUnsignedError 10 bs r × HasUnsignedDigitsIfOk bs r) (found_of c.args.matches.now) c.args.name.now c.get_one.result
-    c.get_one.ensures.none c.get_one.ensures.value (λ u x g. g.0)
