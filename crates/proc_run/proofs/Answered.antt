@@ -1,9 +1,9 @@
 -- How a run is answered, and what is due by words and by the bytes of a source.
-use Rattle.std.proofs.Common.{◌≡◌, ℕ, ◌<◌, ◌≤◌, true, List, length, Option, Some, None, Ok, Err, refl, sym, ap, ap₂, ◌∙◌, subst, ◌⊎◌, inl, inr, arith}
-use Rattle.std.specs.Prelude.{IfSome}
-use Rattle.std.specs.Io.KnownBytes.{IsAtEnd}
+use Rattle.std.proofs.Common.{◌≡◌, ℕ, true, List, Option, Some, None, Ok, Err, refl, sym, ap, ap₂, ◌∙◌, subst, ◌⊎◌, inl, inr}
 use Rattle.std.proofs.lemmas.Option.{same_Some}
 use Rattle.std.proofs.KnownBytes.{Keeps-refl}
+use Rattle.due_text.specs.Inputs.{IsTooLong, IsWhole}
+use Rattle.due_text.proofs.Inputs.{not_too_long, same_input}
 use Rattle.flat_state.specs.declared.events.Decl.{Decl}
 use Rattle.flat_state.specs.declared.records.Settled.{Settled}
 use Rattle.flat_state.specs.declared.records.Settled.TheVariants as settled
@@ -31,7 +31,7 @@ use Rattle.proc_run.specs.Running.{IsRun}
 use Rattle.proc_run.specs.declared.text.Account.{Account}
 use Rattle.proc_run.specs.declared.text.Account.TheVariants as accounts
 use Rattle.proc_run.specs.Texts.{text_of}
-use Rattle.proc_run.specs.Outcomes.{most_bytes, IsScenario, HasFault, ComesOut, ComesOutOrNoMemory, ComesOutOfCheck, ComesOutIn, IsLegalAt, IsNoFault, IsRunOf, IsRunAnswer, IsCheckAnswer, IsAnswerIn, IsAnswer, reads_in, ComesFrom, IsDueBy, IsDue, IsToldIn, IsTold, IsFaultlessIn, IsFaultless, reads_source, IsRefusal}
+use Rattle.proc_run.specs.Outcomes.{IsScenario, HasFault, ComesOut, ComesOutOrNoMemory, ComesOutOfCheck, ComesOutIn, IsLegalAt, IsNoFault, IsRunOf, IsRunAnswer, IsCheckAnswer, IsAnswerIn, IsAnswer, reads_in, ComesFrom, IsDueBy, IsDue, IsToldIn, IsTold, IsFaultlessIn, IsFaultless, reads_source, IsRefusal}
 use Rattle.proc_run.specs.Dues.{status_of}
 use Rattle.scenario_gen.specs.Generated.{text as generated}
 
@@ -156,42 +156,32 @@ by_text o bytes left bs (NotLegal at point) k text from answer = (bs, from, answ
 by_text o bytes left bs (BadJournal line) k text from answer = (bs, from, answer)
 
 -- the bytes that were read to the end of the source
-from_source : (mode : Mode) (seed : ℕ) (bytes left : Option (List ℕ)) (bs : List ℕ) → reads_in mode ≡ true → IfSome bytes (λ told. bs ≡ told) → IsAtEnd left → length bs ≤ most_bytes → ComesFrom mode seed bytes left bs
-from_source Run seed bytes left bs reads told at_end few = (told, at_end, few)
-from_source Journal seed bytes left bs reads told at_end few = (told, at_end, few)
-from_source Check seed bytes left bs reads told at_end few = (told, at_end, few)
-from_source Gen seed bytes left bs reads told at_end few = absurd cc
-
-pub from_read : (mode : Mode) (seed : ℕ) (bytes left : Option (List ℕ)) (items bs : List ℕ) → bs ≡ items → reads_in mode ≡ true → IfSome bytes (λ told. items ≡ told) → IsAtEnd left → length items ≤ most_bytes → ComesFrom mode seed bytes left bs
-from_read mode seed bytes left items bs is reads told at_end few =
-    subst (λ (x : List ℕ). ComesFrom mode seed bytes left x) (sym is) (from_source mode seed bytes left items reads told at_end few)
+pub from_source : (mode : Mode) (seed : ℕ) (bytes left : Option (List ℕ)) (bs : List ℕ) → reads_in mode ≡ true → IsWhole bytes left bs → ComesFrom mode seed bytes left bs
+from_source Run seed bytes left bs reads whole = whole
+from_source Journal seed bytes left bs reads whole = whole
+from_source Check seed bytes left bs reads whole = whole
+from_source Gen seed bytes left bs reads whole = absurd cc
 
 -- the text that was made from the seed
 pub from_seed : (mode : Mode) (seed : ℕ) (bytes : Option (List ℕ)) (bs : List ℕ) → mode ≡ Gen → bs ≡ generated seed → ComesFrom mode seed bytes bytes bs
 from_seed mode seed bytes bs is made = subst (λ (m : Mode). ComesFrom m seed bytes bytes bs) (sym is) (Keeps-refl bytes, made)
 
 same_text : (mode : Mode) (seed : ℕ) (bytes left : Option (List ℕ)) (bs told : List ℕ) → IsToldIn mode seed bytes told → ComesFrom mode seed bytes left bs → bs ≡ told
-same_text Run seed bytes left bs told is from = subst (λ (b : Option (List ℕ)). IfSome b (λ t. bs ≡ t)) is.0 from.0
-same_text Journal seed bytes left bs told is from = subst (λ (b : Option (List ℕ)). IfSome b (λ t. bs ≡ t)) is.0 from.0
-same_text Check seed bytes left bs told is from = subst (λ (b : Option (List ℕ)). IfSome b (λ t. bs ≡ t)) is.0 from.0
+same_text Run seed bytes left bs told is from = same_input bytes left bs told is.0 from
+same_text Journal seed bytes left bs told is from = same_input bytes left bs told is.0 from
+same_text Check seed bytes left bs told is from = same_input bytes left bs told is.0 from
 same_text Gen seed bytes left bs told is from = from.1 ∙ sym is
 
 -- a text that is told isn't too long
-not_too_long : (mode : Mode) (seed : ℕ) (bytes : Option (List ℕ)) (told : List ℕ) → IsToldIn mode seed bytes told → reads_in mode ≡ true → IfSome bytes (λ bs. most_bytes < length bs) → ⊥
-not_too_long Run seed bytes told is reads long =
-    let more : most_bytes < length told = subst (λ (b : Option (List ℕ)). IfSome b (λ bs. most_bytes < length bs)) is.0 long in
-    omega (arith, is.1, more)
-not_too_long Journal seed bytes told is reads long =
-    let more : most_bytes < length told = subst (λ (b : Option (List ℕ)). IfSome b (λ bs. most_bytes < length bs)) is.0 long in
-    omega (arith, is.1, more)
-not_too_long Check seed bytes told is reads long =
-    let more : most_bytes < length told = subst (λ (b : Option (List ℕ)). IfSome b (λ bs. most_bytes < length bs)) is.0 long in
-    omega (arith, is.1, more)
-not_too_long Gen seed bytes told is reads long = absurd cc
+never_too_long : (mode : Mode) (seed : ℕ) (bytes left : Option (List ℕ)) (told : List ℕ) → IsToldIn mode seed bytes told → reads_in mode ≡ true → IsTooLong bytes left → ⊥
+never_too_long Run seed bytes left told is reads long = not_too_long bytes left told is.0 is.1 long
+never_too_long Journal seed bytes left told is reads long = not_too_long bytes left told is.0 is.1 long
+never_too_long Check seed bytes left told is reads long = not_too_long bytes left told is.0 is.1 long
+never_too_long Gen seed bytes left told is reads long = absurd cc
 
 -- the input was too long, or it is answered
 due_parts : (o : Options) (bytes left : Option (List ℕ)) (status : RunStatus) (k : Kept) (text : List ℕ) → IsDueBy o bytes left status k text
-    → ((reads_in o.mode ≡ true) × IfSome bytes (λ bs. most_bytes < length bs)) ⊎ ((bs : List ℕ) × ComesFrom o.mode o.seed bytes left bs × IsAnswer o bs status k text)
+    → ((reads_in o.mode ≡ true) × IsTooLong bytes left) ⊎ ((bs : List ℕ) × ComesFrom o.mode o.seed bytes left bs × IsAnswer o bs status k text)
 due_parts o bytes left Done k text due = inr due
 due_parts o bytes left Stalled k text due = inr due
 due_parts o bytes left Spent k text due = inr due
@@ -209,7 +199,7 @@ due_parts o bytes left (BadJournal line) k text due = inr due
 complete_by : (o : Options) (bytes left : Option (List ℕ)) (status : RunStatus) (k : Kept) (text told : List ℕ) → IsTold o bytes told → IsDueBy o bytes left status k text → ComesOutIn o.mode told status
 complete_by o bytes left status k text told is due =
     elim (due_parts o bytes left status k text due) [
-      | inl long ↦ absurd (not_too_long o.mode o.seed bytes told is long.0 long.1)
+      | inl long ↦ absurd (never_too_long o.mode o.seed bytes left told is long.0 long.1)
       | inr h ↦ subst (λ (bs : List ℕ). ComesOutIn o.mode bs status) (same_text o.mode o.seed bytes left h.0 told is h.1) (comes_out o.mode o h.0 status k text h.2)
     ]
 
@@ -217,7 +207,7 @@ legal_by : (o : Options) (bytes left : Option (List ℕ)) (status : RunStatus) (
     → IsLegalAt (settled_of (flat (erase j)) (steps_in j) o.steps) status
 legal_by o bytes left status k text told ds j checks is has due =
     elim (due_parts o bytes left status k text due) [
-      | inl long ↦ absurd (not_too_long o.mode o.seed bytes told is long.0 long.1)
+      | inl long ↦ absurd (never_too_long o.mode o.seed bytes left told is long.0 long.1)
       | inr h ↦
           let answer : IsCheckAnswer o.steps h.0 status k text = subst (λ (m : Mode). IsAnswerIn m o h.0 status k text) checks h.2 in
           let here : HasLegalJournal h.0 ds j = subst (λ (bs : List ℕ). HasLegalJournal bs ds j) (sym (same_text o.mode o.seed bytes left h.0 told is h.1)) has in

@@ -1,15 +1,34 @@
 -- What the plain run claims of its journal: each step and each completion fits, in order.
-use Rattle.std.specs.Prelude.{◌≡◌, ◌<◌, ◌≤◌, Bool, true, false, ◌||◌, List, [], ◌∷◌, None, IsSome}
+use Rattle.std.specs.Prelude.{◌≡◌, ℕ, ◌<◌, ◌≤◌, Bool, true, false, ◌||◌, List, [], ◌∷◌, Option, Some, None, IsSome, replicate}
+use Rattle.cache_ident.specs.declared.names.ThreadNo.{ThreadNo}
 use Rattle.flat_state.specs.declared.events.Decl.TheVariants.{Machine}
-use Rattle.flat_state.specs.declared.events.Event.TheVariants.{Complete}
+use Rattle.flat_state.specs.declared.events.Event.TheVariants.{Step, Complete}
+use Rattle.flat_state.specs.declared.records.NextStep.{NextStep}
 use Rattle.flat_state.specs.State.{FlatState, nothing_declared}
 use Rattle.flat_state.specs.Declaration.{broken_rule}
 use Rattle.flat_state.specs.Events.{after_event, after_events}
+use Rattle.flat_state.specs.NextSteps.{next_step}
 use Rattle.run_journal.specs.declared.entries.Entry.{Entry}
 use Rattle.run_journal.specs.declared.entries.Entry.TheVariants.{Declared, Sealed, Loaded, WrittenBack, Locked, Unlocked, Ran, Ended, Completed}
 use Rattle.run_journal.specs.Entries.{events_of}
 use Rattle.run_journal.specs.Told.{is_seal}
-pub use Rattle.run_journal.specs.Legal.{is_faulty, TakesStep, TakesSteps, after_steps}
+
+-- does the step end its thread because an access doesn't translate? Not where there is no such thread.
+abbrev pub is_faulty : Option NextStep → Bool
+is_faulty None = false
+is_faulty (Some next) = next.faults
+
+-- the next step of the thread fits, and whether it faults
+abbrev pub TakesStep : FlatState → ThreadNo → Bool → Type 0
+TakesStep s thread faulty = IsSome (after_event s (Step thread)) × (is_faulty (next_step s thread.0) ≡ faulty)
+
+-- the machine after so many steps of a thread
+abbrev pub after_steps : FlatState → ThreadNo → ℕ → FlatState
+after_steps s thread n = after_events s (replicate n (Step thread))
+
+-- so many steps of a thread, one after another, each fit, and none faults
+abbrev pub TakesSteps : FlatState → ThreadNo → ℕ → Type 0
+TakesSteps s thread n = (k : ℕ) → k < n → TakesStep (after_steps s thread k) thread false
 
 -- An entry fits the machine as it is, where Sealed came before or not. Declarations come before Sealed and fit, Sealed
 -- comes once, and the others after it: runs of steps that fit and don't fault, single steps that do, and completions that

@@ -1,8 +1,8 @@
 -- What is due to be written, and what each answer of the whole run says.
-use Rattle.std.specs.Prelude.{◌≡◌, ℕ, ◌<◌, ◌≤◌, Bool, true, false, List, ◌++◌, length, codes, Option, Some, None, IfSome, Result, Ok, Err}
-use Rattle.std.specs.Fmt.{decimal}
-use Rattle.std.specs.Io.KnownBytes.{IsAtEnd, Keeps}
-use Rattle.byte_ports.specs.Whole.{TakesMore}
+use Rattle.std.specs.Prelude.{◌≡◌, ℕ, ◌≤◌, Bool, true, false, List, ◌++◌, length, codes, Option, Some, None, Result, Ok, Err}
+use Rattle.std.specs.Io.KnownBytes.{Keeps}
+use Rattle.due_text.specs.Inputs.{IsTooLong, IsWhole, most_bytes}
+use Rattle.due_text.specs.Lines.{scenario_fault_line, too_long_line}
 use Rattle.flat_state.specs.declared.events.Decl.{Decl}
 use Rattle.flat_state.specs.declared.records.Settled.{Settled}
 use Rattle.flat_state.specs.declared.records.Settled.TheVariants as settled
@@ -30,18 +30,8 @@ use Rattle.proc_run.specs.declared.text.Account.{Account}
 use Rattle.proc_run.specs.declared.text.Account.TheVariants as accounts
 use Rattle.proc_run.specs.Texts.{text_of}
 
--- how many bytes an input may have
-abbrev pub most_bytes : ℕ
-most_bytes = 4194304
-
 abbrev pub usage_line : List ℕ
 usage_line = codes "usage: v_run [--mode run|journal|gen|check|page] [--cpus N] [--steps N] [--seed N] [--frames N]\n"
-
-abbrev pub too_long_line : List ℕ
-too_long_line = codes "too long\n"
-
-abbrev pub fault_line : ℕ → ℕ → List ℕ
-fault_line line rule = codes "scenario fault line " ++ (decimal line ++ (codes " rule " ++ (decimal rule ++ codes "\n")))
 
 abbrev pub exit_status : RunStatus → ℕ
 exit_status Done = 0
@@ -84,7 +74,7 @@ abbrev pub IsRunAnswer : Account → ℕ → List ℕ → RunStatus → Kept →
 IsRunAnswer account limit bs Done (kept.Journal j) text = IsRunOf account limit bs settled.Done j.entries text
 IsRunAnswer account limit bs Stalled (kept.Journal j) text = IsRunOf account limit bs settled.Stalled j.entries text
 IsRunAnswer account limit bs Spent (kept.Journal j) text = IsRunOf account limit bs settled.Spent j.entries text
-IsRunAnswer account limit bs (BadScenario line rule) kept.Nothing text = HasFault bs line rule × (text ≡ fault_line line rule)
+IsRunAnswer account limit bs (BadScenario line rule) kept.Nothing text = HasFault bs line rule × (text ≡ scenario_fault_line line rule)
 IsRunAnswer account limit bs status k text = ⊥
 
 -- the part of the input up to its line end is a scenario, and of its declarations and what stands behind it that is so
@@ -96,7 +86,7 @@ abbrev pub IsCheckAnswer : ℕ → List ℕ → RunStatus → Kept → List ℕ 
 IsCheckAnswer limit bs (Checked how) (kept.Journal j) text = IsFoundIn bs (λ ds behind. IsYesOn ds behind limit how j.entries text)
 IsCheckAnswer limit bs (NotLegal at point) (kept.Journal j) text = IsFoundIn bs (λ ds behind. IsNoOn ds behind at point j.entries text)
 IsCheckAnswer limit bs (BadJournal line) kept.Nothing text = IsFoundIn bs (λ ds behind. IsNoJournal behind line text)
-IsCheckAnswer limit bs (BadScenario line rule) kept.Nothing text = HasFault (scenario_part bs) line rule × (text ≡ fault_line line rule)
+IsCheckAnswer limit bs (BadScenario line rule) kept.Nothing text = HasFault (scenario_part bs) line rule × (text ≡ scenario_fault_line line rule)
 IsCheckAnswer limit bs status k text = ⊥
 
 -- they are the answer to an input, by the mode
@@ -123,16 +113,16 @@ reads_source (Some o) = reads_in o.mode
 
 -- where the input comes from: the source, which it empties and had no more bytes than an input may have; or the seed
 abbrev pub ComesFrom : Mode → ℕ → Option (List ℕ) → Option (List ℕ) → List ℕ → Type 0
-ComesFrom Run seed bytes left bs = IfSome bytes (λ told. bs ≡ told) × IsAtEnd left × (length bs ≤ most_bytes)
-ComesFrom Journal seed bytes left bs = IfSome bytes (λ told. bs ≡ told) × IsAtEnd left × (length bs ≤ most_bytes)
-ComesFrom Check seed bytes left bs = IfSome bytes (λ told. bs ≡ told) × IsAtEnd left × (length bs ≤ most_bytes)
+ComesFrom Run seed bytes left bs = IsWhole bytes left bs
+ComesFrom Journal seed bytes left bs = IsWhole bytes left bs
+ComesFrom Check seed bytes left bs = IsWhole bytes left bs
 ComesFrom Gen seed bytes left bs = Keeps bytes left × (bs ≡ generated seed)
 
 -- This text is due by these options with this status, and this is kept, where the source had these bytes and has those
 -- left.
 abbrev pub IsDueBy : Options → Option (List ℕ) → Option (List ℕ) → RunStatus → Kept → List ℕ → Type 0
 IsDueBy o bytes left TooLong kept.Nothing text =
-    (reads_in o.mode ≡ true) × IfSome bytes (λ bs. most_bytes < length bs) × TakesMore bytes left most_bytes × (text ≡ too_long_line)
+    (reads_in o.mode ≡ true) × IsTooLong bytes left × (text ≡ too_long_line)
 IsDueBy o bytes left status k text = (bs : List ℕ) × ComesFrom o.mode o.seed bytes left bs × IsAnswer o bs status k text
 
 -- The same by words. Those that aren't taken are answered with the usage line.

@@ -1,7 +1,6 @@
 //! The whole run.
 
 ghost use Rattle.std.specs.Prelude.{◌≡◌, ◌≢◌, ◌<◌, ◌≤◌, List, ℕ, IfOk, OnOk, Some, None, true, false, length};
-ghost use Rattle.std.specs.String.{string_bytes};
 ghost use Rattle.std.specs.Io.KnownBytes.{Appends, Keeps};
 ghost use Rattle.byte_ports.specs.Faults.{HasRisen};
 ghost use Rattle.byte_ports.specs.Whole.{AppendsFront};
@@ -16,23 +15,22 @@ ghost use Rattle.run_words.specs.declared.options.Options.{Options};
 ghost use Rattle.run_words.specs.Options.{options};
 ghost use Rattle.proc_run.specs.declared.outcome.RunStatus.{RunStatus};
 ghost use Rattle.proc_run.specs.declared.outcome.Kept.TheVariants.{Nothing};
-ghost use Rattle.proc_run.specs.declared.machine.NoText.TheVariants as no_text;
-ghost use Rattle.proc_run.specs.Outcomes.{IsDue, IsDueBy, IsAnswer, IsRunAnswer, IsCheckAnswer, IsScenario, IsTold, IsFaultless, reads_source, OnWritten, OnWriteFault, OnReadFault, OnNothingDue, UnlessReadFault, UnlessWriteFault, ComesOutOrNoMemory, IsLegalAt, IsNoFault, IsRefusal, usage_line, too_long_line, fault_line};
-ghost use Rattle.proc_run.specs.Dues.{OnFailed, UnlessFailed, status_of};
+ghost use Rattle.proc_run.specs.Outcomes.{IsDue, IsDueBy, IsAnswer, IsRunAnswer, IsCheckAnswer, IsScenario, IsTold, IsFaultless, reads_source, OnWritten, OnWriteFault, OnReadFault, OnNothingDue, UnlessReadFault, UnlessWriteFault, ComesOutOrNoMemory, IsLegalAt, IsNoFault, IsRefusal, usage_line};
+ghost use Rattle.due_text.specs.Inputs.{OnFailed, UnlessFailed};
+ghost use Rattle.due_text.specs.Lines.{scenario_fault_line};
+ghost use Rattle.proc_run.specs.Dues.{status_of};
 
 use crate::outcome::{Kept, Outcome, RunStatus};
 use crate::run::{Finished, run};
 use crate::text::{Account, text};
-use byte_ports::{ReadError, Sink, Source, read_to_end, write_all};
+use byte_ports::{Sink, Source, write_all};
 use check_mode::{Checked, answer};
+use due_text::{Input, NoText, read_input, scenario_fault_line, too_long_line};
 use flat_machine::{Decl, NoMemory, Settled};
 use run_words::{Mode, Options, Words, WordsFault};
 use scenario_gen::generate;
 use scenario_reader::{ScenarioFault, read};
 use std::alloc::{AllocError, Global};
-
-/// How many bytes a scenario may have.
-const MOST_BYTES: usize = 4_194_304;
 
 const USAGE: &[u8] =
     b"usage: v_run [--mode run|journal|gen|check|page] [--cpus N] [--steps N] [--seed N] [--frames N]\n";
@@ -43,21 +41,6 @@ struct DueText {
     status: RunStatus,
     kept: Kept,
     text: Vec<u8>,
-}
-
-// Why no text is due.
-#[derive(Clone, Copy)]
-enum NoText {
-    ReadFault,
-    NoMemory,
-}
-
-impl From<AllocError> for NoText {
-    ghost from_gives = { λ _ e. e ≡ no_text.NoMemory };
-
-    fn from(_e: AllocError) -> NoText {
-        NoText::NoMemory
-    }
 }
 
 fn status_of(settled: Settled) -> RunStatus
@@ -86,19 +69,13 @@ fn line(alloc: Global, status: RunStatus, text: &[u8]) -> Result<DueText, AllocE
     })
 }
 
-fn fault_line(alloc: Global, number: u64, rule: u32) -> Result<String, AllocError>
-    ensures { IfOk result (λ line. string_bytes line ≡ fault_line number rule) }
-{
-    format!(in alloc; "scenario fault line {number} rule {rule}\n")
-}
-
 // The first fault of a text that is no scenario.
 fn faulty(alloc: Global, number: u64, rule: u32) -> Result<DueText, AllocError>
     ensures status { IfOk result (λ d. d.status ≡ RunStatus.BadScenario number rule) }
     ensures kept { IfOk result (λ d. d.kept ≡ Nothing) }
-    ensures text { IfOk result (λ d. d.text.items ≡ fault_line number rule) }
+    ensures text { IfOk result (λ d. d.text.items ≡ scenario_fault_line number rule) }
 {
-    let text = fault_line(alloc, number, rule)?;
+    let text = scenario_fault_line(alloc, number, rule)?;
     line(
         alloc,
         RunStatus::BadScenario { line: number, rule },
@@ -209,11 +186,9 @@ fn due_of<S: Source>(alloc: Global, options: &Options, source: &mut S) -> Result
     ensures fault { OnFailed result (HasRisen (S.faults source.old) (S.faults source.new)) }
     ensures faultless { UnlessFailed result (S.faults source.new ≡ S.faults source.old) }
 {
-    match read_to_end(alloc, source, MOST_BYTES) {
-        Ok(bytes) => due_for(alloc, options, &bytes),
-        Err(ReadError::TooLong) => Ok(line(alloc, RunStatus::TooLong, b"too long\n")?),
-        Err(ReadError::Failed) => Err(NoText::ReadFault),
-        Err(ReadError::NoMemory) => Err(NoText::NoMemory),
+    match read_input(alloc, source)? {
+        Input::Whole(bytes) => due_for(alloc, options, &bytes),
+        Input::TooLong => Ok(line(alloc, RunStatus::TooLong, too_long_line())?),
     }
 }
 
