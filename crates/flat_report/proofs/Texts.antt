@@ -1,5 +1,7 @@
 -- Lists of lines, a line more at a time.
-use Rattle.std.proofs.Common.{◌≡◌, ℕ, suc, ◌+◌, ◌<◌, List, ◌++◌, length, get_or, drop, sym, ◌∙◌, append_assoc, add-one, ◌≤◌, Some, None, inl, inr}
+use Rattle.std.proofs.lemmas.List.Sums.{sum_by-cons}
+use Rattle.std.proofs.Common.{arith, ◌≡◌, ℕ, suc, ◌+◌, ◌<◌, List, ◌++◌, length, get_or, drop, sym, ◌∙◌, append_assoc, add-one, ◌≤◌, Some, None, inl, inr}
+use Rattle.std.specs.Prelude.{sum_by}
 use Rattle.std.specs.List.{slice_get}
 use Rattle.std.proofs.lemmas.Option.{slice_get_cases}
 use Rattle.std.specs.List.{flat_map}
@@ -19,6 +21,11 @@ pub threads_more : (out : List ℕ) (threads : List FlatThread) (i : ℕ) (t : F
     → (out ++ line_of_thread t) ++ flat_map line_of_thread (drop (i + 1) threads) ≡ out ++ flat_map line_of_thread (drop i threads)
 threads_more out threads i t lt is =
     simp add-one (rw (drop-cons threads i t lt, is) (append_assoc out (line_of_thread t) (flat_map line_of_thread (drop (suc i) threads))))
+
+-- one output more
+pub outputs_more : (bytes : ℕ) (threads : List FlatThread) (i : ℕ) (t : FlatThread) → i < length threads → get_or threads i t ≡ t
+    → bytes + length t.output + sum_by (λ t. length t.output) (drop (i + 1) threads) ≡ bytes + sum_by (λ t. length t.output) (drop i threads)
+outputs_more bytes threads i t lt is = simp add-one (rw (drop-cons threads i t lt, is, sum_by-cons (λ (t : FlatThread). length t.output) t (drop (suc i) threads)) (omega arith))
 
 some_is_none : {X : Type 0} (x : X) (P : Type 0) → Some x ≡ None → P
 some_is_none x P e = absurd cc

@@ -1,7 +1,10 @@
-//! The report of a machine with unlimited tables.
+//! The report of a machine, whoever keeps its records.
 #![tactic(auto)]
 
+mod counts;
+mod reported;
 mod reporting;
 
-pub use flat_machine::{Flat, NoMemory, Settled};
-pub use reporting::report;
+pub use counts::{RowCounts, RowTally};
+pub use reported::Reported;
+pub use reporting::{output_bytes, report};

@@ -1,69 +1,57 @@
 //! The report of a machine.
 
-ghost use Rattle.std.specs.Prelude.{◌≡◌, ◌<◌, ◌^◌, ◌++◌, OnOk, IfOk, length};
+ghost use Rattle.std.specs.Prelude.{◌≡◌, ◌+◌, ◌++◌, OnOk, IfOk, length, slice_index};
 ghost use Rattle.std.specs.List.{flat_map};
 ghost use Rattle.report_text.specs.Reports.{line_of_thread, lines_of_spaces, report};
-ghost use Rattle.flat_report.specs.Counts.{with_row, AreCounts};
+ghost use Rattle.flat_report.specs.Outputs.{output_bytes};
 
+use crate::reported::Reported;
 use cache_ident::{SpaceNo, ThreadNo};
-use flat_machine::{Flat, NoMemory, Settled};
-use phys_groups::Row;
-use report_text::ReportLines;
-use std::alloc::Global;
+use flat_state::Settled;
+use report_text::{NoMemory, ReportLines};
+use rv32_exec::Context;
+use std::alloc::{AllocError, Global};
 
-// How many rows a space has, and how many of them have each bit.
-#[derive(Clone, Copy, Default)]
-struct RowCounts {
-    rows: u64,
-    referenced: u64,
-    modified: u64,
+/// The register with the number of a call.
+const A7: usize = 17;
+
+// The number of the call that a thread in one makes.
+fn call_in(context: &Context) -> u32
+    ensures { result ≡ slice_index context.now.regs 17 }
+{
+    context.regs[A7]
 }
 
-// Counts a row.
-fn count(counts: &mut RowCounts, row: &Row)
-    requires rows { counts.old.rows < 2 ^ 63 }
-    requires referenced { counts.old.referenced < 2 ^ 63 }
-    requires modified { counts.old.modified < 2 ^ 63 }
-    ensures { counts.new ≡ with_row row.now counts.old }
+fn put_spaces<M: Reported>(
+    lines: &mut ReportLines,
+    alloc: Global,
+    machine: &M,
+) -> Result<(), NoMemory>
+    ensures { OnOk result (lines.new ≡ lines.old ++ lines_of_spaces (M.state machine.now).rows 0 (M.state machine.now).spaces) }
 {
-    counts.rows += 1;
-    counts.referenced += u64::from(row.referenced);
-    counts.modified += u64::from(row.modified);
-}
-
-// What is counted of each space, in one pass over the rows.
-fn row_counts(alloc: Global, flat: &Flat) -> Result<Vec<RowCounts>, NoMemory>
-    ensures { IfOk result (λ counts. AreCounts flat.now.rows (length flat.now.spaces) counts.items) }
-{
-    let mut counts = vec![in alloc; RowCounts::default(); flat.spaces() as usize]?;
-    for row in flat.rows() {
-        if let Some(counts) = counts.get_mut(row.space.0 as usize) {
-            count(counts, row);
-        }
-    }
-    Ok(counts)
-}
-
-fn put_spaces(lines: &mut ReportLines, alloc: Global, flat: &Flat) -> Result<(), NoMemory>
-    ensures { OnOk result (lines.new ≡ lines.old ++ lines_of_spaces flat.now.rows 0 flat.now.spaces) }
-{
-    let counts = row_counts(alloc, flat)?;
-    let spaces = flat.spaces();
+    let tally = machine.tally_rows(alloc)?;
+    let spaces = machine.space_count();
     for no in 0..spaces {
-        let counts = counts[no as usize];
+        let counts = tally.counts_of(SpaceNo(no));
         lines.space(SpaceNo(no), counts.rows, counts.referenced, counts.modified)?;
     }
     Ok(())
 }
 
-fn put_threads(lines: &mut ReportLines, flat: &Flat) -> Result<(), NoMemory>
-    ensures { OnOk result (lines.new ≡ lines.old ++ flat_map line_of_thread flat.now.threads) }
+fn put_thread<M: Reported>(lines: &mut ReportLines, thread: &M::Thread) -> Result<(), NoMemory>
+    ensures { OnOk result (lines.new ≡ lines.old ++ line_of_thread (M.shown thread.now)) }
 {
-    let count = flat.threads();
-    for no in 0..count {
-        if let Some(thread) = flat.thread(ThreadNo(no)) {
-            let call = thread.context.regs[17];
-            lines.thread(thread.no, thread.status, call, thread.output.bytes())?;
+    let call = call_in(M::context_of(thread));
+    lines.thread(M::no_of(thread), M::status_of(thread), call, M::output_of(thread))
+}
+
+fn put_threads<M: Reported>(lines: &mut ReportLines, machine: &M) -> Result<(), NoMemory>
+    ensures { OnOk result (lines.new ≡ lines.old ++ flat_map line_of_thread (M.state machine.now).threads) }
+{
+    let threads = machine.thread_count();
+    for no in 0..threads {
+        if let Some(thread) = machine.thread(ThreadNo(no)) {
+            put_thread::<M>(lines, thread)?;
         }
     }
     Ok(())
@@ -71,11 +59,38 @@ fn put_threads(lines: &mut ReportLines, flat: &Flat) -> Result<(), NoMemory>
 
 /// The report of a machine, whose run is settled so after so many steps. It goes once over the rows and once over
 /// the threads.
-pub fn report(alloc: Global, flat: &Flat, settled: Settled, steps: u64) -> Result<Vec<u8>, NoMemory>
-    ensures { IfOk result (λ text. text.items ≡ report flat.now settled steps) }
+pub fn report<M: Reported>(
+    alloc: Global,
+    machine: &M,
+    settled: Settled,
+    steps: u64,
+) -> Result<Vec<u8>, NoMemory>
+    ensures { IfOk result (λ text. text.items ≡ report (M.state machine.now) settled steps) }
 {
     let mut lines = ReportLines::new(alloc, settled, steps)?;
-    put_spaces(&mut lines, alloc, flat)?;
-    put_threads(&mut lines, flat)?;
+    put_spaces(&mut lines, alloc, machine)?;
+    put_threads(&mut lines, machine)?;
     Ok(lines.into_bytes())
+}
+
+// The bytes so far, and those that a thread put out. No memory holds 2^64 of them.
+fn with_output<M: Reported>(bytes: u64, thread: &M::Thread) -> Result<u64, NoMemory>
+    ensures { IfOk result (λ sum. sum ≡ bytes + length (M.shown thread.now).output) }
+{
+    let own = M::output_of(thread).len() as u64;
+    bytes.checked_add(own).ok_or(AllocError)
+}
+
+/// How many bytes all threads put out together. It goes once over the threads.
+pub fn output_bytes<M: Reported>(machine: &M) -> Result<u64, NoMemory>
+    ensures { IfOk result (λ bytes. bytes ≡ output_bytes (M.state machine.now)) }
+{
+    let mut bytes = 0u64;
+    let count = machine.thread_count();
+    for no in 0..count {
+        if let Some(thread) = machine.thread(ThreadNo(no)) {
+            bytes = with_output::<M>(bytes, thread)?;
+        }
+    }
+    Ok(bytes)
 }

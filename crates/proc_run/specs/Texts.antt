@@ -1,16 +1,13 @@
 -- What is written of a run.
-use Rattle.std.specs.Prelude.{ℕ, List, ◌++◌, length, sum_by}
+use Rattle.std.specs.Prelude.{ℕ, List, ◌++◌, length}
 use Rattle.flat_state.specs.declared.records.Settled.{Settled}
 use Rattle.flat_state.specs.State.{FlatState}
+use Rattle.flat_report.specs.Outputs.{output_bytes}
 use Rattle.run_journal.specs.declared.entries.Entry.{Entry}
 use Rattle.journal_text.specs.Lines.{journal_text}
 use Rattle.report_text.specs.Reports.{report, settled_text, summary_text}
 use Rattle.proc_run.specs.declared.text.Account.{Account}
 use Rattle.proc_run.specs.declared.text.Account.TheVariants.{Report, Journal, Summary}
-
--- how many bytes all threads put out together
-abbrev pub output_bytes : FlatState → ℕ
-output_bytes s = sum_by (λ t. length t.output) s.threads
 
 -- what came of the run of a scenario that was made from a seed
 abbrev pub summary_of : ℕ → FlatState → Settled → ℕ → List ℕ

@@ -4,4 +4,6 @@ use Rattle.flat_report.proofs.reporting.put_spaces.Given as goal
 
 -- the lines so far and those of the rest are all lines
 abbrev pub invariant-loop-no : goal.invariant-loop-no
-invariant-loop-no l = l.lines ++ lines_of_spaces l.flat.rows l.no (drop l.no l.flat.spaces) ≡ l.fn.lines ++ lines_of_spaces l.flat.rows 0 l.flat.spaces
+invariant-loop-no g l =
+    let s = g.M.Records.state l.machine in
+    l.lines ++ lines_of_spaces s.rows l.no (drop l.no s.spaces) ≡ l.fn.lines ++ lines_of_spaces s.rows 0 s.spaces

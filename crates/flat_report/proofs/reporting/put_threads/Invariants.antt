@@ -5,4 +5,4 @@ use Rattle.flat_report.proofs.reporting.put_threads.Given as goal
 
 -- the lines so far and those of the rest are all lines
 abbrev pub invariant-loop-no : goal.invariant-loop-no
-invariant-loop-no l = l.lines ++ flat_map line_of_thread (drop l.no l.flat.threads) ≡ l.fn.lines ++ flat_map line_of_thread l.flat.threads
+invariant-loop-no g l = l.lines ++ flat_map line_of_thread (drop l.no (g.M.Records.state l.machine).threads) ≡ l.fn.lines ++ flat_map line_of_thread (g.M.Records.state l.machine).threads
