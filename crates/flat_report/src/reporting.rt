@@ -42,7 +42,12 @@ fn put_thread<M: Reported>(lines: &mut ReportLines, thread: &M::Thread) -> Resul
     ensures { OnOk result (lines.new ≡ lines.old ++ line_of_thread (M.shown thread.now)) }
 {
     let call = call_in(M::context_of(thread));
-    lines.thread(M::no_of(thread), M::status_of(thread), call, M::output_of(thread))
+    lines.thread(
+        M::no_of(thread),
+        M::status_of(thread),
+        call,
+        M::output_of(thread),
+    )
 }
 
 fn put_threads<M: Reported>(lines: &mut ReportLines, machine: &M) -> Result<(), NoMemory>
