@@ -1,10 +1,9 @@
 -- What owners know of one declaration more.
-use Rattle.std.proofs.Common.{◌≡◌, ◌≢◌, ℕ, Bool, true, false, List, [], ◌∷◌, ◌++◌, Option, Some, None, is_some, slice_get, Contains, refl, ap, sym, ◌∙◌, subst, ◌⊎◌, inl, inr, ◌<◌, ◌+◌, get_or, length, take}
+use Rattle.std.proofs.Common.{◌≡◌, ◌≢◌, ℕ, Bool, true, false, List, [], ◌∷◌, ◌++◌, Option, Some, None, is_some, refl, ap, sym, ◌∙◌, subst, ◌⊎◌, inl, inr, ◌<◌, ◌+◌, get_or, length, take}
 use Rattle.std.specs.Prelude.{IsSome, OnOk, Result, Ok, Err}
 use Rattle.std.specs.Map.{lookup}
 use Rattle.std.specs.Option.{option_flatten, option_map}
 use Rattle.std.specs.List.{cons_option, filter_map}
-use Rattle.std.proofs.lemmas.Bool.{true≢false}
 use Rattle.std.proofs.lemmas.List.{append-nil, take_more}
 use Rattle.std.proofs.lemmas.List.Elements.{filter_map-append, Contains-append_left, Contains-push, Contains-push_cases}
 use Rattle.std.proofs.lemmas.Option.{same_Some}
@@ -16,7 +15,6 @@ use Rattle.cache_ident.specs.declared.names.ThreadNo.{ThreadNo}
 use Rattle.cache_ident.specs.declared.names.Vpn.{Vpn}
 use Rattle.flat_laws.proofs.Members.{contains_nothing}
 use Rattle.flat_state.specs.declared.events.Decl.{Decl}
-use Rattle.flat_state.specs.declared.events.Decl.TheVariants as decls
 use Rattle.owners.specs.Keys.{is_kernel, is_name, is_page, is_thread}
 use Rattle.owners.specs.Known.{home_of, ident_of, knows, receiver_of, space_of, IsMet, IsReceiverLearnt, IsSpaceLearnt, Known}
 use Rattle.owners.specs.Telling.{home_in, kernel_in, name_in, receiver_in, space_in, AreNewOwners, IsAsToldBy, IsToldBy}

@@ -1,7 +1,7 @@
 -- Owners stay owners.
-use Rattle.std.proofs.Common.{◌≡◌, ℕ, Bool, true, false, List, [], ◌∷◌, ◌++◌, append_assoc, Option, Some, None, slice_get, Contains, refl, ap, sym, ◌∙◌, subst, inl, inr}
-use Rattle.std.specs.Prelude.{IfSome, ◌||◌, IsSome}
-use Rattle.std.specs.List.{filter_map, list_any}
+use Rattle.std.proofs.Common.{◌≡◌, true, List, [], ◌∷◌, ◌++◌, append_assoc, Option, Some, None, slice_get, refl, ap, sym, ◌∙◌, subst, inl, inr}
+use Rattle.std.specs.Prelude.{IfSome, IsSome}
+use Rattle.std.specs.List.{list_any}
 use Rattle.std.proofs.lemmas.List.Elements.{Contains-append_left}
 use Rattle.std.proofs.lemmas.Option.{same_Some}
 use Rattle.cache_ident.specs.declared.idents.Ident.{Ident}
@@ -15,14 +15,13 @@ use Rattle.flat_state.specs.State.{FlatState}
 use Rattle.flat_state.specs.Events.{after_events, flat}
 use Rattle.run_journal.specs.declared.entries.Entry.{Entry}
 use Rattle.run_journal.specs.Entries.{erase}
-use Rattle.run_journal.specs.Legal.{AreLegal, IsLegal}
+use Rattle.run_journal.specs.Legal.{IsLegal}
 use Rattle.run_journal.specs.Points.{opening}
 use Rattle.run_journal.specs.Told.{is_seal, nothing_told, told}
 use Rattle.run_journal.proofs.Growth.{legal-split, sealed_from}
 use Rattle.run_journal.proofs.LegalGrowth.{flat-append, state_told}
 use Rattle.owners.specs.Known.{home_of, ident_of, knows, receiver_of, space_of, IsNoted, IsReceiverLearnt, IsSpaceLearnt, Known}
 use Rattle.owners.specs.Keys.{is_name, is_page, is_thread}
-use Rattle.owners.specs.Telling.{name_in, space_in, IsToldBy}
 use Rattle.owners.specs.Owning.{AreOwnersOf, HaveMet, IsThreadOf, WasLoadedAs}
 use Rattle.owners.proofs.Behind.{spaces_stay}
 use Rattle.owners.proofs.KeyLemmas.{cases, name_test, page_test, thread_test}

@@ -1,6 +1,6 @@
 -- What the declarations with which a journal begins tell is so of the machine that it makes.
-use Rattle.std.proofs.Common.{◌≡◌, ℕ, zero, suc, Bool, true, false, not, List, [], ◌∷◌, ◌++◌, length, Option, Some, None, slice_get, Contains, refl, ap, ap₂, sym, ◌∙◌, subst, inl, inr, append_assoc, arith}
-use Rattle.std.specs.Prelude.{◌==◌, nat_le, nat_lt, is_some, ◌||◌, ◌&&◌, ◌%◌, unwrap_or}
+use Rattle.std.proofs.Common.{◌≡◌, ℕ, zero, suc, true, false, not, List, [], ◌∷◌, ◌++◌, length, Option, Some, None, slice_get, refl, ap, sym, ◌∙◌, subst, inl, inr, append_assoc, arith}
+use Rattle.std.specs.Prelude.{◌==◌, nat_le, nat_lt, ◌||◌, unwrap_or}
 use Rattle.std.specs.List.{cons_option, filter_map}
 use Rattle.std.specs.Option.{option_map}
 use Rattle.std.proofs.lemmas.Bool.{eqb-true, not-false}
@@ -16,7 +16,7 @@ use Rattle.flat_state.specs.declared.events.Event.{Event}
 use Rattle.flat_state.specs.declared.events.Event.TheVariants.{Declare}
 use Rattle.flat_state.specs.declared.records.FlatThread.{FlatThread}
 use Rattle.flat_state.specs.State.{FlatState}
-use Rattle.flat_state.specs.Declaration.{agree, broken_rule, declared, has_four, has_frame, has_no_flag, has_receiver, is_receiver_in, new_thread, thread_is_in}
+use Rattle.flat_state.specs.Declaration.{agree, broken_rule, declared, has_frame, has_no_flag, has_receiver, is_receiver_in, new_thread, thread_is_in}
 use Rattle.flat_state.specs.Events.{after_events, applied, declared_unless}
 use Rattle.flat_state.proofs.FormedParts.{breaks_none, other_rule}
 use Rattle.flat_laws.proofs.EventKeeps.{event_keeps}

@@ -1,5 +1,5 @@
 -- When what owners know is so of a journal.
-use Rattle.std.specs.Prelude.{◌≡◌, ℕ, true, List, ◌++◌, Contains, Option, Some, IsSome, slice_get}
+use Rattle.std.specs.Prelude.{◌≡◌, ℕ, true, List, ◌++◌, Contains, Some, IsSome, slice_get}
 use Rattle.std.specs.Option.{option_map}
 use Rattle.cache_ident.specs.declared.idents.Ident.{Ident}
 use Rattle.cache_ident.specs.declared.names.KernelNo.{KernelNo}
