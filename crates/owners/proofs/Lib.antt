@@ -1,0 +1,6 @@
+mod KeyLemmas
+mod Behind
+mod Openings
+mod Learning
+mod Hearing
+mod Opened
