@@ -10,9 +10,8 @@
 # difference between a long list and a shorter one. PROGRAM is a v_drive to count instead of the one that is built, as an older
 # one.
 #
-# The bars: 30,000 for the row, 18,000 for the thread, 20,000 for the displacing row; 3 for the ratios. They aren't met yet: each
-# part looks by name again, which took 48,800, 32,600 and 28,200 when it was last counted, and a grant looks at every row of
-# its group, some 60 milliseconds at 65,536 rows.
+# The bars: 30,000 for the row, 18,000 for the thread, 20,000 for the displacing row; 3 for the ratios. While each look went by
+# name, these took 48,800, 32,600 and 28,200, and a grant at 65,536 rows some 60 milliseconds.
 set -euo pipefail
 script=bench/calls.sh
 top="$(cd "$(dirname "$0")/.." && pwd)"

@@ -1,10 +1,9 @@
 #!/usr/bin/env bash
 # Usage: bench/displacements.sh
-# Times a displacement of a row as the kernel makes it, in a cache for 1,024, 8,192 and 65,536 rows that is full, and in
-# one of the same size with 64 rows: a free slot is asked for, and a victim with a keep list of six, before which sixteen
-# locked rows and the six stand; the victim goes out of its slot, out of the orders by serial, name and frame and out of
-# the pairs of dependence, and another row comes into all of them. It fails where a displacement at 65,536 rows takes more
-# than 3 times one at 1,024.
+# Times a displacement of a row in a cache for 1,024, 8,192 and 65,536 rows that is full, and in one of the same size with
+# 64 rows: a free slot is asked for, and a victim with a keep list of six, before which sixteen locked rows and the six
+# stand; the victim goes out of its slot, out of the orders by serial and name and out of the pairs of dependence, and
+# another row comes into all of them. It fails where a displacement at 65,536 rows takes more than 3 times one at 1,024.
 #
 # In plain sorted vectors (measured on 2026-11-27) a displacement in a full cache, without the pairs, took 4 to 11
 # microseconds with 1,024 rows and 196 to 443 with 65,536, nearly all of it moves of what is behind a place; the pairs cost
@@ -13,7 +12,7 @@
 # Makes a program in a temporary folder, and lets rt prove and build it there.
 set -euo pipefail
 source "$(dirname "$0")/program.sh"
-begin_program displacement_times 'cache_ident phys_groups sorted_list slot_cache mapping_cache depend_lists' anyhow
+begin_program displacement_times 'cache_ident phys_groups sorted_list slot_cache depend_lists' anyhow
 mkdir -p "$program"/proofs/{depend,lock_oldest,lock_oldest_few,displace_often,filled,best_of,measured}
 cat > "$program/src/main.rt" <<'MAIN'
 #![tactic(auto)]
@@ -24,8 +23,8 @@ ghost use Rattle.displacement_times.specs.declared.TheConstants.{CAPS, TURNS};
 
 use cache_ident::{Caps, Frame, Ident, Kind, Name, NoMemory, SpaceNo, Vpn};
 use depend_lists::{Class, Depends, Node};
-use mapping_cache::MappingCache;
 use phys_groups::{Flags, Row};
+use slot_cache::Cache;
 use std::alloc::Global;
 use std::time::Instant;
 
@@ -68,7 +67,7 @@ fn depend(depends: &mut Depends, space: SpaceNo, child: Node)
     }
 }
 
-fn load(cache: &mut MappingCache, depends: &mut Depends, serial: u64, row: Row)
+fn load(cache: &mut Cache<Row>, depends: &mut Depends, serial: u64, row: Row)
     requires serials { IsOlder cache.old serial }
     requires caps { depends.old.caps ≡ CAPS }
     ensures serials { IsOlder cache.new (serial + 1) }
@@ -86,7 +85,7 @@ fn load(cache: &mut MappingCache, depends: &mut Depends, serial: u64, row: Row)
     }
 }
 
-fn unload(cache: &mut MappingCache, depends: &mut Depends, keep: &[Ident], serial: u64)
+fn unload(cache: &mut Cache<Row>, depends: &mut Depends, keep: &[Ident], serial: u64)
     requires serials { IsOlder cache.old serial }
     requires caps { depends.old.caps ≡ CAPS }
     ensures serials { IsOlder cache.new serial }
@@ -99,7 +98,7 @@ fn unload(cache: &mut MappingCache, depends: &mut Depends, keep: &[Ident], seria
 }
 
 // Takes out the victim where no slot is free, or where so many rows are loaded, and loads another row.
-fn displace(cache: &mut MappingCache, depends: &mut Depends, keep: &[Ident], loaded: u32, serial: u64, row: Row)
+fn displace(cache: &mut Cache<Row>, depends: &mut Depends, keep: &[Ident], loaded: u32, serial: u64, row: Row)
     requires serials { IsOlder cache.old serial }
     requires caps { depends.old.caps ≡ CAPS }
     ensures serials { IsOlder cache.new (serial + 1) }
@@ -111,7 +110,7 @@ fn displace(cache: &mut MappingCache, depends: &mut Depends, keep: &[Ident], loa
     load(cache, depends, serial, row);
 }
 
-fn displace_often(cache: &mut MappingCache, depends: &mut Depends, keep: &[Ident], loaded: u32, from: u32)
+fn displace_often(cache: &mut Cache<Row>, depends: &mut Depends, keep: &[Ident], loaded: u32, from: u32)
     requires few { from ≤ 1000000 }
     requires serials { IsOlder cache.old from }
     requires caps { depends.old.caps ≡ CAPS }
@@ -123,7 +122,7 @@ fn displace_often(cache: &mut MappingCache, depends: &mut Depends, keep: &[Ident
     }
 }
 
-fn filled(cache: &mut MappingCache, depends: &mut Depends, loaded: u32)
+fn filled(cache: &mut Cache<Row>, depends: &mut Depends, loaded: u32)
     requires serials { IsOlder cache.old 0 }
     requires caps { depends.old.caps ≡ CAPS }
     ensures serials { IsOlder cache.new loaded }
@@ -135,7 +134,7 @@ fn filled(cache: &mut MappingCache, depends: &mut Depends, loaded: u32)
 }
 
 // Locks the oldest row that isn't locked.
-fn lock_oldest(cache: &mut MappingCache, serial: u64)
+fn lock_oldest(cache: &mut Cache<Row>, serial: u64)
     requires { IsOlder cache.old serial }
     ensures { IsOlder cache.new serial }
 {
@@ -144,7 +143,7 @@ fn lock_oldest(cache: &mut MappingCache, serial: u64)
     }
 }
 
-fn lock_oldest_few(cache: &mut MappingCache, serial: u64)
+fn lock_oldest_few(cache: &mut Cache<Row>, serial: u64)
     requires { IsOlder cache.old serial }
     ensures { IsOlder cache.new serial }
 {
@@ -154,7 +153,7 @@ fn lock_oldest_few(cache: &mut MappingCache, serial: u64)
 }
 
 // The six oldest rows that aren't locked.
-fn oldest(alloc: Global, cache: &MappingCache) -> Result<Vec<Ident>, NoMemory> {
+fn oldest(alloc: Global, cache: &Cache<Row>) -> Result<Vec<Ident>, NoMemory> {
     let mut keep = Vec::with_capacity(alloc, 6)?;
     for _ in 0..6u32 {
         if let Some(ident) = cache.victim(&keep) {
@@ -165,7 +164,7 @@ fn oldest(alloc: Global, cache: &MappingCache) -> Result<Vec<Ident>, NoMemory> {
 }
 
 // The time of one displacement, in nanoseconds: the best of sixteen times of many.
-fn best_of(rt: &impl std::rt::Clock, cache: &mut MappingCache, depends: &mut Depends, keep: &[Ident], loaded: u32) -> anyhow::Result<u128>
+fn best_of(rt: &impl std::rt::Clock, cache: &mut Cache<Row>, depends: &mut Depends, keep: &[Ident], loaded: u32) -> anyhow::Result<u128>
     requires few { loaded ≤ 65536 }
     requires serials { IsOlder cache.old loaded }
     requires caps { depends.old.caps ≡ CAPS }
@@ -182,7 +181,7 @@ fn best_of(rt: &impl std::rt::Clock, cache: &mut MappingCache, depends: &mut Dep
 fn measured(rt: &(impl std::rt::Clock + AllocGlobal), cap: u32, loaded: u32) -> anyhow::Result<u128>
     requires { loaded ≤ 65536 }
 {
-    let mut cache = MappingCache::new(rt.alloc(), cap)?;
+    let mut cache = Cache::new(rt.alloc(), cap)?;
     let mut depends = Depends::new(rt.alloc(), CAPS)?;
     filled(&mut cache, &mut depends, loaded);
     lock_oldest_few(&mut cache, u64::from(loaded));

@@ -1,5 +1,5 @@
 #!/usr/bin/env bash
-# Usage: bench/quanta.sh [PEERS]
+# Usage: bench/quanta.sh [PEERS [LOOP]]
 # Times 20 million steps of a loop over copied pages, and prints millions of steps a second:
 # - steps alone: one long run, whose pages are copied once;
 # - quanta: 256 steps at a time. For each of them the views are filled anew, each touched page is compared with its
@@ -12,15 +12,17 @@
 # The board should reach 0.85 of the peer, and its calls take under 20 %. On 2026-11-29, on a machine that others used as well, the
 # board reached 0.88 to 0.96 of the peer in fifteen runs of seventeen, and 0.71 and 0.83 in two; the calls took 17.5 to 18.6 % in
 # four, with quartiles of 15 and 21. By instructions, which others don't change, they are some 3,500 of the 25,800 of a quantum.
-# PEERS is a folder with a plain interpreter in C and loops that it reads. Where it is given, its loop mix is taken, and
-# the interpreter runs in turn with the program; the ratios are of the best times of each. Else there are no ratios, and
-# the loop is one that adds the words of a page and stores the sum.
+# PEERS is a folder with a plain interpreter in C and loops that it reads. Where it is given, its loop mix is taken, or its loop
+# LOOP, and the interpreter runs in turn with the program; the ratios are of the best times of each. Its loop stride goes over 64
+# pages, five steps on each. Else there are no ratios, and the loop is one that adds the words of a page and stores the sum.
+# The quanta are made for 64 views.
 #
 # Makes a program in a temporary folder, and lets rt prove and build it there.
 set -euo pipefail
 source "$(dirname "$0")/../scripts/usage.sh"
 take_help "$@"
 peers="${1:-}"
+loop="${2:-mix}"
 if [ -n "$peers" ]; then peers="$(cd "$peers" && pwd)"; fi
 source "$(dirname "$0")/program.sh"
 begin_program quantum_times "$(crates_below cache_board)"
@@ -30,7 +32,7 @@ turns=40
 # The scenario of the loop: its rows and its words.
 scenario() {
     if [ -n "$peers" ]; then
-        cat "$peers/loops/mix.scn"
+        cat "$peers/loops/$loop.scn"
         return
     fi
     # x1 = 0x11000; again: x2 = x1, x3 = x1 + 2044; word: x4 = [x2], x5 += x4, [x2] = x5, x2 += 4, to word while
@@ -72,7 +74,7 @@ constants() {
 ghost use Rattle.std.specs.Prelude.{◌≡◌, length, IfOk, IfSome, List};
 ghost use Rattle.cache_ident.specs.declared.idents.Ident.{Ident};
 ghost use Rattle.run_journal.specs.declared.entries.Entry.{Entry};
-ghost use Rattle.board_commits.specs.Tickets.{AreKept, AreOfTicket};
+ghost use Rattle.board_commits.specs.Tickets.{AreAllAsOf, AreOfTicket};
 ghost use Rattle.cache_board.specs.Desks.{AreOfTickets};
 
 use cache_board::{Answer, Board, Desk, Op, Ticket, drive};
@@ -89,13 +91,18 @@ const STEPS: u32 = 20_000_000;
 
 const QUANTUM: u32 = 256;
 
+const VIEWS: usize = 64;
+
+// How often a run may ask for a page, and one time more.
+const TURNS: u32 = 65;
+
 const FRAMES: u32 = 128;
 
 const CAPS: Caps = Caps {
     kernels: 8,
     spaces: 8,
     threads: 16,
-    mappings: 64,
+    mappings: 128,
 };
 
 #[derive(Clone, Copy)]
@@ -155,7 +162,7 @@ impl Frames {
 
     // Takes steps up to a limit, and fills the views that they need.
     fn run(&self, quantum: &mut Quantum, limit: u32) -> bool {
-        for _turn in 0..9 {
+        for _turn in 0..TURNS {
             match quantum.run(limit) {
                 Paused::Limit => return true,
                 Paused::Miss { va, .. } if self.fill(quantum, va / 4_096) => {}
@@ -359,9 +366,9 @@ fn since(rt: &impl std::rt::Clock, start: &Instant) -> io::Result<u128> {
 
 // Takes the thread, for which the quantum begins.
 fn begin(board: &mut Board, quantum: &mut Quantum) -> Option<Ticket>
-    requires { AreKept board.old.journal.entries quantum.old }
+    requires { AreAllAsOf board.old.journal.entries quantum.old }
     ensures views { IfSome result (λ ticket. AreOfTicket board.new.journal.entries ticket.thread quantum.new) }
-    ensures kept { AreKept board.new.journal.entries quantum.new }
+    ensures kept { AreAllAsOf board.new.journal.entries quantum.new }
 {
     let Some(ticket) = board.checkout(0) else {
         return None;
@@ -392,7 +399,7 @@ fn run(board: &Board, ticket: &Ticket, quantum: &mut Quantum)
     requires { AreOfTicket board.now.journal.entries ticket.now.thread quantum.old }
     ensures { AreOfTicket board.now.journal.entries ticket.now.thread quantum.new }
 {
-    for _turn in 0..9 {
+    for _turn in 0..TURNS {
         let Paused::Miss { va, .. } = ahead(quantum) else {
             return;
         };
@@ -453,9 +460,9 @@ fn begin_timed(
     quantum: &mut Quantum,
     laps: &mut Laps,
 ) -> io::Result<Option<Ticket>>
-    requires { AreKept board.old.journal.entries quantum.old }
+    requires { AreAllAsOf board.old.journal.entries quantum.old }
     ensures views { IfOk result (λ taken. IfSome taken (λ ticket. AreOfTicket board.new.journal.entries ticket.thread quantum.new)) }
-    ensures kept { AreKept board.new.journal.entries quantum.new }
+    ensures kept { AreAllAsOf board.new.journal.entries quantum.new }
 {
     let Some(ticket) = board.checkout(0) else {
         return Ok(None);
@@ -497,7 +504,7 @@ fn run_timed(
     requires { AreOfTicket board.now.journal.entries ticket.now.thread quantum.old }
     ensures { AreOfTicket board.now.journal.entries ticket.now.thread quantum.new }
 {
-    for _turn in 0..9 {
+    for _turn in 0..TURNS {
         let Paused::Miss { va, .. } = ahead(quantum) else {
             return laps.add_run(rt);
         };
@@ -509,7 +516,7 @@ fn run_timed(
 // Commits the steps, and answers how many they are.
 fn give(board: &mut Board, ticket: &Ticket, quantum: &Quantum) -> u32
     requires { AreOfTicket board.old.journal.entries ticket.now.thread quantum.now }
-    ensures { AreKept board.new.journal.entries quantum.now }
+    ensures { AreAllAsOf board.new.journal.entries quantum.now }
 {
     match board.commit(ticket, quantum) {
         Ok(steps) => steps,
@@ -519,8 +526,8 @@ fn give(board: &mut Board, ticket: &Ticket, quantum: &Quantum) -> u32
 
 // One quantum by calls of the board. It answers its steps.
 fn quantum_of(board: &mut Board, quantum: &mut Quantum) -> u32
-    requires { AreKept board.old.journal.entries quantum.old }
-    ensures { AreKept board.new.journal.entries quantum.new }
+    requires { AreAllAsOf board.old.journal.entries quantum.old }
+    ensures { AreAllAsOf board.new.journal.entries quantum.new }
 {
     let Some(ticket) = begin(board, quantum) else {
         return 0;
@@ -536,8 +543,8 @@ fn quantum_timed(
     quantum: &mut Quantum,
     laps: &mut Laps,
 ) -> io::Result<()>
-    requires { AreKept board.old.journal.entries quantum.old }
-    ensures { AreKept board.new.journal.entries quantum.new }
+    requires { AreAllAsOf board.old.journal.entries quantum.old }
+    ensures { AreAllAsOf board.new.journal.entries quantum.new }
 {
     let Some(ticket) = begin_timed(rt, board, quantum, laps)? else {
         return Ok(());
@@ -550,8 +557,8 @@ fn quantum_timed(
 
 // So many steps as quanta. It answers how many they were.
 fn all_quanta(board: &mut Board, quantum: &mut Quantum) -> u32
-    requires { AreKept board.old.journal.entries quantum.old }
-    ensures { AreKept board.new.journal.entries quantum.new }
+    requires { AreAllAsOf board.old.journal.entries quantum.old }
+    ensures { AreAllAsOf board.new.journal.entries quantum.new }
 {
     let mut steps = 0u32;
     for _quantum in 0..STEPS / QUANTUM {
@@ -562,7 +569,7 @@ fn all_quanta(board: &mut Board, quantum: &mut Quantum) -> u32
 
 // The same, with the times of their parts.
 fn all_timed(rt: &impl std::rt::Clock, board: &mut Board, quantum: &mut Quantum) -> io::Result<Laps>
-    requires { AreKept board.old.journal.entries quantum.old }
+    requires { AreAllAsOf board.old.journal.entries quantum.old }
 {
     let mut laps = Laps::new(rt)?;
     for _quantum in 0..STEPS / QUANTUM {
@@ -573,9 +580,9 @@ fn all_timed(rt: &impl std::rt::Clock, board: &mut Board, quantum: &mut Quantum)
 
 // A new quantum, beside a board.
 fn new_quantum(board: &Board, alloc: Global) -> Result<Quantum, NoMemory>
-    ensures { IfOk result (AreKept board.now.journal.entries) }
+    ensures { IfOk result (AreAllAsOf board.now.journal.entries) }
 {
-    Quantum::new(alloc)
+    Quantum::new(alloc, VIEWS)
 }
 
 // A new desk, beside a board.
@@ -617,7 +624,7 @@ fn main(rt: HostRuntime) -> io::Result<()> {
     let Ok(mut board) = Frames::new(rt.alloc()) else {
         return Ok(());
     };
-    let Ok(mut quantum) = Quantum::new(rt.alloc()) else {
+    let Ok(mut quantum) = Quantum::new(rt.alloc(), VIEWS) else {
         return Ok(());
     };
     timed(&rt, &mut board, &mut quantum)?;
@@ -643,23 +650,14 @@ PROOF
 }
 invariant_of run turn l 'AreOfTicket l.board.journal.entries l.ticket.thread l.quantum' AreOfTicket
 invariant_of run_timed turn 'g l' 'AreOfTicket l.board.journal.entries l.ticket.thread l.quantum' AreOfTicket
-invariant_of all_quanta quantum l 'AreKept l.board.journal.entries l.quantum' AreKept
-invariant_of all_timed quantum 'g l' 'AreKept l.board.journal.entries l.quantum' AreKept
+invariant_of all_quanta quantum l 'AreAllAsOf l.board.journal.entries l.quantum' AreAllAsOf
+invariant_of all_timed quantum 'g l' 'AreAllAsOf l.board.journal.entries l.quantum' AreAllAsOf
 prove ahead Answers <<'PROOF'
-use Rattle.std.proofs.Common.{◌≡◌, ap, ◌∙◌}
-use Rattle.page_views.specs.Views.{copies_of}
-use Rattle.quantum.specs.Ahead.{Ahead}
-use Rattle.cache_board.proofs.ViewLaws.{all_of, further_copies, further_kept}
+use Rattle.board_commits.proofs.CopyLaws.{all_of}
 use Rattle.quantum_times.proofs.ahead.Goals as goal
 
 pub returns : goal.returns
-returns c = λ j thread of.
-    let old = c.args.quantum.now in
-    let new = c.run.new.self in
-    let ran = c.run.ensures.run in
-    let copies : copies_of new.views ≡ copies_of old.views = ap (λ (a : Ahead). copies_of a.views) ran.took ∙ further_copies ran.count old in
-    let behind : new.kept ≡ old.kept = ap (λ (a : Ahead). a.kept) ran.took ∙ further_kept ran.count old in
-    all_of j thread old new copies behind of
+returns c = λ j thread of. all_of j thread c.args.quantum.now c.run.new.self c.run.ensures.copies of
 PROOF
 prove run Answers <<'PROOF'
 use Rattle.quantum_times.proofs.run.Goals as goal
@@ -676,14 +674,14 @@ PROOF
 prove give Answers <<'PROOF'
 use Rattle.std.proofs.Common.{List, subst, sym}
 use Rattle.run_journal.specs.declared.entries.Entry.{Entry}
-use Rattle.board_commits.specs.Tickets.{AreKept}
+use Rattle.board_commits.specs.Tickets.{AreAllAsOf}
 use Rattle.board_commits.proofs.KeptLaws.{kept_stays}
 use Rattle.quantum_times.proofs.give.Goals as goal
 
 pub returns-in-Ok : goal.returns-in-Ok
 returns-in-Ok c =
     let quantum = c.args.quantum.now in
-    subst (λ (j : List Entry). AreKept j quantum) (sym c.in-Ok.ensures.committed.entries.entries) (kept_stays c.args.board.now.journal.entries _ quantum c.requires.kept)
+    subst (λ (j : List Entry). AreAllAsOf j quantum) (sym c.in-Ok.ensures.committed.entries.entries) (kept_stays c.args.board.now.journal.entries _ quantum c.requires.kept)
 PROOF
 prove new_desk Answers <<'PROOF'
 use Rattle.std.proofs.Common.{List, Result, Ok, Err}
@@ -705,12 +703,13 @@ use Rattle.std.proofs.Common.{◌≡◌, List, Result, Ok, Err, sym, subst}
 use Rattle.std.specs.Prelude.{IfOk}
 use Rattle.run_journal.specs.declared.entries.Entry.{Entry}
 use Rattle.quantum.specs.Ahead.{unbegun, Ahead}
-use Rattle.board_commits.specs.Tickets.{AreKept}
+use Rattle.board_commits.specs.Tickets.{AreAllAsOf}
 use Rattle.board_commits.proofs.KeptLaws.{kept_unbegun}
+use Rattle.quantum_times.specs.declared.TheConstants.{VIEWS}
 use Rattle.quantum_times.proofs.new_quantum.Goals as goal
 
-kept_if : {E : Type 0} (j : List Entry) (r : Result Ahead E) → IfOk r (λ a. a ≡ unbegun) → IfOk r (AreKept j)
-kept_if j (Ok a) new = subst (AreKept j) (sym new) (kept_unbegun j)
+kept_if : {E : Type 0} (j : List Entry) (r : Result Ahead E) → IfOk r (λ a. a ≡ unbegun VIEWS) → IfOk r (AreAllAsOf j)
+kept_if j (Ok a) new = subst (AreAllAsOf j) (sym new) (kept_unbegun j VIEWS)
 kept_if j (Err e) new = tt
 
 pub returns : goal.returns
@@ -724,7 +723,7 @@ for ((turn = 0; turn < turns; turn++)); do
     "$program/out/quantum_times"
     if [ -n "$peers" ]; then
         # It ends with 2, since all steps are taken.
-        "$place/peers/rvi_paged" --time --steps 20000000 < "$peers/loops/mix.scn" 2>&1 > /dev/null |
+        "$place/peers/rvi_paged" --time --steps 20000000 < "$peers/loops/$loop.scn" 2>&1 > /dev/null |
             awk '{ printf "peer %d thousand steps a second (%d steps)\n", $NF / 1000, $2 }' || true
     fi
 done | awk '

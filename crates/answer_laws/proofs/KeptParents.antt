@@ -5,7 +5,7 @@ use Rattle.cache_ident.specs.declared.names.Name.{Name}
 use Rattle.cache_ident.specs.Residents.{Resident, IsNameResident}
 use Rattle.flat_state.specs.Dependence.{directly, further, Depends, DependsFar}
 use Rattle.run_journal.specs.Legal.{AreGood}
-use Rattle.board_core.specs.desc_admits.specs.May.{IsKeptFor}
+use Rattle.board_core.specs.desc_tables.specs.May.{IsKeptFor}
 use Rattle.board_core.specs.desc_stores.specs.Contents.{residents_of, Contents}
 use Rattle.board_core.specs.desc_parents.specs.Seen.{seen}
 use Rattle.board_core.specs.Core.{contents_of, IsSound, Recorded}

@@ -2,7 +2,11 @@
 use Rattle.std.proofs.Common.{◌≡◌, ◌↔◌, ℕ, ◌+◌, ◌*◌, ◌/◌, ◌%◌, ◌<◌, Bool, true, false, not, List, [], ◌∷◌, ◌++◌, filter, length, set, get_or-set_other, Contains, Option, Some, None, is_some, slice_get, cond, refl, sym, ◌∙◌, ap, subst, inl, inr, arith}
 use Rattle.std.specs.Prelude.{◌&&◌, ◌||◌, ◌==◌, nat_le, nat_lt, unwrap_or}
 use Rattle.std.specs.List.{find}
-use Rattle.std.proofs.lemmas.Bool.{and_from, and_parts, and_cases, cases_Bool, cases_eq, eq-eqb, eqb-true, false_from_ne_true, false≢true, leb-false, not-false, not-true, or_cases, or_parts}
+use Rattle.std.specs.Option.{option_map}
+use Rattle.std.proofs.lemmas.Option.{same_Some}
+use Rattle.std.proofs.lemmas.Bool.{and_from, and_parts, and_cases, cases_Bool, cases_eq, cases_lt, eq-eqb, eqb-true, false_from_ne_true, false≢true, leb-false, not-false, not-true, or_cases, or_parts}
+use Rattle.std.proofs.lemmas.List.{get_or-set_same}
+use Rattle.std.proofs.Math.ListN.{get_or-eq_default}
 use Rattle.std.proofs.lemmas.List.Elements.{Contains-push, Contains-push_cases}
 use Rattle.cache_ident.specs.declared.classes.Class.TheVariants as classes
 use Rattle.cache_ident.specs.declared.idents.Ident.{Ident}
@@ -54,7 +58,7 @@ use Rattle.board_core.specs.cached_machine.proofs.CompleteLaws.{row_gone}
 use Rattle.board_core.specs.cached_machine.proofs.GoodLaws.{not_good}
 use Rattle.board_checks.proofs.IdentifierLemmas.{item_resident}
 use Rattle.board_calls.specs.declared.leaving.Grant.{Grant}
-use Rattle.board_calls.specs.Leaving.{after_grant, goes_so, is_absent, lacks_rows, AreBad, GoesFor, GoesForDecl, IsBadAs, IsRowGoing, LacksOne}
+use Rattle.board_calls.specs.Leaving.{after_grant, goes_so, is_absent, is_message, lacks_rows, takes_away, AreBad, GoesFor, GoesForDecl, IsBadAs, IsRowAs, IsRowGoing, LacksOne}
 use Rattle.board_calls.proofs.GoodLaws.{found, no_row, on_signal, row_class, row_depends, row_fits, signals_resident, stays_good, IsGood}
 use Rattle.board_calls.proofs.LoopLaws.{any_of, none_of}
 use Rattle.board_calls.proofs.RowLaws.{absent_is, as_row, present_is, row_as, row_known}
@@ -112,6 +116,87 @@ module _ (s : FlatState) (g : Grant) where
   fit_elsewhere row apart =
       ap (λ (right : Bool × Bool). implies (row.flags.r || row.flags.x) right.0 && implies row.flags.w right.1) (right_over row.space (row.frame.0 / 128) apart)
 
+  -- ---- whether the kernel loses a right
+
+  -- a kernel that isn't there loses none
+  pub nothing_taken : None ≡ option_map (λ (k : FlatKernel). k.rights) (slice_get s.kernels g.kernel.0) → false ≡ takes_away s g
+  nothing_taken none = by (slice_get s.kernels g.kernel.0) none
+    where
+      by : (o : Option FlatKernel) → None ≡ option_map (λ (k : FlatKernel). k.rights) o → false ≡ (let right = right_on (rights_in o) g.group in (right.0 && not g.read) || (right.1 && not g.write))
+      by None is = refl
+      by (Some k) is = absurd (cc)
+
+  -- one that is loses those of its own that it then won't have
+  pub rights_taken : (rights : List (Bool × Bool)) → Some rights ≡ option_map (λ (k : FlatKernel). k.rights) (slice_get s.kernels g.kernel.0) → (((right_on rights g.group).0 && not g.read) || ((right_on rights g.group).1 && not g.write)) ≡ takes_away s g
+  rights_taken rights is = by (slice_get s.kernels g.kernel.0) is
+    where
+      by : (o : Option FlatKernel) → Some rights ≡ option_map (λ (k : FlatKernel). k.rights) o → (((right_on rights g.group).0 && not g.read) || ((right_on rights g.group).1 && not g.write)) ≡ (let right = right_on (rights_in o) g.group in (right.0 && not g.read) || (right.1 && not g.write))
+      by None is = absurd (cc)
+      by (Some k) is = ap (λ (all : List (Bool × Bool)). ((right_on all g.group).0 && not g.read) || ((right_on all g.group).1 && not g.write)) (same_Some rights k.rights is)
+
+  -- ---- where the kernel loses no right
+
+  -- a test that a right makes true stays so
+  right_grows : takes_away s g ≡ false → (n group : ℕ) → ((right_on (rights_in (slice_get s.kernels n)) group).0 ≡ true → (right_on (rights_in (slice_get (after_grant s g).kernels n)) group).0 ≡ true) × ((right_on (rights_in (slice_get s.kernels n)) group).1 ≡ true → (right_on (rights_in (slice_get (after_grant s g).kernels n)) group).1 ≡ true)
+  right_grows keeps n group = elim (cases_eq group g.group) [
+    | inr apart ↦
+        let same = right_elsewhere n group apart in
+        (λ is. ap (λ (right : Bool × Bool). right.0) same ∙ is, λ is. ap (λ (right : Bool × Bool). right.1) same ∙ is)
+    | inl here ↦ by (slice_get s.kernels g.kernel.0) refl here
+  ]
+    where
+      by : (o : Option FlatKernel) → slice_get s.kernels g.kernel.0 ≡ o → group ≡ g.group
+          → ((right_on (rights_in (slice_get s.kernels n)) group).0 ≡ true → (right_on (rights_in (slice_get (with_right s.kernels o g.kernel.0 g.group (g.read, g.write)) n)) group).0 ≡ true) × ((right_on (rights_in (slice_get s.kernels n)) group).1 ≡ true → (right_on (rights_in (slice_get (with_right s.kernels o g.kernel.0 g.group (g.read, g.write)) n)) group).1 ≡ true)
+      by None at here = (λ is. is, λ is. is)
+      by (Some k) at here =
+          let now : FlatKernel = record k { rights = set k.rights g.group (g.read, g.write) } in
+          elim (cases_eq n g.kernel.0) [
+            | inr other ↦
+                let same = ap (λ (o : Option FlatKernel). right_on (rights_in o) group) (get-set_other s.kernels g.kernel.0 n now other) in
+                (λ is. ap (λ (right : Bool × Bool). right.0) same ∙ is, λ is. ap (λ (right : Bool × Bool). right.1) same ∙ is)
+            | inl its ↦
+                let old : right_on (rights_in (slice_get s.kernels n)) group ≡ right_on k.rights g.group = ap (λ (o : Option FlatKernel). right_on (rights_in o) group) (ap (slice_get s.kernels) its ∙ at) ∙ ap (right_on k.rights) here in
+                let lost : ((right_on k.rights g.group).0 && not g.read) || ((right_on k.rights g.group).1 && not g.write) ≡ false = sym (ap (λ (o : Option FlatKernel). let right = right_on (rights_in o) g.group in (right.0 && not g.read) || (right.1 && not g.write)) at) ∙ keeps in
+                let parts = or_parts ((right_on k.rights g.group).0 && not g.read) ((right_on k.rights g.group).1 && not g.write) lost in
+                elim (cases_lt g.group (length k.rights)) [
+                  | inl within ↦
+                      let new : right_on (rights_in (slice_get (set s.kernels g.kernel.0 now) n)) group ≡ (g.read, g.write) =
+                      ap (λ (o : Option FlatKernel). right_on (rights_in o) group) (ap (slice_get (set s.kernels g.kernel.0 now)) its ∙ get-set_same s.kernels g.kernel.0 now k at)
+                      ∙ ap (right_on (set k.rights g.group (g.read, g.write))) here
+                      ∙ get_or-set_same k.rights g.group (g.read, g.write) (false, false) within in (
+                        λ is. ap (λ (right : Bool × Bool). right.0) new ∙ kept (right_on k.rights g.group).0 g.read parts.0 (sym (ap (λ (right : Bool × Bool). right.0) old) ∙ is),
+                        λ is. ap (λ (right : Bool × Bool). right.1) new ∙ kept (right_on k.rights g.group).1 g.write parts.1 (sym (ap (λ (right : Bool × Bool). right.1) old) ∙ is),
+                      )
+                  | inr past ↦
+                      let none : right_on k.rights g.group ≡ (false, false) = get_or-eq_default k.rights (false, false) past in (
+                        λ is. absurd (false≢true (sym (ap (λ (right : Bool × Bool). right.0) (old ∙ none)) ∙ is)),
+                        λ is. absurd (false≢true (sym (ap (λ (right : Bool × Bool). right.1) (old ∙ none)) ∙ is)),
+                      )
+                ]
+          ]
+        where
+          kept : (a b : Bool) → (a && not b) ≡ false → a ≡ true → b ≡ true
+          kept a true lost is = refl
+          kept true false lost is = absurd (false≢true (sym lost))
+          kept false false lost is = absurd (false≢true is)
+
+  -- so what is fit stays fit
+  fit_grows : takes_away s g ≡ false → (row : Row) → is_fit_row s row ≡ true → is_fit_row (after_grant s g) row ≡ true
+  fit_grows keeps row fit = by (slice_get s.spaces row.space.0) fit
+    where
+      more : (a b c : Bool) → (b ≡ true → c ≡ true) → implies a b ≡ true → implies a c ≡ true
+      more true b c grows is = grows is
+      more false b c grows is = refl
+
+      by : (o : Option KernelNo) → is_fit (kernel_rights s.kernels o) row ≡ true → is_fit (kernel_rights (after_grant s g).kernels o) row ≡ true
+      by None is = is
+      by (Some kernel) is =
+          let grows = right_grows keeps kernel.0 (row.frame.0 / 128) in
+          let was = right_on (rights_in (slice_get s.kernels kernel.0)) (row.frame.0 / 128) in
+          let now = right_on (rights_in (slice_get (after_grant s g).kernels kernel.0)) (row.frame.0 / 128) in
+          let parts = and_parts (implies (row.flags.r || row.flags.x) was.0) (implies row.flags.w was.1) is in
+          and_from (implies (row.flags.r || row.flags.x) now.0) (implies row.flags.w now.1) (more (row.flags.r || row.flags.x) was.0 now.0 grows.0 parts.0) (more row.flags.w was.1 now.1 grows.1 parts.1)
+
 same_frame : (a b : Frame) → a.0 ≡ b.0 → a ≡ b
 same_frame a b same = ap (λ (n : ℕ). let f : Frame = record { 0 = n } in f) same
 
@@ -127,6 +212,36 @@ module _ (m : Cached) (one : IsExactlyOne m.held.contents) (good : AreGood (stat
 
   name_good : (r : Resident) → Contains rs r → IsGood s rs r.name
   name_good r there = let its = good r there in record { there = its.there; fit = its.fit; has = its.parents }
+
+  -- a loaded row is fit
+  loaded_fit : (ident : Ident) (row : Row) → item_as c ident ≡ Some (item.Mapping row) → is_fit_row s row ≡ true
+  loaded_fit ident row is =
+      let r = item_resident c ident one (item.Mapping row) is in
+      let here = as_row (Some m.machine) m.memory c one r.0 r.1 row (ap (item_as c) r.2 ∙ is) r.3 in
+      sym (row_fits s row.space row.vpn row here) ∙ subst (λ (n : Name). is_fit_name s n ≡ true) r.3 (good r.0 r.1).fit
+
+  -- where the kernel loses no right, of a frame only message rows go, and only once they lack a signal row
+  module _ (g : Grant) (frame : Frame) (lacks : Bool) (told : lacks ≡ lacks_rows (after_grant s g) rs frame) where
+    pub goes_as_message : takes_away s g ≡ false → (ident : Ident) → IsRowGoing m g frame ident → (lacks ≡ true) × IsRowAs c frame is_message ident
+    goes_as_message keeps ident its = elim (or_cases (lacks_rows (after_grant s g) rs frame && its.row.flags.m) (not (is_fit_row (after_grant s g) its.row)) its.passing) [
+      | inr unfit ↦ absurd (false≢true (sym (not-true (is_fit_row (after_grant s g) its.row) unfit) ∙ fit_grows s g keeps its.row (loaded_fit ident its.row its.loaded)))
+      | inl both ↦
+          let parts = and_parts (lacks_rows (after_grant s g) rs frame) its.row.flags.m both in
+          (told ∙ parts.0, record { row = its.row; loaded = its.loaded; on = its.on; passing = parts.1 })
+    ]
+
+    pub message_goes : lacks ≡ true → (ident : Ident) → IsRowAs c frame is_message ident → IsRowGoing m g frame ident
+    message_goes is ident its = record {
+      row = its.row;
+      loaded = its.loaded;
+      on = its.on;
+      passing = by (lacks_rows (after_grant s g) rs frame) its.row.flags.m (sym told ∙ is) its.passing;
+    }
+      where
+        by : (a b : Bool) → a ≡ true → b ≡ true → ((a && b) || not (is_fit_row (after_grant s g) its.row)) ≡ true
+        by true true first second = refl
+        by true false first second = absurd (false≢true second)
+        by false b first second = absurd (false≢true first)
 
   -- ---- what stays good
 

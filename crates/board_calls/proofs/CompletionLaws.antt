@@ -35,7 +35,7 @@ use Rattle.board_core.specs.desc_groups.specs.Whole.{IsWhole}
 use Rattle.board_core.specs.desc_parents.specs.Seen.{seen}
 use Rattle.board_core.specs.cached_machine.specs.Cached.{state_of}
 use Rattle.board_core.specs.Core.{contents_of, Recorded}
-use Rattle.board_core.specs.Growth.{count_loaded, GrowsBy, KeepsPlaces, OnlyMakesRoom}
+use Rattle.board_core.specs.Growth.{count_loaded, GrowsBy, KeepsPlaces, IsRoomMade}
 use Rattle.board_core.proofs.GrowthLaws.{grows_more, same_marks_more}
 use Rattle.board_core.proofs.RoomLaws.{rooms_more, same_seen}
 use Rattle.board_checks.proofs.IdentifierLemmas.{item_resident}
@@ -75,7 +75,7 @@ no_thread s which message = let clash : classes.Thread ≡ classes.MessageRow = 
 
 -- ---- what left
 
-module _ (cpu : ℕ) (a b d : Recorded) (idents : List Ident) (whole : IsWhole (contents_of a)) (made : OnlyMakesRoom a b) (left : HaveLeft cpu idents b d) where
+module _ (cpu : ℕ) (a b d : Recorded) (idents : List Ident) (whole : IsWhole (contents_of a)) (made : IsRoomMade a b) (left : HaveLeft cpu idents b d) where
   abbrev c : Contents
   c = contents_of a
 
@@ -161,8 +161,8 @@ module _ (cpu : ℕ) (a b d : Recorded) (idents : List Ident) (whole : IsWhole (
 -- ---- refusals
 
 -- where the completion itself is refused nothing has left
-pub nothing_left : (a b d e : Recorded) (idents : List Ident) → OnlyMakesRoom a b → (idents ≡ [] → d ≡ b) → OnlyMakesRoom d e → (idents ≢ [] → ⊥) → OnlyMakesRoom a e
-nothing_left a b d e [] made same more never = rooms_more a b e made (subst (λ (x : Recorded). OnlyMakesRoom x e) (same refl) more)
+pub nothing_left : (a b d e : Recorded) (idents : List Ident) → IsRoomMade a b → (idents ≡ [] → d ≡ b) → IsRoomMade d e → (idents ≢ [] → ⊥) → IsRoomMade a e
+nothing_left a b d e [] made same more never = rooms_more a b e made (subst (λ (x : Recorded). IsRoomMade x e) (same refl) more)
 nothing_left a b d e (ident ∷ idents) made same more never = absurd (never (λ empty. cc))
 
 -- since what asks for nothing leaves nothing

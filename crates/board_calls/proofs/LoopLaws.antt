@@ -10,10 +10,9 @@ use Rattle.std.proofs.lemmas.List.Elements.{Contains-append_left, Contains-push,
 use Rattle.cache_ident.specs.declared.idents.Ident.{Ident}
 use Rattle.flat_laws.proofs.Members.{Contains-behind, Contains-cases, Contains-here, contains_nothing}
 use Rattle.cache_ident.specs.declared.names.Frame.{Frame}
-use Rattle.board_core.specs.desc_stores.specs.Contents.{residents_of}
-use Rattle.board_core.specs.cached_machine.specs.Cached.{state_of, Cached}
+use Rattle.board_core.specs.cached_machine.specs.Cached.{Cached}
 use Rattle.board_calls.specs.declared.leaving.Grant.{Grant}
-use Rattle.board_calls.specs.Leaving.{after_grant, goes_so, lacks_rows, AddsThose, IsRowAs, IsRowGoing, IsRowInGroup}
+use Rattle.board_calls.specs.Leaving.{AddsThose, IsOf, IsRowGoing, IsRowInGroup}
 
 -- ---- a loop over an iterator of a list
 
@@ -80,16 +79,13 @@ adds_more P Q R old mid new both first second i = (
 
 -- those of a list that pass a test
 module _ (test : Ident → Bool) where
-  abbrev pub IsOf : List Ident → Ident → Type 0
-  IsOf gone i = Contains gone i × (test i ≡ true)
-
-  pub passing_first : (old : List Ident) → AddsThose (IsOf []) old old
-  passing_first old = adds_nothing (IsOf []) old (λ i its. contains_nothing i its.0)
+  pub passing_first : (old : List Ident) → AddsThose (IsOf test []) old old
+  passing_first old = adds_nothing (IsOf test []) old (λ i its. contains_nothing i its.0)
 
   -- with one more that passes
-  pub passing_one : (gone old mid : List Ident) (x : Ident) → test x ≡ true → AddsThose (IsOf gone) old mid → AddsThose (IsOf (gone ++ x ∷ [])) old (mid ++ x ∷ [])
+  pub passing_one : (gone old mid : List Ident) (x : Ident) → test x ≡ true → AddsThose (IsOf test gone) old mid → AddsThose (IsOf test (gone ++ x ∷ [])) old (mid ++ x ∷ [])
   passing_one gone old mid x is before =
-      adds_more (IsOf gone) (λ i. x ≡ i) (IsOf (gone ++ x ∷ [])) old mid (mid ++ x ∷ [])
+      adds_more (IsOf test gone) (λ i. x ≡ i) (IsOf test (gone ++ x ∷ [])) old mid (mid ++ x ∷ [])
       (λ i. (
         λ its. elim (Contains-push_cases gone x i its.0) [
           | inl earlier ↦ inl (earlier, its.1)
@@ -97,15 +93,15 @@ module _ (test : Ident → Bool) where
         ],
         λ which. elim which [
           | inl its ↦ (Contains-append_left gone (x ∷ []) i its.0, its.1)
-          | inr same ↦ subst (λ (j : Ident). IsOf (gone ++ x ∷ []) j) same (Contains-push gone x, is)
+          | inr same ↦ subst (λ (j : Ident). IsOf test (gone ++ x ∷ []) j) same (Contains-push gone x, is)
         ],
       ))
       before (adds_one (λ i. x ≡ i) mid x refl (λ i same. same))
 
   -- with one more that doesn't
-  pub passing_past : (gone old mid : List Ident) (x : Ident) → test x ≡ false → AddsThose (IsOf gone) old mid → AddsThose (IsOf (gone ++ x ∷ [])) old mid
+  pub passing_past : (gone old mid : List Ident) (x : Ident) → test x ≡ false → AddsThose (IsOf test gone) old mid → AddsThose (IsOf test (gone ++ x ∷ [])) old mid
   passing_past gone old mid x past =
-      adds_as (IsOf gone) (IsOf (gone ++ x ∷ [])) old mid
+      adds_as (IsOf test gone) (IsOf test (gone ++ x ∷ [])) old mid
       (λ i. (
         λ its. (Contains-append_left gone (x ∷ []) i its.0, its.1),
         λ its. elim (Contains-push_cases gone x i its.0) [
@@ -157,9 +153,8 @@ module _ (m : Cached) (g : Grant) where
   pub group_first : (old : List Ident) → AddsThose (IsRowInGroup m g 0) old old
   group_first old = adds_nothing (IsRowInGroup m g 0) old (λ i its. let low = its.1 in omega arith)
 
-  pub group_more : (n : ℕ) (lacks : Bool) (old mid new : List Ident) → lacks ≡ lacks_rows (after_grant (state_of m) g) (residents_of m.held.contents) (frame_at n) → AddsThose (IsRowInGroup m g n) old mid → AddsThose (IsRowAs m.held.contents (frame_at n) (goes_so (after_grant (state_of m) g) lacks)) mid new → AddsThose (IsRowInGroup m g (n + 1)) old new
-  group_more n lacks old mid new is before one =
-      let there = subst (λ (b : Bool). AddsThose (IsRowAs m.held.contents (frame_at n) (goes_so (after_grant (state_of m) g) b)) mid new) is one in
+  pub group_more : (n : ℕ) (old mid new : List Ident) → AddsThose (IsRowInGroup m g n) old mid → AddsThose (IsRowGoing m g (frame_at n)) mid new → AddsThose (IsRowInGroup m g (n + 1)) old new
+  group_more n old mid new before one =
       adds_more (IsRowInGroup m g n) (IsRowGoing m g (frame_at n)) (IsRowInGroup m g (n + 1)) old mid new
       (λ i. (
         λ its. elim (cases_eq its.0 n) [
@@ -171,4 +166,4 @@ module _ (m : Cached) (g : Grant) where
           | inr its ↦ (n, omega arith, its)
         ],
       ))
-      before there
+      before one

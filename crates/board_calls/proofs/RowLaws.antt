@@ -1,7 +1,7 @@
 -- The rows that are loaded, and what is read of them.
-use Rattle.std.proofs.Common.{◌≡◌, ◌↔◌, ℕ, ◌<◌, Bool, true, false, not, List, filter, get_or, length, Contains, Option, Some, None, IfSome, IfNone, is_some, refl, sym, ◌∙◌, ap, subst, arith}
+use Rattle.std.proofs.Common.{◌≡◌, ◌↔◌, ℕ, ◌<◌, Bool, true, false, not, List, filter, get_or, length, Contains, Option, Some, None, IfSome, IfNone, is_some, refl, sym, ◌∙◌, ap, subst, ◌⊎◌, inl, inr, arith}
 use Rattle.std.specs.Prelude.{is_none}
-use Rattle.std.proofs.lemmas.Bool.{false≢true, true≢false}
+use Rattle.std.proofs.lemmas.Bool.{cases_Bool, false≢true, true≢false}
 use Rattle.std.proofs.lemmas.List.{map-id}
 use Rattle.std.proofs.lemmas.List.Elements.{Contains-get_or}
 use Rattle.std.proofs.lemmas.Option.{same_Some}
@@ -36,8 +36,7 @@ use Rattle.board_core.specs.desc_parents.specs.Seen.{seen}
 use Rattle.board_core.specs.desc_parents.proofs.IdentLemmas.{ident_back, ident_found, ident_none}
 use Rattle.board_core.specs.cached_machine.proofs.GoodLaws.{good_before}
 use Rattle.board_checks.proofs.IdentifierLemmas.{item_resident}
-use Rattle.board_calls.specs.Leaving.{is_absent, passes, IsRowAs}
-use Rattle.board_calls.proofs.LoopLaws.{IsOf}
+use Rattle.board_calls.specs.Leaving.{is_absent, is_message, passes, IsOf, IsRowAs}
 
 -- a machine is the same as the one of which dependence is read, but for its memory
 pub seen_same : (machine : Option Machine) (memory : List ℕ) (c : Contents) → IsSameBut (shown machine memory c) (seen c)
@@ -116,19 +115,49 @@ module _ (c : Contents) (one : IsExactlyOne c) (row : Row) where
       told false is = refl
 
 -- the rows of a frame that pass a test are those of its list of rows that do
-module _ (c : Contents) (one : IsExactlyOne c) (frame : Frame) (test : Row → Bool) (items : List Ident) (rows : (i : Ident) → Contains items i ↔ IsResidentOn c frame i) where
-  pub on_frame : (i : Ident) → IsOf (λ (j : Ident). passes test (item_as c j)) items i ↔ IsRowAs c frame test i
-  on_frame i = (
-    λ its.
-        let on = (rows i).0 its.0 in
-        let is = ap (item_as c) (sym on.own) ∙ resident_item c one on.resident on.there ∙ on.content in
-        record { row = on.row; loaded = is; on = on.on; passing = sym (ap (passes test) is) ∙ its.1 },
-    λ its.
-        let r = item_resident c i one (item.Mapping its.row) its.loaded in
-        let content = sym (resident_item c one r.0 r.1) ∙ ap (item_as c) r.2 ∙ its.loaded in
-        let on : IsResidentOn c frame i = record { resident = r.0; there = r.1; own = r.2; row = its.row; content = content; on = its.on } in
-        ((rows i).1 on, ap (passes test) its.loaded ∙ its.passing),
-  )
+module _ (c : Contents) (one : IsExactlyOne c) (frame : Frame) (message : Bool) where
+  resident_row : (i : Ident) → IsResidentOn c frame message i → (row : Row) × (item_as c i ≡ Some (item.Mapping row)) × (row.frame ≡ frame) × (row.flags.m ≡ message)
+  resident_row i on = (on.row, ap (item_as c) (sym on.own) ∙ resident_item c one on.resident on.there ∙ on.content, on.on, on.flag)
+
+  row_resident : (i : Ident) (row : Row) → item_as c i ≡ Some (item.Mapping row) → row.frame ≡ frame → row.flags.m ≡ message → IsResidentOn c frame message i
+  row_resident i row loaded on flag =
+      let r = item_resident c i one (item.Mapping row) loaded in
+      let content = sym (resident_item c one r.0 r.1) ∙ ap (item_as c) r.2 ∙ loaded in
+      record { resident = r.0; there = r.1; own = r.2; row = row; content = content; on = on; flag = flag }
+
+  -- of a list of such rows those that pass a test
+  module _ (test : Row → Bool) (items : List Ident) (rows : (i : Ident) → Contains items i ↔ IsResidentOn c frame message i) where
+    abbrev pub passing : Ident → Bool
+    passing i = passes test (item_as c i)
+
+    listed_row : (i : Ident) → IsOf passing items i → IsRowAs c frame test i
+    listed_row i its =
+        let r = resident_row i ((rows i).0 its.0) in
+        record { row = r.0; loaded = r.1; on = r.2; passing = sym (ap (passes test) r.1) ∙ its.1 }
+
+    row_listed : (i : Ident) (its : IsRowAs c frame test i) → its.row.flags.m ≡ message → IsOf passing items i
+    row_listed i its flag = ((rows i).1 (row_resident i its.row its.loaded its.on flag), ap (passes test) its.loaded ∙ its.passing)
+
+-- the message rows of a frame are those that are listed
+pub messages_listed : (c : Contents) → IsExactlyOne c → (frame : Frame) (items : List Ident) → ((i : Ident) → Contains items i ↔ IsResidentOn c frame true i) → (i : Ident) → IsOf (λ j. true) items i ↔ IsRowAs c frame is_message i
+messages_listed c one frame items rows i = (
+  λ its. let r = resident_row c one frame true i ((rows i).0 its.0) in record { row = r.0; loaded = r.1; on = r.2; passing = r.3 },
+  λ its. ((rows i).1 (row_resident c one frame true i its.row its.loaded its.on its.passing), refl),
+)
+
+-- and a row of a frame is among these or among the others
+pub both_listed : (c : Contents) → IsExactlyOne c → (frame : Frame) (test : Row → Bool) (messages others : List Ident) → ((i : Ident) → Contains messages i ↔ IsResidentOn c frame true i) → ((i : Ident) → Contains others i ↔ IsResidentOn c frame false i)
+    → (i : Ident) → IsRowAs c frame test i ↔ (IsOf (λ j. passes test (item_as c j)) messages i ⊎ IsOf (λ j. passes test (item_as c j)) others i)
+both_listed c one frame test messages others first second i = (
+  λ its. elim (cases_Bool its.row.flags.m) [
+    | inl message ↦ inl (row_listed c one frame true test messages first i its message)
+    | inr other ↦ inr (row_listed c one frame false test others second i its other)
+  ],
+  λ which. elim which [
+    | inl its ↦ listed_row c one frame true test messages first i its
+    | inr its ↦ listed_row c one frame false test others second i its
+  ],
+)
 
 -- a row that there is is of a space that there is, and of a frame that a memory can have
 pub row_known : (s : FlatState) → IsWellFormed s → (row : Row) → Contains s.rows row → (row.space.0 < length s.spaces) × (row.frame.0 < 2048)

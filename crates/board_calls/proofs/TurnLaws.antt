@@ -23,7 +23,7 @@ use Rattle.board_core.specs.cached_machine.specs.Cached.{is_loaded, state_of}
 use Rattle.board_core.specs.cached_machine.specs.Posts.{mark_of, HasLoadedMarks, OnlyLoadedAreOut}
 use Rattle.board_core.specs.cached_machine.proofs.LoadedLaws.{was_loaded, ComesFrom}
 use Rattle.board_core.specs.Core.{contents_of, Recorded}
-use Rattle.board_core.specs.Growth.{GrowsBy, OnlyMakesRoom}
+use Rattle.board_core.specs.Growth.{GrowsBy, IsRoomMade}
 use Rattle.board_core.proofs.GrowthLaws.{erase_back, grows_more, loaded_itself}
 use Rattle.board_core.proofs.RoomLaws.{grows_before, loaded_marks_before, same_checkouts, same_count, same_sealed, same_seen}
 use Rattle.board_core.proofs.UnkeptLaws.{group_counts}
@@ -161,7 +161,7 @@ one_more_left cpu xs y a b c before one =
 
 -- ---- departures behind room that was made
 
-pub departures_since : (cpu : ℕ) (idents : List Ident) (a b c : Recorded) → OnlyMakesRoom a b → (left : HaveLeft cpu idents b c) → AreDepartures left.entries a c
+pub departures_since : (cpu : ℕ) (idents : List Ident) (a b c : Recorded) → IsRoomMade a b → (left : HaveLeft cpu idents b c) → AreDepartures left.entries a c
 departures_since cpu idents a b c made left =
     let are = left.are in
     record {

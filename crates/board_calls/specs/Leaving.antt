@@ -10,7 +10,7 @@ use Rattle.cache_ident.specs.declared.names.Name.TheVariants as name
 use Rattle.cache_ident.specs.Residents.{Resident, IsNameResident, IsResident}
 use Rattle.phys_groups.specs.declared.rows.Row.{Row}
 use Rattle.phys_groups.specs.Rows.{row_name}
-use Rattle.phys_groups.specs.Translation.{covers}
+use Rattle.phys_groups.specs.Translation.{covers, right_on}
 use Rattle.signal_pages.specs.Signals.{is_signal_row_of}
 use Rattle.flat_state.specs.declared.events.Decl.{Decl}
 use Rattle.flat_state.specs.declared.events.Decl.TheVariants as decls
@@ -18,7 +18,7 @@ use Rattle.flat_state.specs.Declaration.{with_right}
 use Rattle.flat_state.specs.Dependence.{Depends}
 use Rattle.flat_state.specs.Names.{class_of, is_fit_name, stands}
 use Rattle.flat_state.specs.State.{FlatState}
-use Rattle.flat_state.specs.Translation.{is_fit_row, rights_of}
+use Rattle.flat_state.specs.Translation.{is_fit_row, rights_in, rights_of}
 use Rattle.board_core.specs.flat_events.specs.declared.asked.Asked.{Asked}
 use Rattle.board_core.specs.flat_events.specs.declared.asked.Asked.TheVariants.{Nothing, Refused, Declares, Unmaps}
 use Rattle.run_journal.specs.Legal.{StaysGood}
@@ -66,6 +66,10 @@ abbrev pub passes : (Row → Bool) → Option Item → Bool
 passes test (Some (item.Mapping row)) = test row
 passes test _ = false
 
+-- the identifier is one of a list and passes a test
+abbrev pub IsOf : (Ident → Bool) → List Ident → Ident → Type 0
+IsOf test all ident = Contains all ident × (test ident ≡ true)
+
 -- what is loaded with the identifier is a row of the frame that passes the test
 pub record IsRowAs (c : Contents) (frame : Frame) (test : Row → Bool) (ident : Ident) : Type 0 where
   pub row : Row
@@ -83,6 +87,12 @@ is_absent rs row = is_none (ident_of rs (row_name row))
 -- the state with those rights
 abbrev pub after_grant : FlatState → Grant → FlatState
 after_grant s g = record s { kernels = with_right s.kernels (slice_get s.kernels g.kernel.0) g.kernel.0 g.group (g.read, g.write) }
+
+-- the kernel has a right on the group that it then won't have
+abbrev pub takes_away : FlatState → Grant → Bool
+takes_away s g =
+    let right = right_on (rights_in (slice_get s.kernels g.kernel.0)) g.group in
+    (right.0 && not g.read) || (right.1 && not g.write)
 
 -- some signal row of the frame is fit and isn't loaded
 abbrev pub lacks_rows : FlatState → List Resident → Frame → Bool

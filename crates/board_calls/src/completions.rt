@@ -30,7 +30,9 @@ use std::alloc::Global;
 /// thread (the same), then where the thread is of another kernel (`NotOwner`), is in no call (`NotTrapped`) or waits for a
 /// signal (`WaitEmpty`). All memory is taken before the first descriptor leaves.
 ///
-/// It looks at the loaded rows of the frame that a row is asked for, or of the group that rights are asked on.
+/// Where a signal row is asked for it looks at the loaded message rows of its frame. Where rights are asked for it looks at the
+/// signal rows of the group and at the message rows that leave; only where the kernel loses a right, at each loaded row of the
+/// group.
 pub fn complete(
     core: &mut Core,
     alloc: Global,
@@ -100,7 +102,7 @@ fn unload_loaded(core: &mut Core, cpu: u32, ident: Ident)
     }
 }
 
-// Does nothing. Whoever asks the machine for its room learns what holds of its tables; it is asked here for that alone.
+// Does nothing. A proof has from it what holds of every core and of its tables.
 fn known(core: &Core)
     ensures whole { IsWhole (contents_of core.now) }
     ensures formed { IsWellFormed (state_of core.now.machine) }
@@ -110,5 +112,5 @@ fn known(core: &Core)
 {
     core.holds();
     core.machine().holds();
-    let _ = core.machine().room();
+    core.machine().tables_are_sound();
 }

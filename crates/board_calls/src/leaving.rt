@@ -18,7 +18,7 @@ ghost use Rattle.run_journal.specs.Legal.{AreGood};
 ghost use Rattle.board_core.specs.desc_stores.specs.Contents.{item_as, residents_of};
 ghost use Rattle.board_core.specs.desc_stores.specs.Sound.{IsExactlyOne};
 ghost use Rattle.board_core.specs.cached_machine.specs.Cached.{state_of};
-ghost use Rattle.board_calls.specs.Leaving.{after_grant, goes_so, is_absent as is_absent_def, is_message as is_message_def, lacks_rows as lacks_rows_def, passes, AddsThose, AreBad, GoesFor, GoesForDecl, IsRowAs, IsRowInGroup};
+ghost use Rattle.board_calls.specs.Leaving.{after_grant, goes_so, is_absent as is_absent_def, is_message as is_message_def, lacks_rows as lacks_rows_def, passes, takes_away, AddsThose, AreBad, GoesFor, GoesForDecl, IsOf, IsRowAs, IsRowGoing, IsRowInGroup};
 
 use board_core::events::{Asked, asks};
 use board_core::{CachedMachine, ItemRef};
@@ -26,12 +26,14 @@ use cache_ident::{Frame, Ident, KernelNo, Name, NoMemory, SpaceNo, ThreadNo, Vpn
 use flat_rules::{Records, rights_of};
 use flat_state::Decl;
 use phys_groups::{Flags, Rights, Row};
+use row_store::RowsOf;
+use sorted_list::Run;
 use std::alloc::Global;
 
 const GROUP_FRAMES: u32 = 128;
 
-/// The loaded rows that leave for what the call of a thread asks for, by serial. It takes memory for them, and looks at the
-/// loaded rows of the frame that a row is asked for, or of the group that rights are asked on.
+/// The loaded rows that leave for what the call of a thread asks for, by serial. It takes memory for them, and looks at no rows
+/// but those that `complete` tells.
 pub(crate) fn leaving(
     alloc: Global,
     machine: &CachedMachine,
@@ -51,14 +53,14 @@ pub(crate) fn leaving(
     Ok(idents)
 }
 
-// Does nothing. Whoever asks the machine for its room learns what holds of its tables; it is asked here for that alone.
+// Does nothing. A proof has from it what holds of every machine and of its tables.
 fn known(machine: &CachedMachine)
     ensures one { IsExactlyOne machine.now.held.contents }
     ensures good { AreGood (state_of machine.now) (residents_of machine.now.held.contents) }
     ensures formed { IsWellFormed (state_of machine.now) }
 {
     machine.holds();
-    let _ = machine.room();
+    machine.tables_are_sound();
 }
 
 // Adds what leaves for what is asked.
@@ -157,22 +159,10 @@ fn add_messages(
     ensures { OnOk result (AddsThose (IsRowAs machine.now.held.contents frame is_message_def) idents.old.items idents.new.items) }
 {
     known(machine);
-    for ident in machine.tables().rows_of_frame(frame) {
-        if is_message(machine, ident) {
-            idents.push(ident)?;
-        }
+    for ident in machine.tables().message_rows(frame) {
+        idents.push(ident)?;
     }
     Ok(())
-}
-
-// Whether what is loaded with an identifier is a message row.
-fn is_message(machine: &CachedMachine, ident: Ident) -> bool
-    ensures { result ≡ passes is_message_def (item_as machine.now.held.contents ident) }
-{
-    match machine.tables().get(ident) {
-        Some(ItemRef::Mapping(row)) => row.flags.m,
-        _ => false,
-    }
 }
 
 // Rights of a kernel on a group, as they will be.
@@ -185,6 +175,18 @@ pub(crate) struct Grant {
 }
 
 impl Grant {
+    // Whether the kernel loses a right on the group.
+    fn takes_away(&self, machine: &CachedMachine) -> bool
+        requires group { self.now.group < 16 }
+        ensures { result ≡ takes_away (state_of machine.now) self.now }
+    {
+        let Some(rights) = machine.rights(self.kernel) else {
+            return false;
+        };
+        let (reads, writes) = rights.get(self.group);
+        (reads && !self.read) || (writes && !self.write)
+    }
+
     // The rights over a space as they will be.
     fn rights_over(&self, machine: &CachedMachine, space: SpaceNo) -> Rights
         requires space { space.0 < length (state_of machine.now).spaces }
@@ -210,7 +212,8 @@ impl Grant {
     }
 }
 
-// Adds the loaded rows of a group that won't be fit, or will depend on a row that isn't loaded.
+// Adds the loaded rows of a group that won't be fit, or will depend on a row that isn't loaded. Where the kernel loses no right
+// on the group it looks at no row but the signal rows of its frames, and message rows that leave.
 fn add_unfit(
     machine: &CachedMachine,
     grant: &Grant,
@@ -219,15 +222,40 @@ fn add_unfit(
     requires { grant.now.group < 16 }
     ensures { OnOk result (AddsThose (IsRowInGroup machine.now grant.now 128) idents.old.items idents.new.items) }
 {
+    let shrinks = grant.takes_away(machine);
     for number in 0..GROUP_FRAMES {
         let frame = Frame(grant.group * GROUP_FRAMES + number);
-        let lacks = lacks_rows(machine, grant, frame);
-        add_unfit_of(machine, grant, frame, lacks, idents)?;
+        add_going(machine, grant, frame, shrinks, idents)?;
     }
     Ok(())
 }
 
-// The same of a frame, where it is known whether a signal row that will be fit isn't loaded.
+// The same of a frame, where it is known whether the kernel loses a right on the group. If it doesn't, each loaded row stays
+// fit, so that only message rows can go, once a signal row of the frame is fit that isn't loaded.
+fn add_going(
+    machine: &CachedMachine,
+    grant: &Grant,
+    frame: Frame,
+    shrinks: bool,
+    idents: &mut Vec<Ident>,
+) -> Result<(), NoMemory>
+    requires group { grant.now.group < 16 }
+    requires shrinks { shrinks ≡ takes_away (state_of machine.now) grant.now }
+    ensures { OnOk result (AddsThose (IsRowGoing machine.now grant.now frame) idents.old.items idents.new.items) }
+{
+    known(machine);
+    let lacks = lacks_rows(machine, grant, frame);
+    if shrinks {
+        return add_unfit_of(machine, grant, frame, lacks, idents);
+    }
+    if lacks {
+        add_messages(machine, frame, idents)?;
+        return Ok(());
+    }
+    Ok(())
+}
+
+// The rows of a frame that go, where it is known whether a signal row that will be fit isn't loaded.
 fn add_unfit_of(
     machine: &CachedMachine,
     grant: &Grant,
@@ -239,7 +267,24 @@ fn add_unfit_of(
     ensures { OnOk result (AddsThose (IsRowAs machine.now.held.contents frame (goes_so (after_grant (state_of machine.now) grant.now) lacks)) idents.old.items idents.new.items) }
 {
     known(machine);
-    for ident in machine.tables().rows_of_frame(frame) {
+    let tables = machine.tables();
+    add_unfit_among(machine, grant, lacks, tables.message_rows(frame), idents)?;
+    add_unfit_among(machine, grant, lacks, tables.other_rows(frame), idents)?;
+    Ok(())
+}
+
+// The same of some of the loaded rows.
+fn add_unfit_among(
+    machine: &CachedMachine,
+    grant: &Grant,
+    lacks: bool,
+    rows: Run<'_, RowsOf, Ident>,
+    idents: &mut Vec<Ident>,
+) -> Result<(), NoMemory>
+    requires { grant.now.group < 16 }
+    ensures { OnOk result (AddsThose (IsOf (λ ident. passes (goes_so (after_grant (state_of machine.now) grant.now) lacks) (item_as machine.now.held.contents ident)) rows.entry) idents.old.items idents.new.items) }
+{
+    for ident in rows {
         if goes(machine, grant, lacks, ident) {
             idents.push(ident)?;
         }

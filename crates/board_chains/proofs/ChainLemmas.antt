@@ -20,9 +20,9 @@ use Rattle.flat_laws.proofs.StepChains.{chain_is_few}
 use Rattle.flat_laws.proofs.WholeChains.{chain_is_whole}
 use Rattle.run_journal.specs.Legal.{is_kind}
 use Rattle.cached_machine.specs.store_residents.proofs.SlotLemmas.{kind_is}
-use Rattle.cached_machine.specs.desc_admits.specs.May.{wanted_of}
-use Rattle.board_chains.specs.Chains.{chain_at, chain_found, HasParents, IsClosed, IsFewByKind, IsPart, StartsWith}
-use Rattle.board_chains.specs.Lists.{has, with_also, AreApart}
+use Rattle.cached_machine.specs.desc_tables.specs.May.{wanted_of}
+use Rattle.board_chains.specs.Chains.{chain_at, chain_found, HasParents, HoldsAllParents, IsFewByKind, IsPart, StartsWith}
+use Rattle.board_chains.specs.Lists.{has, with_also, AreAllOnce}
 use Rattle.board_chains.proofs.ListLemmas.{also_apart, also_cases, apart_filter, apart_push, fits_in, has_not}
 
 -- ---- names that begin with others
@@ -49,7 +49,7 @@ no_names = record {
   rows = record { among = []; few = omega arith; all = λ name of there. there };
 }
 
-module _ (names all : List Name) (apart : AreApart names) (within : (name : Name) → Contains names name → Contains all name) (few : AreFew all) where
+module _ (names all : List Name) (apart : AreAllOnce names) (within : (name : Name) → Contains names name → Contains all name) (few : AreFew all) where
   most : (of : Kind) → AtMost (wanted_of of) of all
   most kind.Kernel = few.kernels
   most kind.Space = few.spaces
@@ -89,10 +89,10 @@ module _ (names all : List Name) (apart : AreApart names) (within : (name : Name
 
 module _ (s : FlatState) (formed : IsWellFormed s) (n : ℕ) where
   -- the chain has with each descriptor all that it depends on
-  pub closed_at : IsClosed s (chain_at s n)
+  pub closed_at : HoldsAllParents s (chain_at s n)
   closed_at = by (slice_get s.threads n)
     where
-      by : (o : Option FlatThread) → IsClosed s (chain_found s o)
+      by : (o : Option FlatThread) → HoldsAllParents s (chain_found s o)
       by None name there parent depends = absurd (contains_nothing name there)
       by (Some t) name there parent depends = chain_is_whole s formed t name parent there depends
 
@@ -159,11 +159,11 @@ module _ (s : FlatState) (old new : List Name) (starts : StartsWith old new) whe
         subst (HasParents s new) (sym (same_at old new starts k d (omega (arith, earlier, within)))) (λ parent depends. still_there old new starts parent (before k d earlier parent depends))
   ]
 
-pub all_closed : (s : FlatState) (names : List Name) (at : ℕ) → length names ≤ at → ((k : ℕ) (d : Name) → k < at → HasParents s names (get_or names k d)) → IsClosed s names
+pub all_closed : (s : FlatState) (names : List Name) (at : ℕ) → length names ≤ at → ((k : ℕ) (d : Name) → k < at → HasParents s names (get_or names k d)) → HoldsAllParents s names
 all_closed s names at all each name there = subst (HasParents s names) there.2 (each there.0 name (omega (arith, there.1, all)))
 
 -- what has the roots, and with each name all that it depends on, has all that is reached
-pub up_within : (s : FlatState) (names : List Name) → IsClosed s names → (steps : ℕ) (roots : List Name) → ((name : Name) → Contains roots name → Contains names name) → (name : Name) → Contains (up steps s roots) name → Contains names name
+pub up_within : (s : FlatState) (names : List Name) → HoldsAllParents s names → (steps : ℕ) (roots : List Name) → ((name : Name) → Contains roots name → Contains names name) → (name : Name) → Contains (up steps s roots) name → Contains names name
 up_within s names closed zero roots all name there = all name there
 up_within s names closed (suc steps) roots all name there = elim (Contains-append_cases roots (up steps s (flat_map (parents s) roots)) name there) [
   | inl first ↦ all name first

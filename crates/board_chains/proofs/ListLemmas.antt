@@ -8,7 +8,7 @@ use Rattle.flat_laws.proofs.Members.{Contains-behind, Contains-cases, Contains-f
 use Rattle.cache_ident.specs.declared.names.Name.{Name}
 use Rattle.kind_store.specs.Changes.{is_name}
 use Rattle.owner_shelf.proofs.NameLemmas.{eq_itself, same_by_eq}
-use Rattle.board_chains.specs.Lists.{has, with_also, AreApart}
+use Rattle.board_chains.specs.Lists.{has, with_also, AreAllOnce}
 
 -- ---- whether a name is there
 
@@ -31,7 +31,7 @@ has_not (other ∷ names) name is there = elim (cases_Bool (is_name other name))
 
 -- ---- once
 
-pub apart_push : (names : List Name) (name : Name) → AreApart names → (Contains names name → ⊥) → AreApart (names ++ name ∷ [])
+pub apart_push : (names : List Name) (name : Name) → AreAllOnce names → (Contains names name → ⊥) → AreAllOnce (names ++ name ∷ [])
 apart_push [] name apart fresh = (λ there. contains_nothing name there, tt)
 apart_push (x ∷ names) name apart fresh = (
   λ there. elim (Contains-push_cases names name x there) [
@@ -41,7 +41,7 @@ apart_push (x ∷ names) name apart fresh = (
   apart_push names name apart.1 (λ there. fresh (Contains-behind x names name there)),
 )
 
-pub apart_append : (names others : List Name) → AreApart names → AreApart others → ((name : Name) → Contains names name → Contains others name → ⊥) → AreApart (names ++ others)
+pub apart_append : (names others : List Name) → AreAllOnce names → AreAllOnce others → ((name : Name) → Contains names name → Contains others name → ⊥) → AreAllOnce (names ++ others)
 apart_append [] others apart rest none = rest
 apart_append (x ∷ names) others apart rest none = (
   λ there. elim (Contains-append_cases names others x there) [
@@ -51,7 +51,7 @@ apart_append (x ∷ names) others apart rest none = (
   apart_append names others apart.1 rest (λ name there. none name (Contains-behind x names name there)),
 )
 
-pub apart_filter : (p : Name → Bool) (names : List Name) → AreApart names → AreApart (filter p names)
+pub apart_filter : (p : Name → Bool) (names : List Name) → AreAllOnce names → AreAllOnce (filter p names)
 apart_filter p [] apart = tt
 apart_filter p (x ∷ names) apart = elim (cases_Bool (p x)) [
   | inl kept ↦ rw kept ((λ there. apart.0 (Contains-filter p names x there).0, apart_filter p names apart.1))
@@ -59,12 +59,12 @@ apart_filter p (x ∷ names) apart = elim (cases_Bool (p x)) [
 ]
 
 -- the first of them stand once
-pub apart_first : (names others : List Name) → AreApart (names ++ others) → AreApart names
+pub apart_first : (names others : List Name) → AreAllOnce (names ++ others) → AreAllOnce names
 apart_first [] others apart = tt
 apart_first (x ∷ names) others apart = (λ there. apart.0 (Contains-append_left names others x there), apart_first names others apart.1)
 
 -- what stands at one place doesn't stand before it
-pub apart_before : (names : List Name) (at : ℕ) (name : Name) → AreApart names → slice_get names at ≡ Some name → Contains (take at names) name → ⊥
+pub apart_before : (names : List Name) (at : ℕ) (name : Name) → AreAllOnce names → slice_get names at ≡ Some name → Contains (take at names) name → ⊥
 apart_before [] at name apart there before = absurd (cc)
 apart_before (x ∷ names) zero name apart there before = contains_nothing name before
 apart_before (x ∷ names) (suc at) name apart there before = elim (Contains-cases x (take at names) name before) [
@@ -107,7 +107,7 @@ taken_out (z ∷ names) x there = elim (Contains-cases z names x there) [
 ]
 
 -- what is in a list, each once, is no more than the list has
-pub fits_in : (names all : List Name) → AreApart names → ((x : Name) → Contains names x → Contains all x) → length names ≤ length all
+pub fits_in : (names all : List Name) → AreAllOnce names → ((x : Name) → Contains names x → Contains all x) → length names ≤ length all
 fits_in [] all apart within = omega arith
 fits_in (x ∷ names) all apart within =
     let t = taken_out all x (within x (Contains-here x names)) in
@@ -137,5 +137,5 @@ module _ (names : List Name) (name : Name) where
   pub also_starts : (more : List Name) × (with_also names name ≡ names ++ more)
   also_starts = also_by (λ (xs : List Name). (more : List Name) × (xs ≡ names ++ more)) (λ there. ([], sym (append-nil names))) (λ fresh. (name ∷ [], refl))
 
-  pub also_apart : AreApart names → AreApart (with_also names name)
-  also_apart apart = also_by AreApart (λ there. apart) (λ fresh. apart_push names name apart fresh)
+  pub also_apart : AreAllOnce names → AreAllOnce (with_also names name)
+  also_apart apart = also_by AreAllOnce (λ there. apart) (λ fresh. apart_push names name apart fresh)

@@ -11,7 +11,7 @@ use Rattle.cache_ident.specs.declared.names.KernelNo.{KernelNo}
 use Rattle.cache_ident.specs.declared.names.Name.{Name}
 use Rattle.cache_ident.specs.declared.names.Name.TheVariants.{Kernel, Space, Thread, Mapping}
 use Rattle.cache_ident.proofs.Numbers.{same_space, same_thread}
-use Rattle.board_chains.specs.Lists.{AreApart}
+use Rattle.board_chains.specs.Lists.{AreAllOnce}
 use Rattle.board_chains.specs.Ranks.{is_row, number_of, rank_of, AreInOrder, IsBefore}
 
 pub before_so : (a b c : Name) → IsBefore a b → IsBefore b c → IsBefore a c
@@ -80,7 +80,7 @@ one_before a b plain other never = elim (three_way (rank_of a) (rank_of b)) [
     ]
 
 -- what is in order stands once
-pub order_apart : (names : List Name) → AreInOrder names → AreApart names
+pub order_apart : (names : List Name) → AreInOrder names → AreAllOnce names
 order_apart [] order = tt
 order_apart (x ∷ names) order = (λ there. not_before_itself x (order.0 x there), order_apart names order.1)
 

@@ -24,7 +24,7 @@ use Rattle.flat_laws.proofs.ParentLaws.{parent_stands}
 use Rattle.flat_laws.proofs.ShortChains.{no_signals, own_row, received, signal_row}
 use Rattle.flat_laws.proofs.WholeChains.{below, height}
 use Rattle.board_chains.specs.Chains.{row_parents, MayBeChained}
-use Rattle.board_chains.specs.Lists.{with_any, AreApart}
+use Rattle.board_chains.specs.Lists.{with_any, AreAllOnce}
 use Rattle.board_chains.specs.Ranks.{is_row, rank_of, AreInOrder}
 use Rattle.board_chains.proofs.ListLemmas.{also_by}
 
@@ -51,10 +51,10 @@ not_again p row rows single there =
     let same = single 0 (suc at.0) row other.0 refl at.1 (named_so row other.0 other.2) in
     omega (arith, same)
 
-pub names_apart : (p : Row → Bool) (rows : List Row) → HasOneRowAPage rows → AreApart (map row_name (filter p rows))
+pub names_apart : (p : Row → Bool) (rows : List Row) → HasOneRowAPage rows → AreAllOnce (map row_name (filter p rows))
 names_apart p [] single = tt
 names_apart p (row ∷ rows) single =
-    let rest : AreApart (map row_name (filter p rows)) = names_apart p rows (λ i j a b at_i at_j same. let next = single (suc i) (suc j) a b at_i at_j same in omega (arith, next)) in
+    let rest : AreAllOnce (map row_name (filter p rows)) = names_apart p rows (λ i j a b at_i at_j same. let next = single (suc i) (suc j) a b at_i at_j same in omega (arith, next)) in
     elim (cases_Bool (p row)) [
       | inl kept ↦ rw kept (not_again p row rows single, rest)
       | inr dropped ↦ rw dropped rest
@@ -177,12 +177,12 @@ module _ (s : FlatState) (formed : IsWellFormed s) where
       by (Mapping space vpn) there row = let is = row refl in row_is_good (Mapping space vpn) (record { row = is.row; there = is.there; named = is.named; fit = is.fit })
 
   -- the rows that one depends on stand once
-  pub row_parents_apart : (o : Option Row) → ((row : Row) → o ≡ Some row → Contains s.rows row) → AreApart (row_parents s (option_map row_name o))
+  pub row_parents_apart : (o : Option Row) → ((row : Row) → o ≡ Some row → Contains s.rows row) → AreAllOnce (row_parents s (option_map row_name o))
   row_parents_apart None there = tt
   row_parents_apart (Some row) there =
-      subst AreApart (sym (ap (filter is_row) (parents_of_its row (there row refl)) ∙ rows_above s row)) (by row.flags.m)
+      subst AreAllOnce (sym (ap (filter is_row) (parents_of_its row (there row refl)) ∙ rows_above s row)) (by row.flags.m)
     where
-      by : (m : Bool) → AreApart (map row_name (if m then filter (λ x. is_signal_row_of row.frame x && is_fit_row s x) s.rows else []))
+      by : (m : Bool) → AreAllOnce (map row_name (if m then filter (λ x. is_signal_row_of row.frame x && is_fit_row s x) s.rows else []))
       by true = names_apart (λ (x : Row). is_signal_row_of row.frame x && is_fit_row s x) s.rows formed.rows.single
       by false = tt
 

@@ -36,8 +36,8 @@ use Rattle.flat_state.proofs.Found.{found-fit}
 use Rattle.flat_state.proofs.Places.{Contains-from_get}
 use Rattle.flat_laws.proofs.ShortChains.{goes_through}
 use Rattle.flat_laws.proofs.WholeChains.{first_in_up}
-use Rattle.board_chains.specs.Chains.{chain_at, chain_found, row_parents, rows_in_order, AreParentsFirst, IsChainInOrder, IsClosed, IsFewByKind, IsPart, MayBeChained, StartsWith}
-use Rattle.board_chains.specs.Lists.{with_also, with_any, AreApart}
+use Rattle.board_chains.specs.Chains.{chain_at, chain_found, row_parents, rows_in_order, AreParentsFirst, IsChainInOrder, HoldsAllParents, IsFewByKind, IsPart, MayBeChained, StartsWith}
+use Rattle.board_chains.specs.Lists.{with_also, with_any, AreAllOnce}
 use Rattle.board_chains.specs.Ranks.{is_row, rank_of, AreInOrder}
 use Rattle.board_chains.proofs.ListLemmas.{also_apart, also_cases, also_stays, also_there, apart_append, apart_push}
 use Rattle.board_chains.proofs.RankLemmas.{order_apart}
@@ -66,7 +66,7 @@ any_cases names (Some x) name there = elim (also_cases names x name there) [
   | inr same ↦ inr (ap (λ (y : Name). Some y) same)
 ]
 
-any_apart : (names : List Name) (o : Option Name) → AreApart names → AreApart (with_any names o)
+any_apart : (names : List Name) (o : Option Name) → AreAllOnce names → AreAllOnce (with_any names o)
 any_apart names None apart = apart
 any_apart names (Some x) apart = also_apart names x apart
 
@@ -137,7 +137,7 @@ thread_stands s whom t here = record { there = ap is_some here; fit = refl }
 -- what is said of the chain in the end
 pub record IsWhole (s : FlatState) (n : ℕ) (next : NextStep) (names : List Name) : Type 0 where
   pub order : IsChainInOrder s n next names
-  pub once : AreApart names
+  pub once : AreAllOnce names
   pub short : length names ≤ 21
   pub few : IsFewByKind names
   pub parents : AreParentsFirst s names
@@ -264,9 +264,9 @@ module _ (s : FlatState) (formed : IsWellFormed s) (no : ThreadNo) (t : FlatThre
     ]
   ]
 
-  rows_apart : AreApart rows
+  rows_apart : AreAllOnce rows
   rows_apart =
-      let apart : AreApart signals = subst (λ (o : Option Name). AreApart (row_parents s o)) (sym data_is) (row_parents_apart s formed (data_row s t) (λ row e. (accessed s formed t row e).there)) in
+      let apart : AreAllOnce signals = subst (λ (o : Option Name). AreAllOnce (row_parents s o)) (sym data_is) (row_parents_apart s formed (data_row s t) (λ row e. (accessed s formed t row e).there)) in
       any_apart (with_any signals next.fetch_row) next.data_row (any_apart signals next.fetch_row apart)
 
   -- each row of the chain is one of them
@@ -336,7 +336,7 @@ module _ (s : FlatState) (formed : IsWellFormed s) (no : ThreadNo) (t : FlatThre
   pub begins_so : (collected all : List Name) → collected ≡ rows → all ≡ collected ++ Thread no ∷ [] → IsPart s no.0 all
   begins_so collected all is pushed = subst (IsPart s no.0) (sym (pushed ∙ ap (λ (names : List Name). names ++ Thread no ∷ []) is)) begins
 
-  module _ (all : List Name) (part : IsPart s no.0 all) (starts : StartsWith (rows ++ Thread no ∷ []) all) (closed : IsClosed s all) (numbered : List Name) (order : AreInOrder numbered) (exact : (name : Name) → Contains numbered name ↔ (Contains all name × (is_row name ≡ false))) where
+  module _ (all : List Name) (part : IsPart s no.0 all) (starts : StartsWith (rows ++ Thread no ∷ []) all) (closed : HoldsAllParents s all) (numbered : List Name) (order : AreInOrder numbered) (exact : (name : Name) → Contains numbered name ↔ (Contains all name × (is_row name ≡ false))) where
     has_root : (name : Name) → Contains roots name → Contains all name
     has_root name root = elim (root_cases name root) [
       | inl thread ↦ subst (Contains all) thread (still_there _ all starts (Thread no) (Contains-append_right rows (Thread no ∷ []) (Thread no) (Contains-here (Thread no) [])))
@@ -370,7 +370,7 @@ module _ (s : FlatState) (formed : IsWellFormed s) (no : ThreadNo) (t : FlatThre
     in_order : IsChainInOrder s no.0 next names
     in_order = record { numbered = numbered; order = order; plain = plain; parts = refl; each = each }
 
-    once : AreApart names
+    once : AreAllOnce names
     once = apart_append numbered rows (order_apart numbered order) rows_apart (λ name early late. false≢true (sym (plain name early) ∙ rows_are_rows name late))
 
     few : IsFewByKind names
@@ -408,7 +408,7 @@ module _ (s : FlatState) (formed : IsWellFormed s) (no : ThreadNo) (t : FlatThre
     })
 
   -- the same of lists that are known to be these
-  pub whole_so : (collected pushed all seen : List Name) → collected ≡ rows → pushed ≡ collected ++ Thread no ∷ [] → ((n : ℕ) → IsPart s n pushed → IsPart s n all) → StartsWith pushed all → IsClosed s all → seen ≡ all
+  pub whole_so : (collected pushed all seen : List Name) → collected ≡ rows → pushed ≡ collected ++ Thread no ∷ [] → ((n : ℕ) → IsPart s n pushed → IsPart s n all) → StartsWith pushed all → HoldsAllParents s all → seen ≡ all
       → (numbered : List Name) → AreInOrder numbered → ((name : Name) → Contains numbered name ↔ (Contains seen name × (is_row name ≡ false)))
       → (sliced : List Name) → sliced ≡ all → (count : ℕ) → count ≡ length collected → IsWhole s no.0 next (numbered ++ take count sliced)
   whole_so collected pushed all seen are behind part starts closed same numbered order exact sliced slice count is =

@@ -10,8 +10,8 @@ use Rattle.flat_state.specs.Names.{is_fit_name, stands}
 use Rattle.flat_state.specs.NextSteps.{chain}
 use Rattle.flat_state.specs.State.{FlatState}
 use Rattle.run_journal.specs.Legal.{is_kind}
-use Rattle.cached_machine.specs.desc_admits.specs.May.{wanted_of}
-use Rattle.board_chains.specs.Lists.{with_any, AreApart}
+use Rattle.cached_machine.specs.desc_tables.specs.May.{wanted_of}
+use Rattle.board_chains.specs.Lists.{with_any, AreAllOnce}
 use Rattle.board_chains.specs.Ranks.{is_row, AreInOrder}
 
 -- the chain of the next step of the thread of that number; nothing where there is none
@@ -56,7 +56,7 @@ pub record MayBeChained (s : FlatState) (name : Name) : Type 0 where
 
 -- the names are of the chain of that thread's step, each once
 pub record IsPart (s : FlatState) (n : ℕ) (names : List Name) : Type 0 where
-  pub apart : AreApart names
+  pub apart : AreAllOnce names
   pub among : (name : Name) → Contains names name → Contains (chain_at s n) name
 
 abbrev pub IsPartOfSome : FlatState → List Name → Type 0
@@ -66,8 +66,8 @@ IsPartOfSome s names = (n : ℕ) × IsPart s n names
 abbrev pub HasParents : FlatState → List Name → Name → Type 0
 HasParents s names name = (parent : Name) → Depends s name parent → Contains names parent
 
-abbrev pub IsClosed : FlatState → List Name → Type 0
-IsClosed s names = (name : Name) → Contains names name → HasParents s names name
+abbrev pub HoldsAllParents : FlatState → List Name → Type 0
+HoldsAllParents s names = (name : Name) → Contains names name → HasParents s names name
 
 -- the old names are the first of the new ones
 abbrev pub StartsWith : List Name → List Name → Type 0

@@ -18,6 +18,6 @@ with_any names None = names
 with_any names (Some name) = with_also names name
 
 -- no name stands twice
-abbrev pub AreApart : List Name → Type 0
-AreApart [] = Unit {0}
-AreApart (name ∷ names) = (Contains names name → ⊥) × AreApart names
+abbrev pub AreAllOnce : List Name → Type 0
+AreAllOnce [] = Unit {0}
+AreAllOnce (name ∷ names) = (Contains names name → ⊥) × AreAllOnce names

@@ -4,7 +4,7 @@ ghost use Rattle.std.specs.Prelude.{◌≡◌, ◌<◌, ◌⊎◌, ℕ, length, 
 ghost use Rattle.cache_ident.specs.declared.names.Name.{Name};
 ghost use Rattle.flat_state.specs.Dependence.{Depends};
 ghost use Rattle.cached_machine.specs.Cached.{state_of};
-ghost use Rattle.board_chains.specs.Chains.{chain_at, HasParents, IsClosed, IsPart, IsPartOfSome, StartsWith};
+ghost use Rattle.board_chains.specs.Chains.{chain_at, HasParents, HoldsAllParents, IsPart, IsPartOfSome, StartsWith};
 
 use crate::names::{Chain, add, name_at};
 use cache_ident::Name;
@@ -16,7 +16,7 @@ pub(crate) fn add_all_above(machine: &CachedMachine, names: &mut Chain)
     requires { IsPartOfSome (state_of machine.now) names.old.items }
     ensures part { (n : ℕ) → IsPart (state_of machine.now) n names.old.items → IsPart (state_of machine.now) n names.new.items }
     ensures starts { StartsWith names.old.items names.new.items }
-    ensures closed { IsClosed (state_of machine.now) names.new.items }
+    ensures closed { HoldsAllParents (state_of machine.now) names.new.items }
 {
     machine.holds();
     let mut at = 0;

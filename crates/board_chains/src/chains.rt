@@ -9,7 +9,7 @@ ghost use Rattle.flat_state.specs.NextSteps.{next_step as next_step_def};
 ghost use Rattle.flat_rules.specs.Readings.{OfThread};
 ghost use Rattle.cached_machine.specs.Cached.{state_of};
 ghost use Rattle.board_chains.specs.Chains.{rows_in_order as rows_in_order_def, AreParentsFirst, IsChainInOrder, IsFewByKind, MayBeChained};
-ghost use Rattle.board_chains.specs.Lists.{AreApart};
+ghost use Rattle.board_chains.specs.Lists.{AreAllOnce};
 ghost use Rattle.board_chains.specs.Ranks.{is_row as is_row_def};
 
 use crate::above::add_all_above;
@@ -27,7 +27,7 @@ pub fn chain_of(machine: &CachedMachine, no: ThreadNo, next: &NextStep) -> Chain
     requires next { next_step_def (state_of machine.now) no.0 ≡ Some next.now }
     requires ready { OfThread (state_of machine.now) no.0 (λ t. t.status ≡ Ready) }
     ensures order { IsChainInOrder (state_of machine.now) no.0 next.now result.items }
-    ensures once { AreApart result.items }
+    ensures once { AreAllOnce result.items }
     ensures few { IsFewByKind result.items }
     ensures parents { AreParentsFirst (state_of machine.now) result.items }
     ensures good { (name : Name) → Contains result.items name → MayBeChained (state_of machine.now) name }

@@ -3,7 +3,6 @@
 ghost use Rattle.std.specs.Prelude.{◌≡◌, ◌≤◌, length};
 ghost use Rattle.cached_machine.specs.desc_parents.specs.Idents.{idents_of};
 ghost use Rattle.cached_machine.specs.desc_stores.specs.Contents.{residents_of};
-ghost use Rattle.cached_machine.specs.desc_stores.specs.Sound.{IsExactlyOne};
 
 use crate::names::MOST_CHAINED;
 use arrayvec::ArrayVec;
@@ -18,7 +17,7 @@ pub fn loaded_among(machine: &CachedMachine, names: &[Name]) -> Keep
     requires { length names.now ≤ MOST_CHAINED }
     ensures { result.items ≡ idents_of (residents_of machine.now.held.contents) names.now }
 {
-    is_sound(machine);
+    machine.tables_are_sound();
     let mut idents = Keep::new();
     for name in names {
         if let Some(ident) = machine.tables().resident(*name) {
@@ -26,11 +25,4 @@ pub fn loaded_among(machine: &CachedMachine, names: &[Name]) -> Keep
         }
     }
     idents
-}
-
-// Does nothing. Whoever asks the machine for its room learns what holds of its tables; it is asked here for that alone.
-fn is_sound(machine: &CachedMachine)
-    ensures { IsExactlyOne machine.now.held.contents }
-{
-    let _ = machine.room();
 }

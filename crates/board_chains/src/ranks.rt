@@ -2,7 +2,7 @@
 
 ghost use Rattle.std.specs.Prelude.{◌≡◌, ◌≢◌, ◌↔◌, ◌⊎◌, ◌+◌, ◌<◌, ◌≤◌, false, length, Contains, IsTrue};
 ghost use Rattle.cache_ident.specs.declared.names.Name.{Name};
-ghost use Rattle.board_chains.specs.Lists.{AreApart};
+ghost use Rattle.board_chains.specs.Lists.{AreAllOnce};
 ghost use Rattle.board_chains.specs.Ranks.{is_row as is_row_def, number_of, rank_of, AreInOrder, IsBefore};
 
 use crate::names::{Chain, MOST_CHAINED, name_at};
@@ -49,7 +49,7 @@ fn is_before(one: Name, other: Name) -> bool
 // The names of the list that are no row's, in order.
 pub(crate) fn numbered_among(names: &[Name]) -> Chain
     requires few { length names.now ≤ MOST_CHAINED }
-    requires apart { AreApart names.now }
+    requires apart { AreAllOnce names.now }
     ensures order { AreInOrder result.items }
     ensures exact { (name : Name) → Contains result.items name ↔ (Contains names.now name × (is_row_def name ≡ false)) }
 {

@@ -1,6 +1,6 @@
 -- Which signal row is missing first, and whether a row is fit.
 use Rattle.std.proofs.Common.{◌≡◌, ℕ, zero, suc, ◌<◌, Bool, true, false, List, [], ◌∷◌, ◌++◌, length, filter, find, get_or, take, Option, Some, None, IfSome, IfNone, refl, sym, ◌∙◌, ap, subst, inl, inr, arith}
-use Rattle.std.specs.Prelude.{◌/◌, ◌&&◌, is_none, is_some, not}
+use Rattle.std.specs.Prelude.{◌/◌, ◌&&◌, ◌||◌, if◌then◌else◌, is_none, is_some, not}
 use Rattle.std.specs.Iterator.{Yields, YieldsFirst}
 use Rattle.std.specs.Option.{option_map}
 use Rattle.std.proofs.lemmas.Bool.{cases_Bool}
@@ -16,10 +16,16 @@ use Rattle.cache_ident.specs.declared.names.Vpn.{Vpn}
 use Rattle.cache_ident.specs.Residents.{IsNameResident, IsResident}
 use Rattle.phys_groups.specs.declared.rows.Row.{Row}
 use Rattle.phys_groups.specs.Rows.{row_name}
+use Rattle.phys_groups.specs.Translation.{implies, is_fit}
 use Rattle.signal_pages.specs.Signals.{is_signal_row_of}
+use Rattle.kernel_cache.specs.declared.KernelRec.{KernelRec}
+use Rattle.flat_state.specs.Dependence.{owner}
 use Rattle.flat_state.specs.Names.{is_fit_found}
 use Rattle.flat_state.specs.Translation.{is_fit_row}
 use Rattle.row_store.specs.Kept.{signal_names}
+use Rattle.desc_tables.specs.desc_stores.specs.declared.items.Item.TheVariants as item
+use Rattle.desc_tables.specs.desc_stores.specs.declared.items.ItemRef.{ItemRef}
+use Rattle.desc_tables.specs.desc_stores.specs.declared.items.ItemRef.TheVariants as ref
 use Rattle.desc_tables.specs.desc_stores.specs.Contents.{content_of, residents_of, Contents}
 use Rattle.desc_tables.specs.desc_stores.specs.Sound.{IsExactlyOne}
 use Rattle.desc_tables.specs.shown_state.specs.Shown.{row_of_item}
@@ -27,6 +33,7 @@ use Rattle.desc_tables.specs.store_residents.proofs.ResidentLemmas.{one_each}
 use Rattle.desc_tables.specs.desc_parents.specs.Idents.{ident_of}
 use Rattle.desc_tables.specs.desc_parents.specs.Seen.{seen}
 use Rattle.desc_tables.specs.desc_parents.proofs.IdentLemmas.{ident_found, ident_none}
+use Rattle.desc_tables.specs.desc_parents.proofs.FitLemmas.{rights_found}
 use Rattle.desc_tables.specs.desc_parents.proofs.RowLemmas.{fit_in, fit_names}
 use Rattle.board_ops.specs.declared.refusals.Refused.TheVariants as why
 use Rattle.board_checks.specs.Facts.{is_missing}
@@ -143,11 +150,10 @@ module _ (o : Option Row) (n : Option Name) (named : n ≡ option_map row_name o
 
 -- ---- is it fit?
 
-module _ (c : Contents) (row : Row) where
-  pub fit_tested : is_fit_row (seen c) row ≡ true → None ≡ beyond_rights c row
-  unfolding beyond_rights
-  fit_tested fit = rw fit refl
-
-  pub unfit_tested : is_fit_row (seen c) row ≡ false → Some (why.Rights row.frame (row.frame.0 / 128)) ≡ beyond_rights c row
-  unfolding beyond_rights
-  unfit_tested unfit = rw unfit refl
+-- the rights of the kernel that owns a row's space are those of its record
+pub rights_tested : (c : Contents) → IsExactlyOne c → (row : Row) (kernel : KernelRec) → Some kernel.no ≡ owner (seen c) (name.Space row.space) → content_of c (name.Kernel kernel.no) ≡ Some (item.Kernel kernel) → (if is_fit kernel.rights row then None else Some (why.Rights row.frame (row.frame.0 / 128))) ≡ beyond_rights c row
+unfolding beyond_rights
+rights_tested c one row kernel owned there =
+    let found : Option ItemRef = Some (ref.Kernel (record { ref_ptr = (0, 0); now = kernel })) in
+    let same = rights_found c one found found refl row.space kernel.no owned (sym there) (row.frame.0 / 128) in
+    ap (λ (right : Bool × Bool). if (implies (row.flags.r || row.flags.x) right.0 && implies row.flags.w right.1) then None else Some (why.Rights row.frame (row.frame.0 / 128))) same

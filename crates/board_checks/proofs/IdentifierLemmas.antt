@@ -33,7 +33,7 @@ use Rattle.desc_tables.specs.shown_state.specs.Shown.{flat_thread, thread_of}
 use Rattle.desc_tables.specs.store_residents.proofs.ContentLemmas.{loaded_item}
 use Rattle.desc_tables.specs.store_residents.proofs.KindLemmas.{live_loaded, loaded_live}
 use Rattle.desc_tables.specs.store_residents.proofs.ResidentLemmas.{loaded_resident}
-use Rattle.desc_tables.specs.desc_groups.proofs.OwnerLemmas.{name_of_loaded}
+use Rattle.desc_tables.specs.desc_groups.proofs.OwnerLemmas.{found_loaded}
 use Rattle.flat_state.specs.declared.records.FlatThread.{FlatThread}
 use Rattle.board_ops.specs.declared.refusals.Refused.TheVariants as why
 use Rattle.board_checks.specs.Refusals.{not_completable, not_trapped, wait_empty}
@@ -132,7 +132,7 @@ module _ (c : Contents) (ident : Ident) where
 
     module _ (it : Item) (is : item_as c ident ≡ Some it) where
       pub item_resident_as : (r : Resident) × (resident_as c ident ≡ Some r) × (r.name ≡ name_of it)
-      item_resident_as = let r = some_as it is in (r.0, r.1, sym (name_of_loaded c one ident r.0 it r.1 (sym is)))
+      item_resident_as = let r = some_as it is in (r.0, r.1, sym (found_loaded c one ident r.0 it r.1 (sym is)).0)
 
       pub item_resident : IsResident (residents_of c) ident (name_of it)
       item_resident = let r = item_resident_as in (r.0, loaded_resident c one.sound ident r.0 r.1, own_ident c ident r.0 r.1, r.2)

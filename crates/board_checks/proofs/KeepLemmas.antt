@@ -38,10 +38,10 @@ use Rattle.desc_tables.specs.store_residents.proofs.SlotLemmas.{kind_is}
 use Rattle.desc_tables.specs.desc_parents.specs.Idents.{ident_of, idents_of}
 use Rattle.desc_tables.specs.desc_parents.specs.Seen.{seen}
 use Rattle.desc_tables.specs.desc_parents.proofs.IdentLemmas.{ident_found, ident_none}
-use Rattle.desc_tables.specs.desc_admits.specs.Admits.{KeepsParentsAs, KeepsParentsOf}
-use Rattle.desc_tables.specs.desc_admits.specs.May.{kept_of, MayBeLoaded, wanted_of}
+use Rattle.desc_tables.specs.Keeps.{KeepsParentsAs, KeepsParentsOf}
+use Rattle.desc_tables.specs.May.{kept_of, MayBeLoaded, wanted_of}
 use Rattle.board_checks.specs.Facts.{IsFormed, IsLoadable}
-use Rattle.board_checks.specs.Keeps.{HasAlso, IsAbove, IsKept, IsOrIsAbove, StartsWith}
+use Rattle.board_checks.specs.Keeps.{HasAlso, IsAbove, IsKept, IsLoadableBeside, IsOrIsAbove, StartsWith}
 
 -- ---- lists
 
@@ -303,11 +303,18 @@ all_kept c one formed name may keep kept has at all each = record {
   };
 }
 
+-- the same where it is known of each that is kept
+pub all_beside : (c : Contents) → IsExactlyOne c → IsFormed c → (name : Name) → IsLoadable c name → (keep : List Ident) → IsKept c name keep → KeepsParentsOf c keep name → ((ident : Ident) → Contains keep ident → KeepsParentsAs c keep ident) → IsLoadableBeside c name keep
+all_beside c one formed name may keep kept has closed = record {
+  may = all_kept c one formed name may keep kept has (length keep) (omega arith) (λ k d below. closed (get_or keep k d) (Contains-get_or keep k d below));
+  only = kept.above;
+}
+
 -- ---- what is loaded with an identifier that is kept
 
 module _ (c : Contents) (one : IsExactlyOne c) (ident : Ident) where
   module _ (it : Item) (is : item_as c ident ≡ Some it) where
-    same_name : (r : Resident) → Contains (residents_of c) r → r.ident ≡ ident → name_of it ≡ r.name
+    pub same_name : (r : Resident) → Contains (residents_of c) r → r.ident ≡ ident → name_of it ≡ r.name
     same_name r there own = item_has_name c r.name it (sym (resident_item c one r there) ∙ ap (item_as c) own ∙ is)
 
     -- it is above what the others are above

@@ -4,5 +4,6 @@ pub mod IdentifierLemmas
 pub mod OwnerLemmas
 pub mod FitLemmas
 pub mod LoadLemmas
+mod GivenLemmas
 pub mod HoldLemmas
 pub mod KeepLemmas

@@ -1,5 +1,5 @@
 -- What is so of a name that a load isn't refused for.
-use Rattle.std.proofs.Common.{◌≡◌, ℕ, true, false, [], ◌++◌, map, find, Contains, Option, Some, None, slice_get, refl, sym, ◌∙◌, ap, subst, inl, inr}
+use Rattle.std.proofs.Common.{◌≡◌, ℕ, true, false, [], ◌++◌, map, find, Contains, Option, Some, None, IfSome, IfNone, slice_get, refl, sym, ◌∙◌, ap, subst, inl, inr}
 use Rattle.std.specs.Prelude.{◌/◌, ◌==◌, is_none, option_to_list}
 use Rattle.std.specs.Option.{option_and_then, option_eq, option_map}
 use Rattle.std.proofs.lemmas.Bool.{eqb-true}
@@ -38,28 +38,23 @@ use Rattle.desc_tables.specs.store_residents.proofs.ContentLemmas.{shelved_iff}
 use Rattle.desc_tables.specs.store_residents.proofs.ResidentLemmas.{one_each}
 use Rattle.desc_tables.specs.desc_parents.specs.Idents.{ident_of}
 use Rattle.desc_tables.specs.desc_parents.specs.Seen.{seen}
-use Rattle.desc_tables.specs.desc_parents.proofs.IdentLemmas.{ident_back, ident_found, ident_none}
+use Rattle.desc_tables.specs.desc_parents.proofs.IdentLemmas.{ident_back, ident_found}
 use Rattle.board_ops.specs.declared.refusals.Refused.{Refused}
 use Rattle.board_ops.specs.declared.refusals.Refused.TheVariants as why
 use Rattle.board_checks.specs.Facts.{IsLoadable}
 use Rattle.board_checks.specs.Identifiers.{receiver_as, space_as, thread_as}
 use Rattle.board_checks.specs.Refusals.{already_loaded, beyond_rights, is_absent, not_declared, not_owner, receivers_absent, refusal_in_space, refusal_of_row, wrong_parent, wrong_receiver, wrong_space}
 use Rattle.board_checks.proofs.FirstLemmas.{none_mapped, passes_if}
+use Rattle.board_checks.proofs.FitLemmas.{ident_tested}
 use Rattle.board_checks.proofs.IdentifierLemmas.{item_resident, space_is}
 
 -- ---- is it loaded?
 
 module _ (c : Contents) (one : IsExactlyOne c) (n : Name) where
   -- a name is refused as what it is loaded with
-  pub loaded_tested : (ident : Ident) → IsResident (residents_of c) ident n → Some (why.AlreadyLoaded ident) ≡ already_loaded c n
+  pub absent_tested : (o : Option Ident) → IfSome o (λ ident. IsResident (residents_of c) ident n) → IfNone o (IsNameResident (residents_of c) n → ⊥) → option_map why.AlreadyLoaded o ≡ already_loaded c n
   unfolding already_loaded
-  loaded_tested ident r =
-      let is : ident_of (residents_of c) n ≡ Some ident = subst (λ (m : Name). ident_of (residents_of c) m ≡ Some ident) r.3 (ident_found (residents_of c) (one_each c one) r.0 r.1 ∙ ap (λ (i : Ident). Some i) r.2) in
-      ap (option_map why.AlreadyLoaded) (sym is)
-
-  pub absent_tested : (IsNameResident (residents_of c) n → ⊥) → None ≡ already_loaded c n
-  unfolding already_loaded
-  absent_tested never = ap (option_map why.AlreadyLoaded) (sym (ident_none (residents_of c) n never))
+  absent_tested o found absent = ap (option_map why.AlreadyLoaded) (sym (ident_tested c one n o found absent))
 
   absent_if : None ≡ already_loaded c n → IsNameResident (residents_of c) n → ⊥
   unfolding already_loaded
@@ -68,7 +63,7 @@ module _ (c : Contents) (one : IsExactlyOne c) (n : Name) where
       let is : ident_of (residents_of c) n ≡ Some r.0.ident = subst (λ (m : Name). ident_of (residents_of c) m ≡ Some r.0.ident) r.2 (ident_found (residents_of c) (one_each c one) r.0 r.1) in
       cc
 
-  declared_if : None ≡ not_declared c n → stands (seen c) n ≡ true
+  pub declared_if : None ≡ not_declared c n → stands (seen c) n ≡ true
   unfolding not_declared
   declared_if passes = passes_if (stands (seen c) n) (why.NotDeclared n) passes
 
@@ -92,11 +87,11 @@ module _ (c : Contents) (caller : Ident) (receiver : Option Ident) (vpn : Vpn) (
 -- ---- what it depends on
 
 -- the owner is the caller's kernel
-own_if : (given own : KernelNo) → None ≡ not_owner given own → own ≡ given
+pub own_if : (given own : KernelNo) → None ≡ not_owner given own → own ≡ given
 own_if given own passes = ap (λ (n : ℕ). record { 0 = n }) (sym (eqb-true given.0 own.0 (passes_if (given.0 == own.0) (why.NotOwner given own) passes)))
 
 -- what is given is what is declared
-one_if : (given declared : Option Name) → None ≡ wrong_parent given declared → given ≡ declared
+pub one_if : (given declared : Option Name) → None ≡ wrong_parent given declared → given ≡ declared
 one_if given declared passes = by given declared (passes_if (option_eq is_name given declared) (why.WrongParent given declared) passes)
   where
     by : (a b : Option Name) → option_eq is_name a b ≡ true → a ≡ b
@@ -190,7 +185,7 @@ module _ (c : Contents) (one : IsExactlyOne c) where
 
   module _ (parent : Ident) (space : SpaceRec) (is : item_as c parent ≡ Some (item.Space space)) (vpn : Vpn) (row : Row) (found : row_of (seen c).rows space.no vpn.0 ≡ Some row) where
     -- the row is of the page
-    row_named : row_name row ≡ name.Mapping space.no vpn
+    pub row_named : row_name row ≡ name.Mapping space.no vpn
     row_named = row_has_name c (name.Mapping space.no vpn) row (sym (found_row None [] c one space.no vpn) ∙ found)
 
     row_has : (receiver : Option Ident) (named : Option Name) → receiver_as c receiver ≡ named → None ≡ wrong_parent named (option_map name.Thread row.receiver) → None ≡ receivers_absent c row → HasParents (seen c) (residents_of c) (name.Mapping space.no vpn)

@@ -5,6 +5,7 @@ use Rattle.cache_ident.specs.declared.names.Name.{Name}
 use Rattle.cache_ident.specs.Residents.{Resident, IsNameResident}
 use Rattle.flat_state.specs.Dependence.{DependsFar}
 use Rattle.desc_tables.specs.desc_stores.specs.Contents.{residents_of, Contents}
+use Rattle.desc_tables.specs.May.{MayBeLoaded}
 use Rattle.desc_tables.specs.desc_parents.specs.Seen.{seen}
 
 -- the identifier is that of something loaded that the name depends on, over any number of steps
@@ -15,6 +16,11 @@ IsAbove c name ident = (r : Resident) × Contains (residents_of c) r × (r.ident
 pub record IsKept (c : Contents) (name : Name) (keep : List Ident) : Type 0 where
   pub above : (ident : Ident) → Contains keep ident → IsAbove c name ident
   pub once : AllPairs ◌≢◌ keep
+
+-- the name may be loaded while these stay, which are all that it depends on, over any number of steps, and nothing else
+pub record IsLoadableBeside (c : Contents) (name : Name) (keep : List Ident) : Type 0 where
+  pub may : MayBeLoaded c name keep
+  pub only : (ident : Ident) → Contains keep ident → IsAbove c name ident
 
 -- the name is the one that is loaded, or it depends on that
 abbrev pub IsOrIsAbove : Contents → Name → Name → Type 0

@@ -12,8 +12,8 @@ ghost use Rattle.board_checks.specs.Refusals.{not_trapped, refusal_of_complete, 
 use crate::idents::{kernel_as, thread_as};
 use crate::owners::check_owner;
 use board_ops::Refused;
-use cache_ident::{Ident, Name};
-use desc_tables::Tables;
+use cache_ident::Ident;
+use desc_tables::{ItemRef, Tables};
 use rv32_exec::Status;
 use thread_cache::ThreadRec;
 
@@ -25,9 +25,10 @@ pub fn check_thread(tables: &Tables, caller: Ident, thread: Ident) -> Result<&Th
     ensures exact { result_err result ≡ refusal_of_thread tables.now.contents caller thread }
     ensures found { IfOk result (λ found. item_as tables.now.contents thread ≡ Some (Item.Thread found.now)) }
 {
+    tables.are_sound();
     let given = kernel_as(tables, caller)?.no;
     let found = thread_as(tables, thread)?;
-    check_owner(tables, given, Name::Thread(found.no))?;
+    check_owner(tables, given, ItemRef::Thread(found), None)?;
     Ok(found)
 }
 

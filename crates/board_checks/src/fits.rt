@@ -1,29 +1,29 @@
 //! Whether the rights of a kernel cover a row, and which rows it waits for.
 
-ghost use Rattle.std.specs.Prelude.{◌≡◌, ℕ, ◌<◌, ◌&&◌, filter, find};
+ghost use Rattle.std.specs.Prelude.{◌≡◌, ℕ, ◌<◌, ◌/◌, ◌&&◌, if◌then◌else◌, filter, find, None, Some};
 ghost use Rattle.std.specs.Option.{option_map};
 ghost use Rattle.std.specs.Result.{result_err};
 ghost use Rattle.cache_ident.specs.declared.names.Name.{Name};
 ghost use Rattle.phys_groups.specs.Rows.{row_name};
-ghost use Rattle.phys_groups.specs.Translation.{right_on};
+ghost use Rattle.phys_groups.specs.Translation.{is_fit, right_on};
 ghost use Rattle.signal_pages.specs.Signals.{is_signal_row_of};
 ghost use Rattle.flat_state.specs.Translation.{is_fit_row, rights_of};
 ghost use Rattle.desc_tables.specs.desc_parents.specs.Seen.{seen};
-ghost use Rattle.board_checks.specs.Refusals.{beyond_rights, is_absent, receivers_absent};
+ghost use Rattle.board_checks.specs.Refusals.{is_absent, receivers_absent};
 ghost use Rattle.board_checks.specs.Facts.{is_missing as is_missing_in};
 
-use crate::owners::{is_sound, kernel_of};
+use crate::owners::kernel_of;
 use board_ops::Refused;
 use cache_ident::{Frame, Name, SpaceNo};
 use desc_tables::{ItemRef, Tables};
 use phys_groups::{Rights, Row};
 
-/// Refuses a load of a row that isn't fit (`Rights`).
-pub(crate) fn check_rights(tables: &Tables, row: &Row) -> Result<(), Refused>
+/// Refuses a load of a row that the rights of its kernel don't cover (`Rights`).
+pub(crate) fn check_rights(rights: &Rights, row: &Row) -> Result<(), Refused>
     requires frame { row.now.frame.0 < 2048 }
-    ensures { result_err result ≡ beyond_rights tables.now.contents row.now }
+    ensures { result_err result ≡ (if is_fit rights.now row.now then None else Some (Refused.Rights row.now.frame (row.now.frame.0 / 128))) }
 {
-    if is_fit(tables, row) {
+    if rights.covers(row.frame, row.flags) {
         return Ok(());
     }
     Err(Refused::Rights {
@@ -44,9 +44,9 @@ fn is_fit(tables: &Tables, row: &Row) -> bool
 fn rights_over(tables: &Tables, space: SpaceNo) -> Rights
     ensures { (group : ℕ) → right_on result group ≡ right_on (rights_of (seen tables.now.contents) space) group }
 {
-    is_sound(tables);
+    tables.are_sound();
     let none = Rights::none();
-    let Some(kernel) = kernel_of(tables, space) else {
+    let Some(kernel) = kernel_of(tables, space, None) else {
         return none;
     };
     match tables.item(Name::Kernel(kernel)) {
@@ -72,7 +72,7 @@ pub(crate) fn check_receivers(tables: &Tables, row: &Row) -> Result<(), Refused>
 fn first_missing(tables: &Tables, frame: Frame) -> Option<Name>
     ensures { result ≡ option_map row_name (find (is_absent tables.now.contents) (filter (λ other. is_signal_row_of frame other && is_fit_row (seen tables.now.contents) other) (seen tables.now.contents).rows)) }
 {
-    is_sound(tables);
+    tables.are_sound();
     for name in tables.signal_rows(frame) {
         if is_missing(tables, name) {
             return Some(name);
@@ -85,7 +85,7 @@ fn first_missing(tables: &Tables, frame: Frame) -> Option<Name>
 fn is_missing(tables: &Tables, name: Name) -> bool
     ensures { result ≡ is_missing_in tables.now.contents name }
 {
-    is_sound(tables);
+    tables.are_sound();
     match tables.item(name) {
         Some(ItemRef::Mapping(row)) => is_fit(tables, row) && tables.resident(name).is_none(),
         _ => false,

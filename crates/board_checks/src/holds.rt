@@ -9,16 +9,17 @@ ghost use Rattle.cache_ident.specs.Names.{first_name};
 ghost use Rattle.cache_ident.specs.Residents.{IsResident};
 ghost use Rattle.cache_ident.specs.Rolls.{standing_in};
 ghost use Rattle.desc_tables.specs.desc_stores.specs.declared.items.Item.{Item};
-ghost use Rattle.desc_tables.specs.desc_stores.specs.Contents.{content_of, residents_of};
+ghost use Rattle.desc_tables.specs.desc_stores.specs.Contents.{content_of, item_as, residents_of};
+ghost use Rattle.desc_tables.specs.desc_stores.specs.Items.{shown};
 ghost use Rattle.cache_ident.specs.declared.names.Name.{Name};
 ghost use Rattle.flat_state.specs.Names.{stands};
 ghost use Rattle.desc_tables.specs.desc_parents.specs.Seen.{seen};
 ghost use Rattle.desc_tables.specs.desc_groups.specs.Moves.{MayBeLocked};
-ghost use Rattle.board_checks.specs.Identifiers.{name_as, not_a, not_live};
+ghost use Rattle.board_checks.specs.Identifiers.{not_a, not_live};
 ghost use Rattle.board_checks.specs.Refusals.{at_limit, is_first_kernel, limit_reached, not_owned_as, refusal_of_lock, refusal_of_unload, refusal_of_unlock};
 
 use crate::idents::{kernel_as, live};
-use crate::owners::{check_owner, is_sound, owner_of};
+use crate::owners::{check_owner, owner_of};
 use board_ops::Refused;
 use cache_ident::{Ident, KernelNo, Kind, Name};
 use desc_tables::{ItemRef, Tables};
@@ -31,7 +32,8 @@ pub fn check_unload(tables: &Tables, caller: Ident, ident: Ident) -> Result<Name
     ensures named { IfOk result (IsResident (residents_of tables.now.contents) ident) }
     ensures not_first { IfOk result (λ name. name ≢ first_name) }
 {
-    let name = owned_as(tables, caller, ident)?;
+    tables.are_sound();
+    let name = owned_as(tables, caller, ident)?.name();
     check_first(name)?;
     Ok(name)
 }
@@ -53,24 +55,22 @@ pub fn check_lock(tables: &Tables, caller: Ident, ident: Ident) -> Result<Name, 
     ensures named { IfOk result (IsResident (residents_of tables.now.contents) ident) }
     ensures may { OnOk result (MayBeLocked tables.now.contents ident) }
 {
-    is_sound(tables);
-    let name = owned_as(tables, caller, ident)?;
-    check_limit(tables, ident, name)?;
-    Ok(name)
+    tables.are_sound();
+    let item = owned_as(tables, caller, ident)?;
+    check_limit(tables, ident, item)?;
+    Ok(item.name())
 }
 
-// The name of what is loaded with an identifier, and is the caller's.
-fn owned_as(tables: &Tables, caller: Ident, ident: Ident) -> Result<Name, Refused>
+// What is loaded with an identifier, and is the caller's.
+fn owned_as(tables: &Tables, caller: Ident, ident: Ident) -> Result<ItemRef<'_>, Refused>
     ensures exact { result_err result ≡ option_or (not_a kind.Kernel tables.now.contents caller) (option_or (not_live tables.now.contents ident) (not_owned_as tables.now.contents caller ident)) }
-    ensures live { OnOk result (standing_in tables.now.contents.issued ident ≡ Live) }
-    ensures named { IfOk result (IsResident (residents_of tables.now.contents) ident) }
-    ensures its { IfOk result (λ name. name_as tables.now.contents ident ≡ Some name) }
+    ensures its { IfOk result (λ item. item_as tables.now.contents ident ≡ Some (shown item)) }
 {
-    is_sound(tables);
+    tables.are_sound();
     let given = kernel_as(tables, caller)?.no;
-    let name = live(tables, ident)?.name();
-    check_owner(tables, given, name)?;
-    Ok(name)
+    let item = live(tables, ident)?;
+    check_owner(tables, given, item, None)?;
+    Ok(item)
 }
 
 // Refuses what would unload or unlock the first kernel (`FirstKernel`).
@@ -84,15 +84,15 @@ fn check_first(name: Name) -> Result<(), Refused>
 }
 
 // Refuses a lock where what is loaded isn't locked, and its owner may lock no more of the kind (`LimitReached`).
-fn check_limit(tables: &Tables, ident: Ident, name: Name) -> Result<(), Refused>
-    requires { IsResident (residents_of tables.now.contents) ident name }
+fn check_limit(tables: &Tables, ident: Ident, item: ItemRef<'_>) -> Result<(), Refused>
+    requires { item_as tables.now.contents ident ≡ Some (shown item) }
     ensures { result_err result ≡ limit_reached tables.now.contents ident }
 {
-    is_sound(tables);
+    tables.are_sound();
     if tables.is_locked(ident) {
         return Ok(());
     }
-    match owner_of(tables, name) {
+    match owner_of(tables, item, None) {
         Some(kernel) => check_locks_left(tables, kernel, ident.kind),
         None => Ok(()),
     }
@@ -103,7 +103,7 @@ fn check_locks_left(tables: &Tables, kernel: KernelNo, kind: Kind) -> Result<(),
     requires { stands (seen tables.now.contents) (Name.Kernel kernel) ≡ true }
     ensures { result_err result ≡ at_limit tables.now.contents kind kernel }
 {
-    is_sound(tables);
+    tables.are_sound();
     let Some(found) = kernel_at(tables, kernel) else {
         unreachable!()
     };

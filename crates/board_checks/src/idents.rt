@@ -10,7 +10,6 @@ ghost use Rattle.desc_tables.specs.desc_stores.specs.Items.{shown};
 ghost use Rattle.desc_tables.specs.desc_stores.specs.declared.items.Item.{Item};
 ghost use Rattle.board_checks.specs.Identifiers.{not_a, not_a_receiver, not_live, receiver_as as receiver_named};
 
-use crate::owners::is_sound;
 use board_ops::Refused;
 use cache_ident::{Ident, Name, Standing};
 use desc_tables::{ItemRef, Tables};
@@ -80,7 +79,7 @@ fn loaded_as(tables: &Tables, ident: Ident) -> ItemRef<'_>
     requires live { standing_in tables.now.contents.issued ident ≡ Live }
     ensures { item_as tables.now.contents ident ≡ Some (shown result) }
 {
-    is_sound(tables);
+    tables.are_sound();
     let Some(item) = tables.get(ident) else {
         unreachable!()
     };

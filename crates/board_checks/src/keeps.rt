@@ -1,17 +1,17 @@
 //! What a load keeps in the caches.
 
-ghost use Rattle.std.specs.Prelude.{◌≡◌, ◌↔◌, ◌<◌, length, slice_get, Contains, IsTrue, Some};
+ghost use Rattle.std.specs.Prelude.{◌≡◌, ◌↔◌, ◌<◌, ◌∷◌, ◌&&◌, [], false, is_none, length, not, slice_get, Contains, IsTrue, None, Some};
 ghost use Rattle.cache_ident.specs.declared.idents.Ident.{Ident};
-ghost use Rattle.cache_ident.specs.declared.names.Name.{Name};
-ghost use Rattle.desc_tables.specs.desc_admits.specs.Admits.{KeepsParentsAs, KeepsParentsOf};
-ghost use Rattle.desc_tables.specs.desc_admits.specs.May.{MayBeLoaded};
+ghost use Rattle.phys_groups.specs.Rows.{row_name};
+ghost use Rattle.desc_tables.specs.Keeps.{KeepsParentsAs, KeepsParentsOf};
 ghost use Rattle.board_checks.specs.Facts.{IsFormed, IsLoadable};
-ghost use Rattle.board_checks.specs.Keeps.{HasAlso, IsAbove, IsAboveSome, IsKept, IsKeptForSome, IsOrIsAbove, StartsWith};
+ghost use Rattle.board_checks.specs.Keeps.{HasAlso, IsAboveSome, IsKept, IsKeptForSome, IsLoadableBeside, IsOrIsAbove, StartsWith};
 
-use crate::owners::is_sound;
 use arrayvec::ArrayVec;
 use cache_ident::{Ident, Name};
 use desc_tables::Tables;
+use phys_groups::Row;
+use slot_cache::Descriptor;
 
 /// How many identifiers a load keeps at most: with the new descriptor 5 kernels, 5 spaces, 5 threads and 6 rows.
 pub const MOST_KEPT: usize = 21;
@@ -19,15 +19,54 @@ pub const MOST_KEPT: usize = 21;
 /// The identifiers that a load keeps.
 pub type Keep = ArrayVec<Ident, MOST_KEPT>;
 
-/// The identifiers of all that a descriptor depends on, over any number of steps, where it may be loaded. It takes a search
-/// for each of them, and for a message row four more for each signal row of its frame.
-pub fn keep_of(tables: &Tables, name: Name) -> Keep
+/// A kernel alone.
+pub(crate) fn keep_kernel(kernel: Ident) -> Keep
+    ensures { result.items ≡ kernel ∷ [] }
+{
+    let mut keep = Keep::new();
+    keep.push(kernel);
+    keep
+}
+
+/// A space and its kernel.
+pub(crate) fn keep_space_and_kernel(space: Ident, kernel: Ident) -> Keep
+    ensures { result.items ≡ space ∷ kernel ∷ [] }
+{
+    let mut keep = Keep::new();
+    keep.push(space);
+    keep.push(kernel);
+    keep
+}
+
+/// The identifiers of all that a row depends on, over any number of steps, where it may be loaded: its space and its kernel, and
+/// of a signal row or a message row what `keep_of` finds.
+pub(crate) fn keep_of_row(tables: &Tables, row: &Row, space: Ident, kernel: Ident) -> Keep
+    requires formed { IsFormed tables.now.contents }
+    requires may { IsLoadable tables.now.contents (row_name row.now) }
+    requires plain { row.now.flags.m ≡ false → row.now.receiver ≡ None → IsLoadableBeside tables.now.contents (row_name row.now) (space ∷ kernel ∷ []) }
+    ensures { IsLoadableBeside tables.now.contents (row_name row.now) result.items }
+{
+    if is_plain(row) {
+        return keep_space_and_kernel(space, kernel);
+    }
+    keep_of(tables, row.name())
+}
+
+// Whether a row depends on its space alone.
+fn is_plain(row: &Row) -> bool
+    ensures { result ≡ (not row.now.flags.m && is_none row.now.receiver) }
+{
+    !row.flags.m && row.receiver.is_none()
+}
+
+// The identifiers of all that a descriptor depends on, over any number of steps, where it may be loaded. It takes a search
+// for each of them, and for a message row four more for each signal row of its frame.
+fn keep_of(tables: &Tables, name: Name) -> Keep
     requires formed { IsFormed tables.now.contents }
     requires may { IsLoadable tables.now.contents name }
-    ensures may { MayBeLoaded tables.now.contents name result.items }
-    ensures only { (ident : Ident) → Contains result.items ident → IsAbove tables.now.contents name ident }
+    ensures { IsLoadableBeside tables.now.contents name result.items }
 {
-    is_sound(tables);
+    tables.are_sound();
     let mut keep = Keep::new();
     add_parents(tables, name, &mut keep);
     let mut at = 0;
@@ -55,7 +94,7 @@ fn add_parents_as(tables: &Tables, ident: Ident, keep: &mut Keep)
     ensures starts { StartsWith keep.old.items keep.new.items }
     ensures has { KeepsParentsAs tables.now.contents keep.new.items ident }
 {
-    is_sound(tables);
+    tables.are_sound();
     if let Some(item) = tables.get(ident) {
         add_parents(tables, item.name(), keep);
     }
@@ -69,7 +108,7 @@ fn add_parents(tables: &Tables, name: Name, keep: &mut Keep)
     ensures starts { StartsWith keep.old.items keep.new.items }
     ensures has { KeepsParentsOf tables.now.contents keep.new.items name }
 {
-    is_sound(tables);
+    tables.are_sound();
     let found = tables.parents(name);
     let parents = found.as_slice();
     for parent in parents {

@@ -1,65 +1,57 @@
 //! Who owns what a call names.
 
-ghost use Rattle.std.specs.Prelude.{◌≡◌, List};
+ghost use Rattle.std.specs.Prelude.{◌≡◌, Some};
 ghost use Rattle.std.specs.Option.{option_and_then};
 ghost use Rattle.std.specs.Result.{result_err};
-ghost use Rattle.cache_ident.specs.declared.idents.Ident.{Ident};
 ghost use Rattle.cache_ident.specs.declared.names.Name.{Name};
-ghost use Rattle.depend_lists.specs.declared.nodes.Node.{Node};
 ghost use Rattle.flat_state.specs.Dependence.{owner as owner_in};
+ghost use Rattle.desc_tables.specs.desc_stores.specs.Contents.{content_of};
+ghost use Rattle.desc_tables.specs.desc_stores.specs.Items.{name_of, shown};
 ghost use Rattle.desc_tables.specs.desc_parents.specs.Seen.{seen};
-ghost use Rattle.desc_tables.specs.Tables.{AreSound};
 ghost use Rattle.board_checks.specs.Refusals.{not_owner};
 
 use board_ops::Refused;
-use cache_ident::{KernelNo, Name, SpaceNo};
+use cache_ident::{Ident, KernelNo, Name, SpaceNo};
 use desc_tables::{ItemRef, Tables};
 
-/// The kernel that owns a descriptor; `None` where there is none of that name. The first kernel owns kernels, a kernel its
-/// spaces and what is in them. Two searches.
-pub fn owner_of(tables: &Tables, name: Name) -> Option<KernelNo>
-    ensures { result ≡ owner_in (seen tables.now.contents) name }
+/// The kernel that owns a descriptor that stands. The first kernel owns kernels, a kernel its spaces and what is in them. For a
+/// thread and a row it takes a search for their space, and constant time where `near` is the identifier that it is loaded with.
+pub(crate) fn owner_of(tables: &Tables, item: ItemRef<'_>, near: Option<Ident>) -> Option<KernelNo>
+    requires there { content_of tables.now.contents (name_of (shown item)) ≡ Some (shown item) }
+    ensures { result ≡ owner_in (seen tables.now.contents) (name_of (shown item.entry)) }
 {
-    is_sound(tables);
-    match name {
-        Name::Kernel(kernel) => first_kernel(tables, kernel),
-        Name::Space(space) => kernel_of(tables, space),
-        Name::Thread(_) => match tables.item(name)? {
-            ItemRef::Thread(thread) => kernel_of(tables, thread.space),
-            _ => None,
-        },
-        Name::Mapping(space, _) => {
-            tables.item(name)?;
-            kernel_of(tables, space)
-        }
+    tables.are_sound();
+    match item {
+        ItemRef::Kernel(_) => Some(KernelNo(0)),
+        ItemRef::Space(space) => Some(space.kernel),
+        ItemRef::Thread(thread) => kernel_of(tables, thread.space, near),
+        ItemRef::Mapping(row) => kernel_of(tables, row.space, near),
     }
 }
 
-// The first kernel, where there is one of that number.
-fn first_kernel(tables: &Tables, kernel: KernelNo) -> Option<KernelNo>
-    ensures { result ≡ owner_in (seen tables.now.contents) (Name.Kernel kernel) }
-{
-    is_sound(tables);
-    let there = tables.item(Name::Kernel(kernel)).is_some();
-    there.then_some(KernelNo(0))
-}
-
-/// The kernel of a space; `None` where there is no such space.
-pub(crate) fn kernel_of(tables: &Tables, space: SpaceNo) -> Option<KernelNo>
+/// The kernel of a space; `None` where there is no such space. Constant time where `near` is the identifier that it is loaded
+/// with.
+pub(crate) fn kernel_of(tables: &Tables, space: SpaceNo, near: Option<Ident>) -> Option<KernelNo>
     ensures { result ≡ owner_in (seen tables.now.contents) (Name.Space space) }
 {
-    is_sound(tables);
-    match tables.item(Name::Space(space)) {
+    tables.are_sound();
+    match tables.item_near(Name::Space(space), near) {
         Some(ItemRef::Space(found)) => Some(found.kernel),
         _ => None,
     }
 }
 
-/// Refuses what a kernel asks of a descriptor that another one owns (`NotOwner`).
-pub(crate) fn check_owner(tables: &Tables, given: KernelNo, name: Name) -> Result<(), Refused>
-    ensures { result_err result ≡ option_and_then (not_owner given) (owner_in (seen tables.now.contents) name) }
+/// Refuses what a kernel asks of a descriptor that another one owns (`NotOwner`). It costs what `owner_of` does.
+pub(crate) fn check_owner(
+    tables: &Tables,
+    given: KernelNo,
+    item: ItemRef<'_>,
+    near: Option<Ident>,
+) -> Result<(), Refused>
+    requires there { content_of tables.now.contents (name_of (shown item)) ≡ Some (shown item) }
+    ensures { result_err result ≡ option_and_then (not_owner given) (owner_in (seen tables.now.contents) (name_of (shown item.entry))) }
 {
-    match owner_of(tables, name) {
+    match owner_of(tables, item, near) {
         Some(owner) => are_same(given, owner),
         None => Ok(()),
     }
@@ -73,11 +65,4 @@ fn are_same(given: KernelNo, owner: KernelNo) -> Result<(), Refused>
     } else {
         Err(Refused::NotOwner { given, owner })
     }
-}
-
-/// Whoever asks the tables for their room learns what holds of them. It is asked here for that alone.
-pub(crate) fn is_sound(tables: &Tables)
-    ensures { (pairs : List (Ident × Node)) × AreSound tables.now pairs }
-{
-    let _ = tables.room();
 }

@@ -144,8 +144,8 @@ none_kept j (suc n) o there = elim (Contains-cases None (replicate n None) o the
   | inr behind ↦ none_kept j n o behind
 ]
 
-pub kept_unbegun : (j : List Entry) → AreAllAsOf j unbegun
-kept_unbegun j o there = none_kept j 8 o there
+pub kept_unbegun : (j : List Entry) (most : ℕ) → AreAllAsOf j (unbegun most)
+kept_unbegun j most o there = none_kept j most o there
 
 pub not_again : (vpn : Vpn) (frame : Frame) (flags : Flags) (row : Ident) (o : Option Dated) (a : Ahead) → is_some o ≡ false → again_with vpn frame flags row o a ≡ a
 not_again vpn frame flags row None a none = refl

@@ -6,3 +6,4 @@ pub mod ThreadLaws
 pub mod PageLaws
 pub mod CommitLaws
 pub mod MadeLaws
+pub mod CopyLaws

@@ -15,7 +15,7 @@ use Rattle.board_threads.specs.board_laws.specs.Moves.{KeepsLoaded}
 use Rattle.board_threads.specs.cached_machine.specs.Cached.{state_of}
 use Rattle.board_threads.specs.cached_machine.specs.Posts.{but_at, last_of, mark_of}
 use Rattle.board_threads.specs.board_core.specs.Core.{contents_of, Recorded}
-use Rattle.board_threads.specs.board_core.specs.Growth.{entries_of_run, GrowsBy, OnlyMakesRoom}
+use Rattle.board_threads.specs.board_core.specs.Growth.{entries_of_run, GrowsBy, IsRoomMade}
 use Rattle.board_threads.specs.board_core.proofs.RoomLaws.{grows_before, same_checkouts, same_sealed}
 use Rattle.board_threads.specs.declared.tickets.Ticket.{Ticket}
 use Rattle.board_commits.specs.Commits.{IsCommitted, MayBeCommitted}
@@ -25,7 +25,7 @@ events_of_run : (whom : ThreadNo) (steps cpu : ℕ) → erase (entries_of_run wh
 events_of_run whom zero cpu = refl
 events_of_run whom (suc n) cpu = append-nil (replicate (suc n) (Step whom))
 
-module _ (ticket : Ticket) (a : Ahead) (old mid new : Recorded) (room : OnlyMakesRoom old mid) (no : ThreadNo) (may : MayBeCommitted old ticket a no) (local_run : IsLocalRun a) where
+module _ (ticket : Ticket) (a : Ahead) (old mid new : Recorded) (room : IsRoomMade old mid) (no : ThreadNo) (may : MayBeCommitted old ticket a no) (local_run : IsLocalRun a) where
   abbrev s : FlatState
   s = state_of old.machine
 

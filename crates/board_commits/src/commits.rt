@@ -87,8 +87,7 @@ fn check_rows(tables: &Tables, views: &[PageView]) -> Result<(), Refused>
 fn is_gone(tables: &Tables, view: &PageView) -> bool
     ensures { result ≡ is_gone_def tables.now.contents view.now }
 {
-    // Whoever asks the tables for their room learns what holds of them.
-    let _ = tables.room();
+    tables.are_sound();
     tables.get(view.row()).is_none()
 }
 

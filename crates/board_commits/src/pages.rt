@@ -30,7 +30,7 @@ use thread_cache::ThreadRec;
 /// (`NotLoaded`). It costs a search, and a copy of the page where the quantum doesn't keep it since its frame changed last. It
 /// takes no memory.
 pub fn page(core: &Core, ticket: &Ticket, vpn: Vpn, quantum: &mut Quantum) -> Result<(), Refused>
-    requires room { IsTrue (can_fill quantum.old.views vpn) }
+    requires room { IsTrue (can_fill quantum.old.most quantum.old.views vpn) }
     requires kept { AreAllAsOf core.now.journal.entries quantum.old }
     ensures exact { result_err result ≡ refusal_of_page (contents_of core.now) ticket.now vpn }
     ensures refused { OnErr result (quantum.new ≡ quantum.old) }
@@ -63,7 +63,7 @@ fn row_loaded(core: &Core, space: SpaceNo, vpn: Vpn, ident: Ident) -> &Row
 
 // Adds the view of a page to a quantum: of what it keeps, where the page's frame hasn't changed since, and else copied from memory.
 fn add_page(core: &Core, vpn: Vpn, frame: Frame, flags: Flags, row: Ident, quantum: &mut Quantum)
-    requires room { IsTrue (can_fill quantum.old.views vpn) }
+    requires room { IsTrue (can_fill quantum.old.most quantum.old.views vpn) }
     requires kept { AreAllAsOf core.now.journal.entries quantum.old }
     requires frame { HasFrame core.now.machine.memory frame }
     ensures { HasPage core.now vpn frame flags row quantum.old quantum.new }

@@ -8,7 +8,7 @@ use Rattle.run_journal.proofs.Growth.{sealed_from, told_from-append}
 use Rattle.cached_machine.specs.Posts.{HasLoadedMarks, HasSameMarks}
 use Rattle.board_core.specs.Core.{contents_of, IsSound, Recorded}
 use Rattle.board_core.specs.Going.{AreMadeBy, GoesOn, Grew, IsOneEvent}
-use Rattle.board_core.specs.Growth.{GrowsBy, OnlyMakesRoom}
+use Rattle.board_core.specs.Growth.{GrowsBy, IsRoomMade}
 use Rattle.board_core.proofs.GrowthLaws.{grows_more}
 use Rattle.board_core.proofs.RoomLaws.{grows_nothing, same_checkouts, same_sealed}
 use Rattle.board_core.proofs.SoundLaws.{grows_by_none, loaded_marks}
@@ -74,7 +74,7 @@ goes_on cpu old new grew has checkouts =
 pub goes_on_so : (cpu : ℕ) (old new : Recorded) → Grew cpu old new → HasSameMarks (contents_of old) (contents_of new) → new.checkouts ≡ old.checkouts → GoesOn cpu old new
 goes_on_so cpu old new grew has checkouts = record { grew = grew; marks = λ whom by is. sym (has.marks whom) ∙ is; lasts = has.lasts; checkouts = checkouts }
 
-module _ (cpu : ℕ) (old new : Recorded) (room : OnlyMakesRoom old new) where
+module _ (cpu : ℕ) (old new : Recorded) (room : IsRoomMade old new) where
   pub room_grew : Grew cpu old new
   room_grew = record { entries = []; made = tt; grows = grows_nothing old new room; sealed = λ sealed. same_sealed old new room ∙ sealed }
 

@@ -35,7 +35,7 @@ use Rattle.cached_machine.specs.store_residents.proofs.ResidentLemmas.{live_iff}
 use Rattle.cached_machine.specs.desc_groups.specs.Moves.{idents_of, MayBeLocked}
 use Rattle.cached_machine.specs.desc_groups.specs.Whole.{AreWhole}
 use Rattle.cached_machine.specs.group_laws.specs.Leaving.{without_all}
-use Rattle.cached_machine.specs.desc_admits.specs.May.{MayBeLoaded}
+use Rattle.cached_machine.specs.desc_tables.specs.May.{MayBeLoaded}
 use Rattle.cached_machine.specs.desc_tables.specs.Calls.{HasPlacesFor}
 use Rattle.cached_machine.specs.board_laws.specs.Moves.{IsLoad, IsLock}
 use Rattle.cached_machine.specs.board_laws.specs.Telling.{AreAsTold}

@@ -31,7 +31,7 @@ use Rattle.cached_machine.specs.Cached.{state_of, Cached}
 use Rattle.cached_machine.specs.Posts.{HasLoadedMarks, HasSameMarks}
 use Rattle.cached_machine.proofs.MoveLaws.{loaded_as_before}
 use Rattle.board_core.specs.Core.{contents_of, IsSound, Recorded}
-use Rattle.cached_machine.specs.desc_tables.proofs.Remaining.{IsClosed}
+use Rattle.cached_machine.specs.desc_tables.proofs.Remaining.{KeepsParentsOfKept}
 use Rattle.board_core.specs.Growth.{MayWrite}
 use Rattle.board_core.proofs.SoundLaws.{loaded_marks, quiet_sound, same_marks, HasSoundTables}
 use Rattle.board_core.proofs.StampLaws.{AreQuiet}
@@ -95,7 +95,7 @@ pub quiet_gone : (cpu : ℕ) (gone : List Gone) (es : List Entry) → AreQuiet e
 quiet_gone cpu [] es quiet = quiet
 quiet_gone cpu (g ∷ gone) es quiet = (refl, quiet_gone cpu gone es quiet)
 
-module _ (caps : Caps) (c : Contents) (pairs : List (Ident × Node)) (whole : AreWhole caps c pairs) (loading : Name) (keep : List Ident) (closed : IsClosed (seen c) (residents_of c) keep) where
+module _ (caps : Caps) (c : Contents) (pairs : List (Ident × Node)) (whole : AreWhole caps c pairs) (loading : Name) (keep : List Ident) (closed : KeepsParentsOfKept (seen c) (residents_of c) keep) where
   -- there are places for the group of a victim, where there is room for the entries of all that isn't kept
   pub places_for : (at spare : ℕ) → count_by (is_unkept keep) (residents_of c) + 1 ≤ spare → at + spare < 2 ^ 64 → HasPlacesFor c loading keep at
   places_for at spare room fits full victim oldest r idents there same group =

@@ -17,7 +17,7 @@ use Rattle.cached_machine.specs.board_laws.specs.Moves.{ShowsTheSame}
 use Rattle.cached_machine.specs.Cached.{is_loaded}
 use Rattle.cached_machine.specs.Posts.{HasLoadedMarks, HasSameMarks, OnlyLoadedAreOut}
 use Rattle.board_core.specs.Core.{contents_of, Recorded}
-use Rattle.board_core.specs.Growth.{count_loaded, count_unkept, is_kept, GrowsBy, OnlyMakesRoom}
+use Rattle.board_core.specs.Growth.{count_loaded, count_unkept, is_kept, GrowsBy, IsRoomMade}
 use Rattle.board_core.proofs.GrowthLaws.{loaded_itself, same_marks_more}
 
 -- no more may leave than are loaded
@@ -25,7 +25,7 @@ pub few_unkept : (b : Recorded) (keep : List Ident) → count_unkept b keep ≤ 
 few_unkept b keep = count_by-le-length (λ (r : Resident). not (is_kept keep r)) (residents_of (contents_of b))
 
 -- room that is made twice is room that was made
-pub rooms_more : (a b c : Recorded) → OnlyMakesRoom a b → OnlyMakesRoom b c → OnlyMakesRoom a c
+pub rooms_more : (a b c : Recorded) → IsRoomMade a b → IsRoomMade b c → IsRoomMade a c
 rooms_more a b c first second = record {
   rest = second.rest ∙ ap (λ (x : Recorded). record x { machine = c.machine; journal = record x.journal { spare = c.journal.spare } }) first.rest;
   only = record {
@@ -43,7 +43,7 @@ rooms_more a b c first second = record {
   spare = let one = first.spare in let two = second.spare in omega arith;
 }
 
-module _ (old mid : Recorded) (room : OnlyMakesRoom old mid) where
+module _ (old mid : Recorded) (room : IsRoomMade old mid) where
   pub same_residents : residents_of (contents_of mid) ≡ residents_of (contents_of old)
   same_residents = room.only.loaded.residents
 

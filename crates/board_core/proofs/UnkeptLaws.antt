@@ -25,7 +25,7 @@ use Rattle.cached_machine.specs.desc_parents.specs.Seen.{seen}
 use Rattle.cached_machine.specs.desc_groups.specs.Whole.{AreWhole}
 use Rattle.cached_machine.specs.desc_groups.proofs.LeaveLemmas.{ident_of, idents_more, idents_to, splits}
 use Rattle.cached_machine.specs.desc_groups.proofs.LockLemmas.{residents_apart}
-use Rattle.cached_machine.specs.desc_tables.proofs.Remaining.{kept_stays, IsClosed}
+use Rattle.cached_machine.specs.desc_tables.proofs.Remaining.{kept_stays, KeepsParentsOfKept}
 use Rattle.board_core.specs.Growth.{is_kept}
 
 -- ---- what is kept
@@ -84,7 +84,7 @@ module _ (caps : Caps) (c : Contents) (pairs : List (Ident × Node)) (whole : Ar
         omega arith
 
   -- no group of what isn't kept is larger than what isn't kept
-  pub group_few : (keep : List Ident) → IsClosed (seen c) rs keep → (root : Resident) → Contains rs root → (Contains keep root.ident → ⊥) → (idents : List Ident) → IsGroup (seen c) rs root idents → length idents ≤ count_by (is_unkept keep) rs
+  pub group_few : (keep : List Ident) → KeepsParentsOfKept (seen c) rs keep → (root : Resident) → Contains rs root → (Contains keep root.ident → ⊥) → (idents : List Ident) → IsGroup (seen c) rs root idents → length idents ≤ count_by (is_unkept keep) rs
   group_few keep closed root there not_kept idents group =
       let counted = group_counts (is_unkept keep) root there idents group (λ r here within. unkept_passes keep r (λ kept. kept_stays (seen c) rs keep closed root idents group not_kept r.ident kept within)) in
       omega arith

@@ -3,12 +3,12 @@ use Rattle.std.specs.Prelude.{◌≡◌, ℕ, ◌+◌, ◌≤◌, ◌⊎◌, Opt
 use Rattle.board_ops.specs.declared.refusals.Refused.{Refused}
 use Rattle.board_ops.specs.declared.refusals.Refused.TheVariants.{NoMemory}
 use Rattle.board_core.specs.Core.{contents_of, Recorded}
-use Rattle.board_core.specs.Growth.{count_loaded, OnlyMakesRoom}
+use Rattle.board_core.specs.Growth.{count_loaded, IsRoomMade}
 
 -- It was refused for want of memory, or for the reason that there is. All but room is as it was.
 pub record IsRefused (refusal : Option Refused) (old new : Recorded) (given : Refused) : Type 0 where
   pub why : (given ≡ NoMemory) ⊎ (refusal ≡ Some given)
-  pub only : OnlyMakesRoom old new
+  pub only : IsRoomMade old new
 
 -- beside what is loaded, so many identifiers and entries more take no memory
 pub record HasSpare (b : Recorded) (more : ℕ) : Type 0 where

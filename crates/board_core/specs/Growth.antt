@@ -43,7 +43,7 @@ pub record KeepsPlaces (old new : Recorded) : Type 0 where
   pub spare : (contents_of new).spare ≡ (contents_of old).spare
 
 -- nothing changed but room, and none fell
-pub record OnlyMakesRoom (old new : Recorded) : Type 0 where
+pub record IsRoomMade (old new : Recorded) : Type 0 where
   pub rest : new ≡ record old { machine = new.machine; journal = record old.journal { spare = new.journal.spare } }
   pub only : OnlyRoom old.machine new.machine
   pub spare : old.journal.spare ≤ new.journal.spare

@@ -1,7 +1,6 @@
 pub use Rattle.cached_machine.specs.board_laws
 pub use Rattle.board_ops
 pub use Rattle.cached_machine
-pub use Rattle.cached_machine.specs.desc_admits
 pub use Rattle.cached_machine.specs.desc_groups
 pub use Rattle.cached_machine.specs.desc_parents
 pub use Rattle.cached_machine.specs.desc_stores

@@ -105,7 +105,7 @@ impl Core {
     {
         self.holds();
         let tables = self.machine.tables();
-        let _ = tables.room();
+        tables.are_sound();
         tables
     }
 
@@ -171,7 +171,7 @@ pub(crate) fn known(machine: &CachedMachine)
     ensures sound { (pairs : List (Ident × Node)) × AreSound machine.now.held pairs }
     ensures few { length (residents_of machine.now.held.contents) < 2 ^ 34 }
 {
-    let _ = machine.room();
+    machine.tables_are_sound();
     let _ = count_of(machine.tables().caps());
 }
 

@@ -9,7 +9,7 @@ ghost use Rattle.cached_machine.specs.desc_stores.specs.Changes.{room_of};
 ghost use Rattle.cached_machine.specs.Cached.{state_of};
 ghost use Rattle.cached_machine.specs.Posts.{HasSameMarks};
 ghost use Rattle.board_core.specs.Core.{contents_of};
-ghost use Rattle.board_core.specs.Growth.{GrowsBy, KeepsPlaces, OnlyMakesRoom};
+ghost use Rattle.board_core.specs.Growth.{GrowsBy, KeepsPlaces, IsRoomMade};
 ghost use Rattle.board_core.specs.Stamps.{frame_declared as frame_declared_def};
 
 use crate::core_record::{Core, known, next_place, note, put_stamp};
@@ -23,7 +23,7 @@ impl Core {
         requires open { self.old.sealed ≡ false }
         requires fits { broken_rule (state_of self.old.machine) decl.now ≡ None }
         ensures ok { OnOk result (GrowsBy (Declared decl.now ∷ []) self.old self.new × KeepsPlaces self.old self.new) }
-        ensures err { OnErr result (OnlyMakesRoom self.old self.new) }
+        ensures err { OnErr result (IsRoomMade self.old self.new) }
         ensures enough { 1 ≤ self.old.journal.spare → 0 < room_of (contents_of self.old) → 0 < self.old.machine.sets.room → IsOk result }
     {
         self.journal.reserve(1)?;

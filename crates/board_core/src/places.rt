@@ -9,7 +9,7 @@ ghost use Rattle.run_journal.specs.declared.entries.Entry.TheVariants.{Loaded, L
 ghost use Rattle.cached_machine.specs.desc_groups.specs.Moves.{MayBeLocked};
 ghost use Rattle.cached_machine.specs.desc_stores.specs.Changes.{room_of};
 ghost use Rattle.cached_machine.specs.desc_stores.specs.Contents.{LockIs};
-ghost use Rattle.cached_machine.specs.desc_admits.specs.May.{MayBeLoaded};
+ghost use Rattle.cached_machine.specs.desc_tables.specs.May.{MayBeLoaded};
 ghost use Rattle.cached_machine.specs.board_laws.specs.Moves.{written_back, IsLoad, IsLock, IsUnload};
 ghost use Rattle.cached_machine.specs.Posts.{mark_of, HasLoadedMarks, HasSameMarks};
 ghost use Rattle.board_core.specs.Core.{contents_of};

@@ -3,7 +3,7 @@
 ghost use Rattle.std.specs.Prelude.{◌≡◌, ◌+◌, ◌≤◌, ◌<◌, min, IsOk, OnErr, OnOk};
 ghost use Rattle.cached_machine.specs.desc_stores.specs.Changes.{room_of};
 ghost use Rattle.board_core.specs.Core.{contents_of};
-ghost use Rattle.board_core.specs.Growth.{count_loaded, OnlyMakesRoom};
+ghost use Rattle.board_core.specs.Growth.{count_loaded, IsRoomMade};
 
 use crate::core_record::{Core, known};
 use cache_ident::NoMemory;
@@ -25,7 +25,7 @@ impl Core {
 
     /// Makes `spare` at least `n`. Where memory is wanted `spare` stays.
     pub fn reserve(&mut self, n: usize) -> Result<(), NoMemory>
-        ensures only { OnlyMakesRoom self.old self.new }
+        ensures only { IsRoomMade self.old self.new }
         ensures ok { OnOk result ((n ≤ self.new.journal.spare) × (n ≤ (contents_of self.new).spare)) }
         ensures enough { n ≤ self.old.journal.spare → n ≤ (contents_of self.old).spare → IsOk result }
         ensures err { OnErr result (min self.new.journal.spare (contents_of self.new).spare ≡ min self.old.journal.spare (contents_of self.old).spare) }
@@ -48,7 +48,7 @@ impl Core {
     /// Where `spare` is at least what is loaded and the two numbers together, it takes no memory.
     pub fn make_room(&mut self, loads: usize, entries: usize) -> Result<(), NoMemory>
         requires few { loads + entries ≤ 64 }
-        ensures only { OnlyMakesRoom self.old self.new }
+        ensures only { IsRoomMade self.old self.new }
         ensures ok { OnOk result ((loads ≤ (contents_of self.new).spare) × (count_loaded self.old + loads + entries ≤ self.new.journal.spare)) }
         ensures enough { loads ≤ (contents_of self.old).spare → count_loaded self.old + loads + entries ≤ self.old.journal.spare → IsOk result }
     {
@@ -62,7 +62,7 @@ impl Core {
 
     /// Makes room for so many entries, where nothing comes or leaves.
     pub fn make_entries(&mut self, entries: usize) -> Result<(), NoMemory>
-        ensures only { OnlyMakesRoom self.old self.new }
+        ensures only { IsRoomMade self.old self.new }
         ensures ok { OnOk result (entries ≤ self.new.journal.spare) }
         ensures enough { entries ≤ self.old.journal.spare → IsOk result }
     {
@@ -71,7 +71,7 @@ impl Core {
 
     /// Makes room for a declaration, so that it takes no memory.
     pub fn make_declarable(&mut self) -> Result<(), NoMemory>
-        ensures only { OnlyMakesRoom self.old self.new }
+        ensures only { IsRoomMade self.old self.new }
         ensures ok { OnOk result ((0 < room_of (contents_of self.new)) × (0 < self.new.machine.sets.room)) }
         ensures enough { 0 < room_of (contents_of self.old) → 0 < self.old.machine.sets.room → IsOk result }
     {

@@ -19,7 +19,7 @@ ghost use Rattle.cached_machine.specs.board_laws.specs.Moves.{KeepsLoaded};
 ghost use Rattle.cached_machine.specs.Cached.{state_of};
 ghost use Rattle.cached_machine.specs.Posts.{but_at, last_of, mark_of};
 ghost use Rattle.board_core.specs.Core.{contents_of};
-ghost use Rattle.board_core.specs.Growth.{entries_of_run, entry_of_step as entry_of_step_def, AreOfLoaded, GrowsBy, KeepsPlaces, MayWrite, OnlyMakesRoom};
+ghost use Rattle.board_core.specs.Growth.{entries_of_run, entry_of_step as entry_of_step_def, AreOfLoaded, GrowsBy, KeepsPlaces, MayWrite, IsRoomMade};
 ghost use Rattle.board_core.specs.Stamps.{frame_stored as frame_stored_def};
 
 use crate::core_record::{Core, known, note, put_stamp};
@@ -127,7 +127,7 @@ impl Core {
         requires good { AreGood (applied (state_of self.old.machine) (Complete no)) (residents_of (contents_of self.old)) }
         requires write { MayWrite self.old cpu 1 }
         ensures ok { OnOk result (GrowsBy (Completed no cpu ∷ []) self.old self.new × KeepsPlaces self.old self.new) }
-        ensures err { OnErr result (OnlyMakesRoom self.old self.new) }
+        ensures err { OnErr result (IsRoomMade self.old self.new) }
         ensures enough { OfThread (state_of self.old.machine) no.0 (λ t. asked_of (state_of self.old.machine) t ≢ Nothing) → 0 < room_of (contents_of self.old) → 0 < self.old.machine.sets.room → IsOk result }
     {
         let completed = self.machine.complete(no);

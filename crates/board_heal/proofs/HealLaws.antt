@@ -35,12 +35,12 @@ use Rattle.board_core.specs.board_ops.specs.declared.refusals.Refused.TheVariant
 use Rattle.board_core.specs.board_laws.proofs.Growing.{formed_told}
 use Rattle.board_core.specs.cached_machine.specs.Cached.{is_loaded, state_of, Cached}
 use Rattle.board_core.specs.cached_machine.specs.Posts.{mark_of, HasLoadedMarks}
-use Rattle.board_chains.specs.Chains.{rows_in_order, row_parents, AreParentsFirst, IsChainInOrder, IsClosed, IsFewByKind, MayBeChained}
-use Rattle.board_chains.specs.Lists.{has, with_any, AreApart}
+use Rattle.board_chains.specs.Chains.{rows_in_order, row_parents, AreParentsFirst, IsChainInOrder, HoldsAllParents, IsFewByKind, MayBeChained}
+use Rattle.board_chains.specs.Lists.{has, with_any, AreAllOnce}
 use Rattle.board_chains.proofs.ChainLemmas.{closed_at}
 use Rattle.board_chains.proofs.WholeLemmas.{any_stays, any_there, if_ready, thread_there}
 use Rattle.board_core.specs.Core.{contents_of, IsSound, Recorded}
-use Rattle.board_core.specs.Growth.{count_loaded, entry_of_step, GrowsBy, KeepsPlaces, OnlyMakesRoom}
+use Rattle.board_core.specs.Growth.{count_loaded, entry_of_step, GrowsBy, KeepsPlaces, IsRoomMade}
 use Rattle.board_core.specs.Refusals.{not_ready, not_waiting, over}
 use Rattle.board_core.proofs.CheckLaws.{enough_left, ready_is}
 use Rattle.board_core.proofs.GrowthLaws.{grows_more, same_marks_more}
@@ -127,7 +127,7 @@ some_kept None d x is = absurd (cc)
 some_kept (Some y) d x is = refl
 
 -- the same holds behind room that was made
-module _ (old mid : Recorded) (whom : ThreadNo) (room : OnlyMakesRoom old mid) (can : IsHealable old whom) where
+module _ (old mid : Recorded) (whom : ThreadNo) (room : IsRoomMade old mid) (can : IsHealable old whom) where
   pub here_still : slice_get (state_of mid.machine).threads whom.0 ≡ Some can.thread
   here_still = ap (λ (s : FlatState). slice_get s.threads whom.0) room.only.state ∙ can.there
 
@@ -150,13 +150,13 @@ step_event cpu whom false = refl
 
 module _ (cpu : ℕ) (whom : ThreadNo) (old b : Recorded) (s : FlatState) (formed : IsWellFormed s) (same : state_of old.machine ≡ s) (next : NextStep) (chain : List Name)
     (order : IsChainInOrder s whom.0 next chain) (i : ℕ) (way : AreLoadedTo cpu chain i old b) where
-  closed : IsClosed s chain
+  closed : HoldsAllParents s chain
   closed name there parent depends = (order.each parent).1 (closed_at s formed whom.0 name ((order.each name).0 there) parent depends)
 
   state_is : s ≡ state_of b.machine
   state_is = sym (way.state ∙ same)
 
-  pub may_come : (once : AreApart chain) → IsFewByKind chain → AreParentsFirst s chain → ((name : Name) → Contains chain name → MayBeChained s name) → (name : Name) → slice_get chain i ≡ Some name → MayComeNext b chain name
+  pub may_come : (once : AreAllOnce chain) → IsFewByKind chain → AreParentsFirst s chain → ((name : Name) → Contains chain name → MayBeChained s name) → (name : Name) → slice_get chain i ≡ Some name → MayComeNext b chain name
   may_come once few first good name at =
       let within = slice_get_within chain i name at in
       let listed = Contains-from_get chain i name at in
@@ -164,7 +164,7 @@ module _ (cpu : ℕ) (whom : ThreadNo) (old b : Recorded) (s : FlatState) (forme
         listed = listed;
         once = once;
         few = few;
-        closed = subst (λ (x : FlatState). IsClosed x chain) state_is closed;
+        closed = subst (λ (x : FlatState). HoldsAllParents x chain) state_is closed;
         good = subst (λ (x : FlatState). MayBeChained x name) state_is (good name listed);
         parents = λ parent depends. way.there parent (first i name parent at (subst (λ (x : FlatState). Depends x name parent) (sym state_is) depends));
         room = let fits = way.room in omega arith;
@@ -207,7 +207,7 @@ module _ (cpu : ℕ) (whom : ThreadNo) (old b : Recorded) (s : FlatState) (forme
     thread_loaded = there (Thread whom) ((order.each (Thread whom)).1 (thread_there s formed whom t here next known ready))
 
     -- no step was taken yet
-    pub steps_still : (mid : Recorded) → OnlyMakesRoom old mid → IsSound mid → IsSound b → b.steps ≡ old.steps
+    pub steps_still : (mid : Recorded) → IsRoomMade old mid → IsSound mid → IsSound b → b.steps ≡ old.steps
     steps_still mid room mid_sound sound =
         sound.steps
         ∙ ap steps_in way.grows.entries
@@ -275,12 +275,12 @@ has_stepped cpu whom old new healed = record {
 
 pub record IsChain (s : FlatState) (n : ℕ) (next : NextStep) (names : List Name) : Type 0 where
   pub order : IsChainInOrder s n next names
-  pub once : AreApart names
+  pub once : AreAllOnce names
   pub few : IsFewByKind names
   pub parents : AreParentsFirst s names
   pub good : (name : Name) → Contains names name → MayBeChained s name
 
-pub chain_so : (given m : Cached) → given ≡ m → (n : ℕ) (next : NextStep) (items names : List Name) → names ≡ items → IsChainInOrder (state_of given) n next items → AreApart items → IsFewByKind items → AreParentsFirst (state_of given) items
+pub chain_so : (given m : Cached) → given ≡ m → (n : ℕ) (next : NextStep) (items names : List Name) → names ≡ items → IsChainInOrder (state_of given) n next items → AreAllOnce items → IsFewByKind items → AreParentsFirst (state_of given) items
     → ((name : Name) → Contains items name → MayBeChained (state_of given) name) → IsChain (state_of m) n next names
 chain_so given m same n next items names are order once few parents good = subst (IsChain (state_of m) n next) (sym are) (subst (λ (x : Cached). IsChain (state_of x) n next items) same (record { order = order; once = once; few = few; parents = parents; good = good }))
 

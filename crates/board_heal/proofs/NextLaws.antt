@@ -28,9 +28,9 @@ use Rattle.board_core.specs.desc_parents.specs.Seen.{seen}
 use Rattle.board_core.specs.desc_parents.proofs.IdentLemmas.{ident_back, ident_found, ident_none}
 use Rattle.board_core.specs.desc_groups.specs.declared.departures.Gone.{Gone}
 use Rattle.board_core.specs.desc_groups.specs.Moves as moves
-use Rattle.board_core.specs.desc_admits.specs.May.{kept_of, wanted_of, MayBeLoaded}
+use Rattle.board_core.specs.desc_tables.specs.May.{kept_of, wanted_of, MayBeLoaded}
 use Rattle.board_core.specs.desc_tables.specs.Tables.{AreSound}
-use Rattle.board_core.specs.desc_tables.proofs.Remaining.{IsClosed}
+use Rattle.board_core.specs.desc_tables.proofs.Remaining.{KeepsParentsOfKept}
 use Rattle.board_core.specs.board_laws.specs.Moves.{IsLoad}
 use Rattle.board_core.specs.cached_machine.specs.Cached.{state_of}
 use Rattle.board_chains.specs.Lists.{has}
@@ -141,7 +141,7 @@ module _ (b : Recorded) (pairs : List (Ident × Node)) (sound : AreSound b.machi
   depends_so : (child parent : Name) → Depends (seen c) child parent → Depends (state_of b.machine) child parent
   depends_so child parent depends = subst (λ (names : List Name). Contains names parent) (sym (same_parents (Some b.machine.machine) b.machine.memory c child)) depends
 
-  closed_in : IsClosed (seen c) rs keep
+  closed_in : KeepsParentsOfKept (seen c) rs keep
   closed_in r parent there kept parent_there depends = in_keep parent parent_there (may.closed r.name (from_keep r there kept) parent.name (depends_so r.name parent.name depends))
 
   pub may_load : (IsNameResident rs name → ⊥) → MayBeLoaded c name keep

@@ -26,10 +26,10 @@ use Rattle.board_core.specs.cached_machine.specs.Cached.{is_loaded, state_of}
 use Rattle.board_core.specs.cached_machine.specs.Posts.{mark_of, HasLoadedMarks, OnlyLoadedAreOut}
 use Rattle.board_core.specs.cached_machine.proofs.AlikeLaws.{same_loaded}
 use Rattle.board_core.specs.cached_machine.proofs.LoadedLaws.{loaded_by, loads, not_loaded}
-use Rattle.board_chains.specs.Lists.{AreApart}
+use Rattle.board_chains.specs.Lists.{AreAllOnce}
 use Rattle.board_chains.proofs.ListLemmas.{apart_before}
 use Rattle.board_core.specs.Core.{contents_of, Recorded}
-use Rattle.board_core.specs.Growth.{OnlyMakesRoom}
+use Rattle.board_core.specs.Growth.{IsRoomMade}
 use Rattle.board_core.proofs.GrowthLaws.{grows_more}
 use Rattle.board_core.proofs.RoomLaws.{grows_nothing, loaded_marks_still, same_residents}
 use Rattle.board_loads.proofs.GoneLaws.{erase_load}
@@ -108,10 +108,10 @@ marks_further old mid new out first second came = record {
 -- ---- at the beginning
 
 -- who isn't loaded was on no processor before the room was made either
-pub out_before : (old mid : Recorded) → OnlyMakesRoom old mid → OnlyLoadedAreOut (contents_of mid) → OnlyLoadedAreOut (contents_of old)
+pub out_before : (old mid : Recorded) → IsRoomMade old mid → OnlyLoadedAreOut (contents_of mid) → OnlyLoadedAreOut (contents_of old)
 out_before old mid room out whom absent = sym (room.only.marks.marks whom) ∙ out whom (same_loaded (contents_of old) (contents_of mid) (same_residents old mid room) (Thread whom) ∙ absent)
 
-module _ (cpu : ℕ) (chain : List Name) (old mid : Recorded) (room : OnlyMakesRoom old mid) (out : OnlyLoadedAreOut (contents_of old)) where
+module _ (cpu : ℕ) (chain : List Name) (old mid : Recorded) (room : IsRoomMade old mid) (out : OnlyLoadedAreOut (contents_of old)) where
   pub none_yet : count_others mid chain + length chain + 1 ≤ mid.journal.spare → length chain ≤ (contents_of mid).spare → AreLoadedTo cpu chain 0 old mid
   none_yet fits issues = record {
     begun = mid;
@@ -133,7 +133,7 @@ module _ (cpu : ℕ) (chain : List Name) (old mid : Recorded) (room : OnlyMakesR
 
 -- ---- one name further
 
-module _ (cpu : ℕ) (chain : List Name) (old mid new : Recorded) (i : ℕ) (name : Name) (at : slice_get chain i ≡ Some name) (apart : AreApart chain) (way : AreLoadedTo cpu chain i old mid) (out : OnlyLoadedAreOut (contents_of old)) where
+module _ (cpu : ℕ) (chain : List Name) (old mid new : Recorded) (i : ℕ) (name : Name) (at : slice_get chain i ≡ Some name) (apart : AreAllOnce chain) (way : AreLoadedTo cpu chain i old mid) (out : OnlyLoadedAreOut (contents_of old)) where
   abbrev first : List Name
   first = take i chain
 

@@ -14,7 +14,7 @@ use Rattle.board_core.specs.cached_machine.specs.Cached.{state_of}
 use Rattle.board_core.specs.cached_machine.specs.Posts.{HasLoadedMarks}
 use Rattle.board_chains.specs.Chains.{IsChainInOrder, IsFewByKind}
 use Rattle.board_core.specs.Core.{contents_of, Recorded}
-use Rattle.board_core.specs.Growth.{entry_of_step, GrowsBy, OnlyMakesRoom}
+use Rattle.board_core.specs.Growth.{entry_of_step, GrowsBy, IsRoomMade}
 use Rattle.board_heal.specs.Loads.{is_to_load, AreLoads}
 
 -- A processor loaded what was missing of the chain of a thread's next step, in order, and took the step, which fits. Before the
@@ -28,7 +28,7 @@ pub record IsHealed (cpu : ℕ) (whom : ThreadNo) (old new : Recorded) : Type 0 
   pub order : IsChainInOrder (state_of old.machine) whom.0 next chain
   pub few : IsFewByKind chain
   pub begun : Recorded
-  pub begins : OnlyMakesRoom old begun
+  pub begins : IsRoomMade old begun
   pub loaded : Contents
   pub loads : List Entry
   pub are : AreLoads cpu old.machine.held.caps chain (filter (is_to_load (contents_of old)) chain) (contents_of begun) (length old.journal.entries) loaded loads

@@ -12,14 +12,14 @@ use Rattle.board_core.specs.desc_stores.specs.Contents.{residents_of, Contents}
 use Rattle.board_core.specs.desc_parents.specs.Idents.{idents_of}
 use Rattle.board_core.specs.desc_groups.specs.declared.departures.Gone.{Gone}
 use Rattle.board_core.specs.desc_groups.specs.Whole.{AreWhole}
-use Rattle.board_core.specs.desc_admits.specs.May.{MayBeLoaded}
+use Rattle.board_core.specs.desc_tables.specs.May.{MayBeLoaded}
 use Rattle.board_core.specs.board_laws.specs.Moves.{written_back, IsLoad}
 use Rattle.board_core.specs.cached_machine.specs.Cached.{is_loaded, state_of}
 use Rattle.board_core.specs.cached_machine.specs.Posts.{HasLoadedMarks}
-use Rattle.board_chains.specs.Chains.{IsClosed, IsFewByKind, MayBeChained}
-use Rattle.board_chains.specs.Lists.{has, AreApart}
+use Rattle.board_chains.specs.Chains.{HoldsAllParents, IsFewByKind, MayBeChained}
+use Rattle.board_chains.specs.Lists.{has, AreAllOnce}
 use Rattle.board_core.specs.Core.{contents_of, Recorded}
-use Rattle.board_core.specs.Growth.{GrowsBy, OnlyMakesRoom}
+use Rattle.board_core.specs.Growth.{GrowsBy, IsRoomMade}
 
 -- the name isn't loaded
 abbrev pub is_to_load : Contents → Name → Bool
@@ -53,9 +53,9 @@ count_others b chain = count_by (λ r. not (has chain r.name)) (residents_of (co
 -- entries and the identifier.
 pub record MayComeNext (b : Recorded) (chain : List Name) (name : Name) : Type 0 where
   pub listed : Contains chain name
-  pub once : AreApart chain
+  pub once : AreAllOnce chain
   pub few : IsFewByKind chain
-  pub closed : IsClosed (state_of b.machine) chain
+  pub closed : HoldsAllParents (state_of b.machine) chain
   pub good : MayBeChained (state_of b.machine) name
   pub parents : HasParents (state_of b.machine) (residents_of (contents_of b)) name
   pub room : count_others b chain + 1 ≤ b.journal.spare
@@ -85,7 +85,7 @@ IsThereNow cpu chain name old new =
 -- chain has left.
 pub record AreLoadedTo (cpu : ℕ) (chain : List Name) (i : ℕ) (old new : Recorded) : Type 0 where
   pub begun : Recorded
-  pub begins : OnlyMakesRoom old begun
+  pub begins : IsRoomMade old begun
   pub loads : List Entry
   pub are : AreLoads cpu old.machine.held.caps chain (filter (is_to_load (contents_of old)) (take i chain)) (contents_of begun) (length old.journal.entries) (contents_of new) loads
   pub grows : GrowsBy loads old new

@@ -34,6 +34,6 @@ pub(crate) fn machine_of(core: &Core) -> &CachedMachine
 {
     core.holds();
     let machine = core.machine();
-    let _ = machine.room();
+    machine.tables_are_sound();
     machine
 }

@@ -54,30 +54,30 @@ use Rattle.desc_tables.specs.desc_parents.specs.Seen.{seen}
 use Rattle.desc_tables.specs.desc_groups.specs.declared.departures.Gone.{Gone}
 use Rattle.desc_tables.specs.desc_groups.specs.Moves.{idents_of, MayBeLocked}
 use Rattle.desc_tables.specs.desc_groups.specs.Whole.{AreWhole}
-use Rattle.desc_tables.specs.desc_admits.specs.May.{wanted_of, MayBeDeclared, MayBeLoaded}
+use Rattle.desc_tables.specs.May.{wanted_of, MayBeDeclared, MayBeLoaded}
 use Rattle.board_laws.specs.Moves.{Declares, IsLoad}
 use Rattle.board_laws.proofs.First.{first}
 use Rattle.board_laws.proofs.Shown.{limit_shown}
 
-none_from : {X : Type 0} (o : Option X) → is_some o ≡ false → o ≡ None
+pub none_from : {X : Type 0} (o : Option X) → is_some o ≡ false → o ≡ None
 none_from None e = refl
 none_from (Some x) e = absurd (cc)
 
-and_second : (a b : Bool) → a ≡ true → (a && b) ≡ false → b ≡ false
+pub and_second : (a b : Bool) → a ≡ true → (a && b) ≡ false → b ≡ false
 and_second true b is e = e
 and_second false b is e = absurd (cc)
 
-some_within : {X : Type 0} (xs : List X) (n : ℕ) → n < length xs → is_some (slice_get xs n) ≡ true
+pub some_within : {X : Type 0} (xs : List X) (n : ℕ) → n < length xs → is_some (slice_get xs n) ≡ true
 some_within xs n within = elim (slice_get_cases xs n).1 [
   | inl found ↦ ap is_some found.2
   | inr past ↦ absurd (let low = past.0 in omega arith)
 ]
 
-none_past : {X : Type 0} (xs : List X) (n : ℕ) → n ≡ length xs → is_some (slice_get xs n) ≡ false
+pub none_past : {X : Type 0} (xs : List X) (n : ℕ) → n ≡ length xs → is_some (slice_get xs n) ≡ false
 none_past xs n is = ap is_some (slice_get_past xs n (omega arith))
 
 -- what is left beside the limits is left of each kind
-room_left : (granted caps limits : Caps) → leaves_room caps granted limits ≡ true → (of : Kind) → amount_of granted of + (amount_of limits of + wanted_of of) ≤ amount_of caps of
+pub room_left : (granted caps limits : Caps) → leaves_room caps granted limits ≡ true → (of : Kind) → amount_of granted of + (amount_of limits of + wanted_of of) ≤ amount_of caps of
 room_left granted caps limits e of = by of
   where
     kernels : (nat_le (granted.kernels + limits.kernels + 5) caps.kernels ≡ true) × ((nat_le (granted.spaces + limits.spaces + 5) caps.spaces && (nat_le (granted.threads + limits.threads + 5) caps.threads && nat_le (granted.mappings + limits.mappings + 6) caps.mappings)) ≡ true)

@@ -1,4 +1,3 @@
-pub use Rattle.desc_tables.specs.desc_admits
 pub use Rattle.desc_tables.specs.desc_groups
 pub use Rattle.desc_tables.specs.desc_parents
 pub use Rattle.desc_tables.specs.desc_stores

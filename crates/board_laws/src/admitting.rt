@@ -16,7 +16,7 @@ ghost use Rattle.desc_tables.specs.shown_state.specs.Shown.{shown};
 ghost use Rattle.desc_tables.specs.desc_groups.specs.declared.departures.Gone.{Gone};
 ghost use Rattle.desc_tables.specs.desc_groups.specs.Moves.{MayBeLocked};
 ghost use Rattle.desc_tables.specs.desc_groups.specs.Whole.{AreWhole};
-ghost use Rattle.desc_tables.specs.desc_admits.specs.May.{MayBeDeclared, MayBeLoaded};
+ghost use Rattle.desc_tables.specs.May.{MayBeDeclared, MayBeLoaded};
 ghost use Rattle.desc_tables.specs.Calls.{HasPlacesFor};
 ghost use Rattle.board_laws.specs.Moves.{Declares, IsLoad};
 ghost use Rattle.board_laws.specs.Telling.{AreAsTold};

@@ -28,7 +28,7 @@ use Rattle.board_core.specs.desc_groups.specs.declared.departures.Gone.{Gone}
 use Rattle.board_core.specs.desc_groups.specs.Moves.{idents_of}
 use Rattle.board_core.specs.desc_groups.specs.Whole.{AreWhole}
 use Rattle.board_core.specs.board_laws.specs.Moves.{written_back, IsLoad}
-use Rattle.board_core.specs.desc_tables.proofs.Remaining.{kept_stays, IsClosed}
+use Rattle.board_core.specs.desc_tables.proofs.Remaining.{kept_stays, KeepsParentsOfKept}
 use Rattle.board_core.proofs.GrowthLaws.{erase_back}
 use Rattle.board_core.proofs.UnkeptLaws.{group_counts}
 
@@ -51,14 +51,14 @@ module _ (caps : Caps) (c : Contents) (pairs : List (Ident × Node)) (whole : Ar
         ]
 
     -- what is kept hasn't left
-    pub not_gone : IsClosed (seen c) rs keep → (kept : Ident) → Contains keep kept → Contains (idents_of gone) kept → ⊥
+    pub not_gone : KeepsParentsOfKept (seen c) rs keep → (kept : Ident) → Contains keep kept → Contains (idents_of gone) kept → ⊥
     not_gone closed kept there left = elim gone_cases [
       | inl none ↦ contains_nothing kept (subst (λ (g : List Gone). Contains (idents_of g) kept) none left)
       | inr some ↦ kept_stays (seen c) rs keep closed some.0 (idents_of gone) some.2 some.1.may_go.not_kept kept there left
     ]
 
     -- .. and so is still loaded
-    pub kept_is_there : IsClosed (seen c) rs keep → (r : Resident) → Contains rs r → Contains keep r.ident → Contains (residents_of new) r
+    pub kept_is_there : KeepsParentsOfKept (seen c) rs keep → (r : Resident) → Contains rs r → Contains keep r.ident → Contains (residents_of new) r
     kept_is_there closed r there kept =
         subst (λ (all : List Resident). Contains all r) (sym is.residents) (Contains-append_left (without_all (idents_of gone) rs) _ r (stays_without_all (idents_of gone) rs r there (not_gone closed r.ident kept)))
 

@@ -22,7 +22,7 @@ use Rattle.board_core.specs.board_laws.proofs.First.{first, first_there}
 use Rattle.board_core.specs.cached_machine.specs.Cached.{state_of}
 use Rattle.board_core.specs.cached_machine.specs.Posts.{HasLoadedMarks, HasSameMarks}
 use Rattle.board_core.specs.Core.{contents_of, IsSound, Recorded}
-use Rattle.board_core.specs.Growth.{GrowsBy, OnlyMakesRoom}
+use Rattle.board_core.specs.Growth.{GrowsBy, IsRoomMade}
 use Rattle.board_loads.specs.Holds.{entries_of_lock, IsLockedAs, IsUnloadedAs}
 use Rattle.board_core.proofs.GrowthLaws.{erase_back}
 use Rattle.board_core.proofs.RoomLaws.{grows_before, loaded_marks_before, same_checkouts, same_entries, same_issued, same_marks_before, same_residents, same_sealed, same_seen}
@@ -38,7 +38,7 @@ another_ident b sound sealed ident n r other is =
     let one : r.0 ≡ first true = same_Some r.0 (first true) (sym (loaded_as (contents_of b) first_ident r.0 r.1 (r.2 ∙ is)) ∙ resident_loaded (contents_of b) (first true) there) in
     other (sym r.3 ∙ ap (λ (x : Resident). x.name) one)
 
-module _ (old mid : Recorded) (room : OnlyMakesRoom old mid) (ident : Ident) (n : Name) (r : IsResident (residents_of (contents_of old)) ident n) where
+module _ (old mid : Recorded) (room : IsRoomMade old mid) (ident : Ident) (n : Name) (r : IsResident (residents_of (contents_of old)) ident n) where
   here : Contains (residents_of (contents_of mid)) r.0
   here = subst (λ (rs : List Resident). Contains rs r.0) (sym (same_residents old mid room)) r.1
 

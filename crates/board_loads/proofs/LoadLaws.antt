@@ -17,7 +17,7 @@ use Rattle.cache_ident.specs.Names.{amount_of, kind_of}
 use Rattle.cache_ident.specs.Residents.{with_loaded, Resident}
 use Rattle.cache_ident.specs.Rolls.{just_issued}
 use Rattle.depend_lists.specs.declared.nodes.Node.{Node}
-use Rattle.flat_state.specs.Dependence.{Depends, DependsFar}
+use Rattle.flat_state.specs.Dependence.{Depends}
 use Rattle.flat_state.specs.Names.{is_fit_name, stands}
 use Rattle.flat_state.specs.Events.{after_events}
 use Rattle.flat_state.specs.State.{FlatState}
@@ -33,27 +33,32 @@ use Rattle.board_core.specs.store_residents.proofs.SlotLaws.{full_iff}
 use Rattle.board_core.specs.desc_parents.specs.Seen.{seen}
 use Rattle.board_core.specs.desc_groups.specs.declared.departures.Gone.{Gone}
 use Rattle.board_core.specs.desc_groups.specs.Moves.{departed_all, idents_of}
-use Rattle.board_core.specs.desc_admits.specs.May.{MayBeLoaded}
-use Rattle.board_core.specs.desc_tables.specs.Tables.{AreSound}
+use Rattle.board_core.specs.desc_tables.specs.May.{MayBeLoaded}
+use Rattle.board_core.specs.desc_tables.specs.Tables.{AreSound, Held}
 use Rattle.board_core.specs.board_laws.specs.Moves.{written_back, IsLoad}
 use Rattle.board_core.specs.cached_machine.specs.Cached.{state_of}
 use Rattle.board_core.specs.cached_machine.specs.Posts.{mark_of, HasLoadedMarks}
 use Rattle.board_core.specs.board_laws.proofs.Growing.{formed_told}
 use Rattle.board_core.specs.board_ops.specs.declared.refusals.Refused.{Refused}
-use Rattle.board_checks.specs.Facts.{IsFormed, IsLoadable}
+use Rattle.board_checks.specs.Facts.{IsFormed}
 use Rattle.board_checks.specs.Identifiers.{space_as}
-use Rattle.board_checks.specs.Keeps.{IsAbove}
+use Rattle.board_checks.specs.Keeps.{IsLoadableBeside}
+use Rattle.board_checks.specs.declared.loads.Loadable.{Loadable}
 use Rattle.board_core.specs.Core.{contents_of, IsSound, Recorded}
-use Rattle.board_core.specs.Growth.{GrowsBy, OnlyMakesRoom}
+use Rattle.board_core.specs.Growth.{GrowsBy, IsRoomMade}
 use Rattle.board_loads.specs.Loads.{IsLoadedAs}
 use Rattle.board_loads.proofs.GoneLaws.{erase_load, kept_is_there, loaded_there}
 use Rattle.board_core.proofs.RoomLaws.{grows_before, loaded_marks_before, same_checkouts, same_entries, same_issued, same_residents, same_sealed, same_seen, same_shows}
 
 -- what a board shows is as events can make it
-pub formed : (b : Recorded) → IsSound b → IsFormed (contents_of b)
+formed : (b : Recorded) → IsSound b → IsFormed (contents_of b)
 formed b sound = (Some b.machine.machine, b.machine.memory, formed_told b.machine.machine b.machine.memory (contents_of b) b.sealed b.journal.entries sound.told)
 
-module _ (old mid : Recorded) (room : OnlyMakesRoom old mid) (were are : List (Ident × Node)) (was_sound : AreSound old.machine.held were) (sound : AreSound mid.machine.held are) where
+-- so it is of the tables that the board hands out
+pub formed_held : (b : Recorded) → IsSound b → (held : Held) → held ≡ b.machine.held → IsFormed held.contents
+formed_held b sound held same = subst (λ (h : Held). IsFormed h.contents) (sym same) (formed b sound)
+
+module _ (old mid : Recorded) (room : IsRoomMade old mid) (were are : List (Ident × Node)) (was_sound : AreSound old.machine.held were) (sound : AreSound mid.machine.held are) where
   -- ---- what is asked
 
   has_still : (n : Name) → HasParents (seen (contents_of old)) (residents_of (contents_of old)) n → HasParents (seen (contents_of mid)) (residents_of (contents_of mid)) n
@@ -71,39 +76,23 @@ module _ (old mid : Recorded) (room : OnlyMakesRoom old mid) (were are : List (I
       ∙ was.0 in
       (shelved_iff (contents_of mid) sound.whole.one n).1 (there, λ r. was.1 (r.0, subst (λ (rs : List Resident). Contains rs r.0) (same_residents old mid room) r.1, r.2))
 
-  pub loadable_still : (n : Name) → IsLoadable (contents_of old) n → IsLoadable (contents_of mid) n
-  loadable_still n may = record {
+  pub may_still : (n : Name) (keep : List Ident) → MayBeLoaded (contents_of old) n keep → MayBeLoaded (contents_of mid) n keep
+  may_still n keep may = record {
     shelved = shelved_still n may.shelved;
     fit = ap (λ (s : FlatState). is_fit_name s n) (same_seen old mid room) ∙ may.fit;
-    has = has_still n may.has;
-  }
-
-  may_before : (n : Name) (keep : List Ident) → IsLoadable (contents_of old) n → MayBeLoaded (contents_of mid) n keep → MayBeLoaded (contents_of old) n keep
-  may_before n keep loadable may = record {
-    shelved = loadable.shelved;
-    fit = loadable.fit;
     kept = record {
-      has = loadable.has;
-      direct = λ r there depends. may.kept.direct r (here r there) (so n r.name depends);
-      closed = λ r parent there kept parent_there depends. may.kept.closed r parent (here r there) kept (here parent parent_there) (so r.name parent.name depends);
+      has = has_still n may.kept.has;
+      direct = λ r there depends. may.kept.direct r (was r there) (so n r.name depends);
+      closed = λ r parent there kept parent_there depends. may.kept.closed r parent (was r there) kept (was parent parent_there) (so r.name parent.name depends);
       few = may.kept.few;
     };
   }
     where
-      here : (r : Resident) → Contains (residents_of (contents_of old)) r → Contains (residents_of (contents_of mid)) r
-      here r there = subst (λ (rs : List Resident). Contains rs r) (sym (same_residents old mid room)) there
+      was : (r : Resident) → Contains (residents_of (contents_of mid)) r → Contains (residents_of (contents_of old)) r
+      was r there = subst (λ (rs : List Resident). Contains rs r) (same_residents old mid room) there
 
-      so : (a b : Name) → Depends (seen (contents_of old)) a b → Depends (seen (contents_of mid)) a b
-      so a b depends = subst (λ (s : FlatState). Depends s a b) (sym (same_seen old mid room)) depends
-
-  -- what is kept is what the name depended on before, too
-  above_before : (n : Name) (kept : Ident) → IsAbove (contents_of mid) n kept → IsAbove (contents_of old) n kept
-  above_before n kept (r, there, its, far) = (
-    r,
-    subst (λ (rs : List Resident). Contains rs r) (same_residents old mid room) there,
-    its,
-    subst (λ (s : FlatState). DependsFar s n r.name) (same_seen old mid room) far,
-  )
+      so : (a b : Name) → Depends (seen (contents_of mid)) a b → Depends (seen (contents_of old)) a b
+      so a b depends = subst (λ (s : FlatState). Depends s a b) (same_seen old mid room) depends
 
   -- ---- what was done
 
@@ -158,7 +147,7 @@ module _ (old mid : Recorded) (room : OnlyMakesRoom old mid) (were are : List (I
         ∙ ap (after_events (state_of mid.machine)) (erase_load cpu gone ident n)
         ∙ room.only.state
 
-    pub loaded_before : (cpu : ℕ) → IsLoadable (contents_of old) n → MayBeLoaded (contents_of mid) n keep → ((kept : Ident) → Contains keep kept → IsAbove (contents_of mid) n kept)
+    pub loaded_before : (cpu : ℕ) → IsLoadableBeside (contents_of old) n keep
         → GrowsBy (written_back cpu gone ++ Loaded ident n cpu ∷ []) mid new
         → IsLoad mid.machine.held.caps (contents_of mid) (contents_of new) n keep (length mid.journal.entries) gone ident
         → HasLoadedMarks (contents_of mid) (contents_of new)
@@ -166,14 +155,14 @@ module _ (old mid : Recorded) (room : OnlyMakesRoom old mid) (were are : List (I
         → new.sealed ≡ mid.sealed → new.checkouts ≡ mid.checkouts
         → (contents_of mid).spare ≤ (contents_of new).spare + 1
         → IsLoadedAs cpu n ident old new
-    loaded_before cpu loadable may only grows load marks unmarked sealed checkouts issues = let was = load_before load in let kept = may_before n keep loadable may in record {
+    loaded_before cpu beside grows load marks unmarked sealed checkouts issues = let was = load_before load in record {
       keep = keep;
-      may = kept;
-      only = λ above there. above_before n above (only above there);
+      may = beside.may;
+      only = beside.only;
       entries = grows_before old mid room (written_back cpu gone ++ Loaded ident n cpu ∷ []) new grows;
       load = was;
       there = loaded_there old.machine.held.caps (contents_of old) were was_sound.whole (contents_of new) n keep (length old.journal.entries) gone ident was;
-      stay = kept_is_there old.machine.held.caps (contents_of old) were was_sound.whole (contents_of new) n keep (length old.journal.entries) gone ident was kept.kept.closed;
+      stay = kept_is_there old.machine.held.caps (contents_of old) were was_sound.whole (contents_of new) n keep (length old.journal.entries) gone ident was beside.may.kept.closed;
       state = same_state cpu grows;
       marks = loaded_marks_before old mid room (contents_of new) marks;
       unmarked = unmarked;
@@ -183,15 +172,15 @@ module _ (old mid : Recorded) (room : OnlyMakesRoom old mid) (were are : List (I
     }
 
 -- a row that was loaded is that of the page in the space that was asked for
-pub row_loaded : (c : Contents) (parent : Ident) (vpn : Vpn) (checked : Result Name Refused) (result : Result Ident Refused) (cpu : ℕ) (old new : Recorded)
-    → IfOk checked (λ n. option_map (λ (space : SpaceNo). name.Mapping space vpn) (space_as c parent) ≡ Some n)
+pub row_loaded : (c : Contents) (parent : Ident) (vpn : Vpn) (checked : Result Loadable Refused) (result : Result Ident Refused) (cpu : ℕ) (old new : Recorded)
+    → IfOk checked (λ found. option_map (λ (space : SpaceNo). name.Mapping space vpn) (space_as c parent) ≡ Some found.name)
     → OnOk result (result_err checked ≡ None)
-    → IfOk result (λ ident. IfOk checked (λ n. IsLoadedAs cpu n ident old new))
+    → IfOk result (λ ident. IfOk checked (λ found. IsLoadedAs cpu found.name ident old new))
     → IfOk result (λ ident. (space : SpaceNo) × (space_as c parent ≡ Some space) × IsLoadedAs cpu (name.Mapping space vpn) ident old new)
 row_loaded c parent vpn checked (Err w) cpu old new named done loaded = tt
 row_loaded c parent vpn (Err w) (Ok ident) cpu old new named done loaded = absurd (cc)
-row_loaded c parent vpn (Ok n) (Ok ident) cpu old new named done loaded = by (space_as c parent) refl named
+row_loaded c parent vpn (Ok found) (Ok ident) cpu old new named done loaded = by (space_as c parent) refl named
   where
-    by : (o : Option SpaceNo) → space_as c parent ≡ o → option_map (λ (space : SpaceNo). name.Mapping space vpn) o ≡ Some n → (space : SpaceNo) × (space_as c parent ≡ Some space) × IsLoadedAs cpu (name.Mapping space vpn) ident old new
+    by : (o : Option SpaceNo) → space_as c parent ≡ o → option_map (λ (space : SpaceNo). name.Mapping space vpn) o ≡ Some found.name → (space : SpaceNo) × (space_as c parent ≡ Some space) × IsLoadedAs cpu (name.Mapping space vpn) ident old new
     by None is none = absurd (cc)
-    by (Some space) is same = (space, is, subst (λ (x : Name). IsLoadedAs cpu x ident old new) (sym (same_Some (name.Mapping space vpn) n same)) loaded)
+    by (Some space) is same = (space, is, subst (λ (x : Name). IsLoadedAs cpu x ident old new) (sym (same_Some (name.Mapping space vpn) found.name same)) loaded)

@@ -8,7 +8,7 @@ use Rattle.cache_ident.specs.Residents.{Resident, IsResident}
 use Rattle.run_journal.specs.declared.entries.Entry.TheVariants.{Loaded}
 use Rattle.board_checks.specs.Keeps.{IsAbove}
 use Rattle.board_core.specs.desc_stores.specs.Contents.{residents_of}
-use Rattle.board_core.specs.desc_admits.specs.May.{MayBeLoaded}
+use Rattle.board_core.specs.desc_tables.specs.May.{MayBeLoaded}
 use Rattle.board_core.specs.board_laws.specs.Moves.{written_back, IsLoad}
 use Rattle.board_core.specs.cached_machine.specs.Cached.{state_of}
 use Rattle.board_core.specs.cached_machine.specs.Posts.{mark_of, HasLoadedMarks}

@@ -7,18 +7,18 @@ ghost use Rattle.std.specs.Result.{result_err};
 ghost use Rattle.cache_ident.specs.declared.names.Name.{Name};
 ghost use Rattle.cache_ident.specs.declared.names.SpaceNo.{SpaceNo};
 ghost use Rattle.board_core.specs.board_ops.specs.declared.refusals.Refused.TheVariants.{NoMemory};
-ghost use Rattle.board_checks.specs.Facts.{IsLoadable};
 ghost use Rattle.board_checks.specs.Identifiers.{space_as};
+ghost use Rattle.board_checks.specs.Keeps.{IsLoadableBeside};
 ghost use Rattle.board_checks.specs.Refusals.{refusal_of_load_kernel, refusal_of_load_mapping, refusal_of_load_space, refusal_of_load_thread};
 ghost use Rattle.board_core.specs.Answers.{HasSpare, IsRefused};
 ghost use Rattle.board_core.specs.Core.{contents_of};
 ghost use Rattle.board_loads.specs.Loads.{IsLoadedAs};
 
 use board_checks::{
-    check_load_kernel, check_load_mapping, check_load_space, check_load_thread, keep_of,
+    Loadable, check_load_kernel, check_load_mapping, check_load_space, check_load_thread,
 };
 use board_core::{Core, Refused};
-use cache_ident::{Ident, KernelNo, Name, SpaceNo, ThreadNo, Vpn};
+use cache_ident::{Ident, KernelNo, SpaceNo, ThreadNo, Vpn};
 
 /// Loads a kernel for the kernel `caller`, which has to be the first one, and answers the new identifier.
 ///
@@ -112,19 +112,19 @@ pub fn load_mapping(
 }
 
 // Loads what a test found to be loadable, while all that it depends on stays; and else answers what the test did.
-fn load(core: &mut Core, cpu: u32, checked: Result<Name, Refused>) -> Result<Ident, Refused>
+fn load(core: &mut Core, cpu: u32, checked: Result<Loadable, Refused>) -> Result<Ident, Refused>
     requires processor { cpu < 8 }
-    requires may { IfOk checked (IsLoadable (contents_of core.old)) }
+    requires may { IfOk checked (λ found. IsLoadableBeside (contents_of core.old) found.name found.keep.items) }
     requires sealed { OnOk checked (core.old.sealed ≡ true) }
     requires tested { IfErr checked (λ why. why ≢ NoMemory) }
     ensures refused { IfErr result (IsRefused (result_err checked) core.old core.new) }
     ensures done { OnOk result (result_err checked ≡ None) }
-    ensures loaded { IfOk result (λ ident. IfOk checked (λ name. IsLoadedAs cpu name ident core.old core.new)) }
+    ensures loaded { IfOk result (λ ident. IfOk checked (λ found. IsLoadedAs cpu found.name ident core.old core.new)) }
     ensures enough { HasSpare core.old 22 → IfErr result (λ why. why ≢ NoMemory) }
 {
     let _ = core.tables();
     core.make_room(1, 0)?;
-    let name = checked?;
-    let keep = keep_of(core.tables(), name);
-    Ok(core.load(cpu, name, keep.as_slice()))
+    let _ = core.tables();
+    let found = checked?;
+    Ok(core.load(cpu, found.name, found.keep.as_slice()))
 }

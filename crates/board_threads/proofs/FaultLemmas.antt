@@ -43,7 +43,7 @@ use Rattle.board_core.specs.cached_machine.specs.Cached.{is_loaded, state_of}
 use Rattle.board_core.specs.cached_machine.specs.Posts.{mark_of}
 use Rattle.board_core.specs.cached_machine.proofs.LoadedLaws.{loaded_by}
 use Rattle.board_core.specs.Core.{contents_of, Recorded}
-use Rattle.board_core.specs.Growth.{OnlyMakesRoom}
+use Rattle.board_core.specs.Growth.{IsRoomMade}
 use Rattle.board_core.proofs.CheckLaws.{enough_left}
 use Rattle.board_checks.proofs.FirstLemmas.{both_pass, first_fails, first_passes, none_mapped, passes_if}
 use Rattle.board_threads.specs.Faults.{IsFaulting}
@@ -192,7 +192,7 @@ is_faulting b t next there its loaded waits missed present left =
     }
 
 -- where room was made it still faults
-pub faulting_still : (old new : Recorded) → OnlyMakesRoom old new → (whom : ThreadNo) (next : NextStep) → IsFaulting old whom next → IsFaulting new whom next
+pub faulting_still : (old new : Recorded) → IsRoomMade old new → (whom : ThreadNo) (next : NextStep) → IsFaulting old whom next → IsFaulting new whom next
 faulting_still old new room whom next is = record {
   its = ap (λ (s : FlatState). next_step s whom.0) room.only.state ∙ is.its;
   faults = is.faults;

@@ -2,7 +2,6 @@
 
 ghost use Rattle.std.specs.Prelude.{◌≡◌, ◌<◌, ◌≤◌, ◌↔◌, ◌==◌, if◌then◌else◌, false, length, slice_get, Contains, IfNone, IfSome, None, Some};
 ghost use Rattle.std.specs.List.Sorted.{IsSortedBy};
-ghost use Rattle.std.specs.Ordering.{is_lt};
 ghost use Rattle.cache_ident.specs.declared.names.ThreadNo.{ThreadNo};
 ghost use Rattle.cache_ident.specs.Residents.{IsNameResident, IsResident};
 ghost use Rattle.board_core.specs.desc_stores.specs.Contents.{residents_of};
@@ -24,9 +23,8 @@ use board_checks::thread_as;
 use board_core::{CachedMachine, Core, ItemRef};
 use cache_ident::{Ident, Name, ThreadNo};
 use flat_rules::is_ready;
-use ready_queue::Candidate;
+use ready_queue::{Candidate, in_order};
 use slot_cache::Loaded;
-use std::cmp::Ordering;
 use thread_cache::ThreadRec;
 
 // As many threads as can be loaded.
@@ -152,16 +150,6 @@ fn earlier(first: Option<Candidate>, other: Candidate) -> Candidate
         Some(first) if !in_order(&other, &first).is_lt() => first,
         _ => other,
     }
-}
-
-// By this the candidates stand in the order of choice.
-fn in_order(a: &Candidate, b: &Candidate) -> Ordering
-    ensures { is_lt result ≡ is_before a.now b.now }
-{
-    b.priority
-        .cmp(&a.priority)
-        .then(a.last.cmp(&b.last))
-        .then(a.no.cmp(&b.no))
 }
 
 // The first of the candidates that is runnable.

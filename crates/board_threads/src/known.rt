@@ -31,7 +31,7 @@ pub(crate) fn known(core: &Core)
     core.holds();
     core.machine().holds();
     let _ = core.machine().tables();
-    let _ = core.machine().room();
+    core.machine().tables_are_sound();
 }
 
 // Whether there is such a thread and its next step can be taken. `near` may be the identifier that it is loaded with.

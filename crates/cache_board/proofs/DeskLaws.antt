@@ -9,7 +9,7 @@ use Rattle.board_commits.specs.quantum.specs.Ahead.{begun, unbegun, Ahead}
 use Rattle.board_commits.specs.board_ops.specs.declared.answers.Answer.{Answer}
 use Rattle.board_commits.specs.board_ops.specs.declared.answers.Answer.TheVariants as answers
 use Rattle.board_commits.specs.board_core.specs.Core.{Recorded}
-use Rattle.board_commits.specs.board_core.specs.Growth.{GrowsBy, OnlyMakesRoom}
+use Rattle.board_commits.specs.board_core.specs.Growth.{GrowsBy, IsRoomMade}
 use Rattle.board_commits.specs.board_threads.specs.declared.tickets.Ticket.{Ticket}
 use Rattle.board_commits.specs.board_threads.specs.Posts.{OnlyMarks}
 use Rattle.board_commits.specs.Tickets.{AreAllAsOf, AreOfTicket}
@@ -18,17 +18,19 @@ use Rattle.board_commits.proofs.TicketLaws.{views_stay}
 use Rattle.cache_board.specs.declared.place.Place.{Place}
 use Rattle.cache_board.specs.Desks.{AreOfTickets, AtPlace, Desktop, IsClear, IsItsOwn, IsOfIts}
 use Rattle.cache_board.specs.Drive.{IsCheckout, IsCommit, IsCommitWith, IsLeave, IsLeaveWith, IsRunAhead, IsRunTo, IsView, IsViewWith, Spares}
-use Rattle.cache_board.proofs.ViewLaws.{all_of, further_copies, further_kept, kept_as}
+use Rattle.board_commits.proofs.CopyLaws.{all_of, kept_as}
+use Rattle.board_commits.specs.quantum.proofs.Copies.{run_copies}
+use Rattle.cache_board.specs.declared.place.TheConstants.{DESK_VIEWS}
 
 -- nothing lies on a clear desk
 pub clear_is_of_tickets : (j : List Entry) (d : Desktop) → IsClear d → AreOfTickets j d
-clear_is_of_tickets j d clear cpu place there = subst (IsItsOwn j cpu) (sym (clear cpu place there)) (record { its = λ ticket is. absurd (cc); kept = kept_unbegun j })
+clear_is_of_tickets j d clear cpu place there = subst (IsItsOwn j cpu) (sym (clear cpu place there)) (record { its = λ ticket is. absurd (cc); kept = kept_unbegun j DESK_VIEWS })
 
 -- ---- places without a ticket
 
 -- none of them has one, and each quantum is a new one
 abbrev pub new_place : Place
-new_place = record { ticket = None; quantum = unbegun }
+new_place = record { ticket = None; quantum = unbegun DESK_VIEWS }
 
 abbrev pub AllClear : List Place → Type 0
 AllClear places = (k : ℕ) (place : Place) → slice_get places k ≡ Some place → place ≡ new_place
@@ -65,7 +67,7 @@ module _ (b b′ : Recorded) where
   pub grown_if_same : b′ ≡ b → HasGrown b b′
   grown_if_same same = not_grown (ap (λ (x : Recorded). x.journal.entries) same)
 
-  pub grown_if_room : OnlyMakesRoom b b′ → HasGrown b b′
+  pub grown_if_room : IsRoomMade b b′ → HasGrown b b′
   grown_if_room room = not_grown (ap (λ (x : Recorded). x.journal.entries) room.rest)
 
   grown_if_marks : OnlyMarks b b′ → HasGrown b b′
@@ -164,13 +166,12 @@ module _ (cpu : ℕ) (b : Recorded) (old : Place) (own : IsItsOwn b.journal.entr
   module _ (limit : ℕ) where
     run_to_keeps : (answer : Answer) (new : Place) → IsRunTo limit old answer new → IsItsOwn b.journal.entries cpu new
     run_to_keeps (answers.Paused paused) new done =
-        let copies : copies_of new.quantum.views ≡ copies_of old.quantum.views = ap (λ (a : Ahead). copies_of a.views) done.1.took ∙ further_copies done.1.count old.quantum in
-        let behind : new.quantum.kept ≡ old.quantum.kept = ap (λ (a : Ahead). a.kept) done.1.took ∙ further_kept done.1.count old.quantum in
+        let same = run_copies limit old.quantum new.quantum paused done.1 in
         record {
           its = λ ticket is.
               let of = own.its ticket (sym done.0 ∙ is) in
-              record { processor = of.processor; views = all_of b.journal.entries ticket.thread old.quantum new.quantum copies behind of.views };
-          kept = kept_as b.journal.entries old.quantum new.quantum copies behind own.kept;
+              record { processor = of.processor; views = all_of b.journal.entries ticket.thread old.quantum new.quantum same of.views };
+          kept = kept_as b.journal.entries old.quantum new.quantum same own.kept;
         }
     run_to_keeps _ new done = absurd done
 

@@ -31,7 +31,7 @@ use Rattle.board_commits.specs.board_core.specs.cached_machine.specs.Posts.{Only
 use Rattle.board_commits.specs.board_core.specs.Answers.{IsRefused}
 use Rattle.board_commits.specs.board_core.specs.Core.{contents_of, IsSound, Recorded}
 use Rattle.board_commits.specs.board_core.specs.Going.{AreMadeBy, GoesOn, Grew, IsOneEvent}
-use Rattle.board_commits.specs.board_core.specs.Growth.{entries_of_run, entry_of_step, GrowsBy, OnlyMakesRoom}
+use Rattle.board_commits.specs.board_core.specs.Growth.{entries_of_run, entry_of_step, GrowsBy, IsRoomMade}
 use Rattle.board_commits.specs.board_core.proofs.AheadLaws.{same_posted}
 use Rattle.board_commits.specs.board_core.proofs.GoingLaws.{goes_on, goes_on_so, grew_by, grew_nothing, made_more, room_goes_on, room_grew}
 use Rattle.board_commits.specs.board_threads.specs.declared.tickets.Ticket.{Ticket}
@@ -165,7 +165,7 @@ module _ (cpu : ℕ) (old mid new : Recorded) (same : mid ≡ old) (was : IsSoun
       (by_entries (is.loads ++ entry_of_step whom is.next.faults cpu ∷ []) (made_more cpu is.loads (entry_of_step whom is.next.faults cpu ∷ []) (loads_by cpu _ is.chain _ _ _ is.loaded is.loads is.are) (step_by whom is.next.faults cpu)) is.entries)
       is.marks is.checkouts)
 
-  pub room_event : OnlyMakesRoom mid new → IsOneEvent cpu old new
+  pub room_event : IsRoomMade mid new → IsOneEvent cpu old new
   room_event only = one_event (grew_since (room_grew cpu mid new only))
 
   -- ---- threads on processors

@@ -1,4 +1,3 @@
-pub mod ViewLaws
 pub mod DeskLaws
 pub mod DriveLaws
 mod EventLaws

@@ -5,6 +5,7 @@ use Rattle.board_commits.specs.board_threads.specs.declared.tickets.Ticket.{Tick
 use Rattle.board_commits.specs.Tickets.{AreAllAsOf, AreOfTicket}
 use Rattle.board_commits.specs.quantum.specs.Ahead.{unbegun}
 use Rattle.cache_board.specs.declared.place.Place.{Place}
+use Rattle.cache_board.specs.declared.place.TheConstants.{DESK_VIEWS}
 
 -- for each of the eight processors its place, with its ticket, if it has one, and its quantum
 pub record Desktop : Type 0 where
@@ -12,7 +13,7 @@ pub record Desktop : Type 0 where
 
 -- no processor has a ticket, and each quantum is a new one
 abbrev pub IsClear : Desktop → Type 0
-IsClear d = (cpu : ℕ) (place : Place) → slice_get d.places cpu ≡ Some place → place ≡ record { ticket = None; quantum = unbegun }
+IsClear d = (cpu : ℕ) (place : Place) → slice_get d.places cpu ≡ Some place → place ≡ record { ticket = None; quantum = unbegun DESK_VIEWS }
 
 -- the ticket is for the processor, and each view of the quantum was copied for the thread of the ticket
 pub record IsOfIts (j : List Entry) (cpu : ℕ) (place : Place) (ticket : Ticket) : Type 0 where

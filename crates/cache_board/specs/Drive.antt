@@ -19,7 +19,7 @@ use Rattle.board_commits.specs.board_checks.specs.Identifiers.{space_as}
 use Rattle.board_commits.specs.board_checks.specs.Refusals.{refusal_of_complete, refusal_of_load_kernel, refusal_of_load_mapping, refusal_of_load_space, refusal_of_load_thread, refusal_of_lock, refusal_of_unload, refusal_of_unlock}
 use Rattle.board_commits.specs.board_core.specs.Answers.{HasSpare, IsRefused}
 use Rattle.board_commits.specs.board_core.specs.Core.{contents_of, IsSound, Recorded}
-use Rattle.board_commits.specs.board_core.specs.Growth.{OnlyMakesRoom}
+use Rattle.board_commits.specs.board_core.specs.Growth.{IsRoomMade}
 use Rattle.board_commits.specs.board_threads.specs.declared.tickets.Ticket.{Ticket}
 use Rattle.board_commits.specs.board_threads.specs.Faults.{HasEnded}
 use Rattle.board_commits.specs.board_threads.specs.Posts.{HasComeBack, IsCheckedOut, IsOutWith, IsTicketFor, OnlyMarks}
@@ -107,13 +107,13 @@ IsCheckout cpu b old _ after new = ⊥
 -- With the ticket, the page is in the quantum too; or the quantum has no room for a view of the page, or there is a refusal, and
 -- nothing changed.
 abbrev pub IsViewWith : Ticket → Recorded → Vpn → Place → Answer → Place → Type 0
-IsViewWith ticket b vpn old answers.NoView new = (can_fill old.quantum.views vpn ≡ false) × (new ≡ old)
+IsViewWith ticket b vpn old answers.NoView new = (can_fill old.quantum.most old.quantum.views vpn ≡ false) × (new ≡ old)
 IsViewWith ticket b vpn old answers.Did new =
-    (can_fill old.quantum.views vpn ≡ true) × (refusal_of_page (contents_of b) ticket vpn ≡ None) × (new.ticket ≡ old.ticket) × IsPaged b ticket vpn old.quantum new.quantum
+    (can_fill old.quantum.most old.quantum.views vpn ≡ true) × (refusal_of_page (contents_of b) ticket vpn ≡ None) × (new.ticket ≡ old.ticket) × IsPaged b ticket vpn old.quantum new.quantum
     × (AreOfTicket b.journal.entries ticket.thread old.quantum → AreOfTicket b.journal.entries ticket.thread new.quantum)
     × AreAllAsOf b.journal.entries new.quantum
 IsViewWith ticket b vpn old (answers.Refused why) new =
-    (can_fill old.quantum.views vpn ≡ true) × (refusal_of_page (contents_of b) ticket vpn ≡ Some why) × (new ≡ old)
+    (can_fill old.quantum.most old.quantum.views vpn ≡ true) × (refusal_of_page (contents_of b) ticket vpn ≡ Some why) × (new ≡ old)
 IsViewWith ticket b vpn old _ new = ⊥
 
 -- .. which there is, or else nothing changed
@@ -155,9 +155,9 @@ IsLeave b old answer after new =
 
 -- there is room for so many entries and identifiers now, or memory is wanted for it, and as much is spare as was
 abbrev pub MakesRoom : ℕ → Recorded → Answer → Recorded → Type 0
-MakesRoom n b answers.Did after = OnlyMakesRoom b after × (n ≤ after.journal.spare) × (n ≤ (contents_of after).spare)
+MakesRoom n b answers.Did after = IsRoomMade b after × (n ≤ after.journal.spare) × (n ≤ (contents_of after).spare)
 MakesRoom n b (answers.Refused why) after =
-    (why ≡ NoMemory) × OnlyMakesRoom b after × (min after.journal.spare (contents_of after).spare ≡ min b.journal.spare (contents_of b).spare)
+    (why ≡ NoMemory) × IsRoomMade b after × (min after.journal.spare (contents_of after).spare ≡ min b.journal.spare (contents_of b).spare)
     × (n ≤ b.journal.spare → n ≤ (contents_of b).spare → ⊥)
 MakesRoom n b _ after = ⊥
 

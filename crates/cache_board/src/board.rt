@@ -27,7 +27,7 @@ ghost use Rattle.board_commits.specs.board_checks.specs.Refusals.{refusal_of_com
 ghost use Rattle.board_commits.specs.board_core.specs.Answers.{HasSpare, IsRefused};
 ghost use Rattle.board_commits.specs.board_core.specs.Core.{contents_of, IsSound};
 ghost use Rattle.board_commits.specs.board_core.specs.Going.{GoesOn, IsOneEvent};
-ghost use Rattle.board_commits.specs.board_core.specs.Growth.{count_loaded, OnlyMakesRoom};
+ghost use Rattle.board_commits.specs.board_core.specs.Growth.{count_loaded, IsRoomMade};
 ghost use Rattle.board_commits.specs.board_core.specs.Places.{IsInOnePlace};
 ghost use Rattle.board_loads.specs.Holds.{IsLockedAs, IsUnloadedAs};
 ghost use Rattle.board_loads.specs.Loads.{IsLoadedAs};
@@ -46,7 +46,7 @@ ghost use Rattle.board_heal.specs.Refusals.{refusal_of_heal};
 ghost use Rattle.cache_board.specs.Boards.{refusal_of_machine};
 
 use board_commits::{Core, Names, Quantum, Refused, Ticket, threads};
-use board_core::each_descriptor_is_in_one_place;
+use board_core::{CachedMachine, each_descriptor_is_in_one_place};
 use cache_ident::{Ident, KernelNo, Kind, NoMemory, SpaceNo, ThreadNo, Vpn};
 use flat_rules::{Records, rule_of_machine};
 use flat_state::{Decl, Machine, Settled};
@@ -306,7 +306,7 @@ impl Board {
     /// Refused where no row of that page is loaded (`NotLoaded`). What carries a place in the quantum must be of this board's
     /// journal: of a new quantum, of one that was only used with this board, or of one that forgot what it had.
     pub fn page(&self, ticket: &Ticket, vpn: Vpn, quantum: &mut Quantum) -> Result<(), Refused>
-        requires room { IsTrue (can_fill quantum.old.views vpn) }
+        requires room { IsTrue (can_fill quantum.old.most quantum.old.views vpn) }
         requires kept { AreAllAsOf self.now.journal.entries quantum.old }
         ensures exact { result_err result ≡ refusal_of_page (contents_of self.now) ticket.now vpn }
         ensures refused { OnErr result (quantum.new ≡ quantum.old) }
@@ -452,7 +452,7 @@ impl Board {
 
     /// Makes `spare` at least `n`, at once where it is so already. Where memory is wanted `spare` is what it was.
     pub fn reserve(&mut self, n: usize) -> Result<(), NoMemory>
-        ensures only { OnlyMakesRoom self.old self.new }
+        ensures only { IsRoomMade self.old self.new }
         ensures room { OnOk result ((n ≤ self.new.journal.spare) × (n ≤ (contents_of self.new).spare)) }
         ensures enough { n ≤ self.old.journal.spare → n ≤ (contents_of self.old).spare → IsOk result }
         ensures same { OnErr result (min self.new.journal.spare (contents_of self.new).spare ≡ min self.old.journal.spare (contents_of self.old).spare) }
@@ -488,6 +488,13 @@ impl Board {
     {
         self.core.holds();
         threads::record_of(&self.core, no)
+    }
+
+    /// The machine, for whoever reads it by the rules or makes its report.
+    pub fn machine(&self) -> &CachedMachine
+        ensures { result.now ≡ self.now.machine }
+    {
+        self.core.machine()
     }
 
     /// The row of a page, loaded or not, and none where there is none.

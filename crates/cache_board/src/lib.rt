@@ -23,3 +23,4 @@ pub use pasts::{
     holds_while_held, makers_are_processors, what_is_of_a_ticket_stays_so_from_past_to_past,
     what_was_seen_stays,
 };
+pub use place::DESK_VIEWS;

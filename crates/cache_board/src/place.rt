@@ -12,6 +12,9 @@ use board_commits::{Answer, Quantum, Ticket};
 use cache_ident::{NoMemory, Vpn};
 use std::alloc::Global;
 
+/// How many views a quantum on the desk may have.
+pub const DESK_VIEWS: usize = 8;
+
 /// The ticket of a processor, if it has one, and its quantum.
 #[derive(Drop)]
 pub(crate) struct Place {
@@ -22,11 +25,11 @@ pub(crate) struct Place {
 impl Place {
     /// One without a ticket. The one call that takes memory.
     pub(crate) fn new(alloc: Global) -> Result<Place, NoMemory>
-        ensures { IfOk result (λ place. place ≡ record { ticket = None; quantum = unbegun }) }
+        ensures { IfOk result (λ place. place ≡ record { ticket = None; quantum = unbegun DESK_VIEWS }) }
     {
         Ok(Place {
             ticket: None,
-            quantum: Quantum::new(alloc)?,
+            quantum: Quantum::new(alloc, DESK_VIEWS)?,
         })
     }
 

@@ -1,14 +1,11 @@
 -- Why the tables take a declaration that breaks no rule, and after which what is loaded is still good.
-use Rattle.std.proofs.Common.{◌≡◌, ℕ, ◌+◌, ◌*◌, ◌<◌, ◌≤◌, Bool, true, false, not, List, [], ◌∷◌, ◌++◌, map, filter, length, Contains, Option, Some, None, slice_get, refl, ap, ap₂, sym, ◌∙◌, subst, inl, inr, arith}
+use Rattle.std.proofs.Common.{◌≡◌, ℕ, ◌+◌, ◌*◌, ◌<◌, ◌≤◌, Bool, true, false, not, List, [], ◌∷◌, ◌++◌, map, filter, length, Contains, Option, Some, None, refl, ap, ap₂, sym, ◌∙◌, subst, arith}
 use Rattle.std.specs.Prelude.{count_by, if◌then◌else◌, is_some, nat_le, nat_lt, option_to_list, ◌&&◌, ◌||◌, ◌==◌, IsSome}
 use Rattle.std.specs.Option.{option_map, option_or}
-use Rattle.std.proofs.lemmas.Bool.{and_parts, eqb-true, false≢true, leb-false, leb-true, ltb-true, not-false, or_parts}
+use Rattle.std.proofs.lemmas.Bool.{eqb-true, false≢true, leb-false, ltb-true, not-false, or_parts}
 use Rattle.std.proofs.lemmas.Bool.Decides.{nat_tests}
 use Rattle.std.proofs.lemmas.List.Elements.{filter-append, Contains-append_right}
 use Rattle.std.proofs.lemmas.List.Folds.{find-append}
-use Rattle.std.proofs.lemmas.Option.{slice_get_cases, slice_get_past}
-use Rattle.cache_ident.specs.declared.idents.Kind.{Kind}
-use Rattle.cache_ident.specs.declared.idents.Kind.TheVariants as kind
 use Rattle.cache_ident.specs.declared.names.Caps.{Caps}
 use Rattle.cache_ident.specs.declared.names.Frame.{Frame}
 use Rattle.cache_ident.specs.declared.names.KernelNo.{KernelNo}
@@ -51,8 +48,9 @@ use Rattle.board_laws.specs.shown_state.proofs.ContentLemmas.{item_has_name}
 use Rattle.board_laws.specs.shown_state.proofs.LookupLemmas.{all_found, all_listed}
 use Rattle.board_laws.specs.store_residents.proofs.ContentLemmas.{resident_content}
 use Rattle.board_laws.specs.desc_parents.specs.Seen.{seen}
-use Rattle.board_laws.specs.desc_admits.specs.May.{no_locks, wanted_of, HasNoMessages, MayBeDeclared}
+use Rattle.board_laws.specs.desc_tables.specs.May.{no_locks, wanted_of, HasNoMessages, MayBeDeclared}
 use Rattle.board_laws.specs.Moves.{Declares}
+use Rattle.board_laws.proofs.Admitted.{and_second, none_from, none_past, room_left, some_within}
 
 -- what is declared comes behind the others of its kind
 pub new_declared : (s : FlatState) (d : Decl) (it : Item) → Declares d it → with_new s it ≡ declared s d
@@ -75,42 +73,6 @@ no_locks_are locks kernels spaces threads mappings =
     ∙ ap (λ (n : ℕ). record { kernels = 0; spaces = n; threads = locks.threads; mappings = locks.mappings }) spaces
     ∙ ap (λ (n : ℕ). record { kernels = 0; spaces = 0; threads = n; mappings = locks.mappings }) threads
     ∙ ap (λ (n : ℕ). record { kernels = 0; spaces = 0; threads = 0; mappings = n }) mappings
-
-none_from : {X : Type 0} (o : Option X) → is_some o ≡ false → o ≡ None
-none_from None e = refl
-none_from (Some x) e = absurd (cc)
-
-and_second : (a b : Bool) → a ≡ true → (a && b) ≡ false → b ≡ false
-and_second true b is e = e
-and_second false b is e = absurd (cc)
-
-some_within : {X : Type 0} (xs : List X) (n : ℕ) → n < length xs → is_some (slice_get xs n) ≡ true
-some_within xs n within = elim (slice_get_cases xs n).1 [
-  | inl found ↦ ap is_some found.2
-  | inr past ↦ absurd (let low = past.0 in omega arith)
-]
-
-none_past : {X : Type 0} (xs : List X) (n : ℕ) → n ≡ length xs → is_some (slice_get xs n) ≡ false
-none_past xs n is = ap is_some (slice_get_past xs n (omega arith))
-
--- what is left beside the limits is left of each kind
-room_left : (granted caps limits : Caps) → leaves_room caps granted limits ≡ true → (of : Kind) → amount_of granted of + (amount_of limits of + wanted_of of) ≤ amount_of caps of
-room_left granted caps limits e of = by of
-  where
-    kernels : (nat_le (granted.kernels + limits.kernels + 5) caps.kernels ≡ true) × ((nat_le (granted.spaces + limits.spaces + 5) caps.spaces && (nat_le (granted.threads + limits.threads + 5) caps.threads && nat_le (granted.mappings + limits.mappings + 6) caps.mappings)) ≡ true)
-    kernels = and_parts (nat_le (granted.kernels + limits.kernels + 5) caps.kernels) _ e
-
-    spaces : (nat_le (granted.spaces + limits.spaces + 5) caps.spaces ≡ true) × ((nat_le (granted.threads + limits.threads + 5) caps.threads && nat_le (granted.mappings + limits.mappings + 6) caps.mappings) ≡ true)
-    spaces = and_parts (nat_le (granted.spaces + limits.spaces + 5) caps.spaces) _ kernels.1
-
-    threads : (nat_le (granted.threads + limits.threads + 5) caps.threads ≡ true) × (nat_le (granted.mappings + limits.mappings + 6) caps.mappings ≡ true)
-    threads = and_parts (nat_le (granted.threads + limits.threads + 5) caps.threads) _ spaces.1
-
-    by : (of : Kind) → amount_of granted of + (amount_of limits of + wanted_of of) ≤ amount_of caps of
-    by kind.Kernel = let room = leb-true (granted.kernels + limits.kernels + 5) caps.kernels kernels.0 in omega arith
-    by kind.Space = let room = leb-true (granted.spaces + limits.spaces + 5) caps.spaces spaces.0 in omega arith
-    by kind.Thread = let room = leb-true (granted.threads + limits.threads + 5) caps.threads threads.0 in omega arith
-    by kind.Mapping = let room = leb-true (granted.mappings + limits.mappings + 6) caps.mappings threads.1 in omega arith
 
 -- ---- what is loaded once a row has come
 

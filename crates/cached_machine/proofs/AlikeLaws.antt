@@ -23,7 +23,7 @@ use Rattle.board_laws.specs.desc_tables.specs.Tables.{Held}
 use Rattle.board_laws.specs.shown_state.specs.Shown.{shown}
 use Rattle.thread_sets.specs.Sets.{SameButRoom, Sets}
 use Rattle.thread_sets.specs.SetsOf.{AreSetsOf}
-use Rattle.cached_machine.specs.Cached.{is_loaded, Cached, IsSound}
+use Rattle.cached_machine.specs.Cached.{is_loaded, Cached, IsSoundMachine}
 use Rattle.cached_machine.specs.Posts.{last_in, mark_in, mark_of, HasLoadedMarks, HasPosts, HasSameMarks, OnlyLoadedAreOut}
 use Rattle.cached_machine.proofs.LoadedLaws.{ComesFrom}
 
@@ -38,7 +38,7 @@ module _ (machine : Machine) (memory : List ℕ) (h h' : Held) (sets sets' : Set
   abbrev after : Cached
   after = record { machine = machine; memory = memory; held = h'; sets = sets' }
 
-  pub alike_sound : (granted : Caps) → IsSound before granted → IsSound after granted
+  pub alike_sound : (granted : Caps) → IsSoundMachine before granted → IsSoundMachine after granted
   alike_sound granted sound = record {
     formed = subst IsWellFormed (sym state) sound.formed;
     sets = subst (λ (s : FlatState). AreSetsOf s.threads sets') (sym state) (record {

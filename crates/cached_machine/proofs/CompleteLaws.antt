@@ -43,7 +43,7 @@ use Rattle.thread_sets.specs.SetsOf.{AreSetsOf}
 use Rattle.thread_sets.proofs.SetsLemmas.{sets_noted}
 use Rattle.board_laws.specs.desc_tables.specs.Tables.{Held}
 use Rattle.cached_machine.specs.Aside.{aside_of, but_for_steps, Aside}
-use Rattle.cached_machine.specs.Cached.{state_of, Cached, IsSound}
+use Rattle.cached_machine.specs.Cached.{state_of, Cached, IsSoundMachine}
 use Rattle.cached_machine.specs.Moved.{KeepsBeside, KeepsPost, OnlyRoom}
 use Rattle.cached_machine.specs.Posts.{last_in, mark_in, HasPosts}
 use Rattle.cached_machine.specs.Stepping.{IfThread}
@@ -127,7 +127,7 @@ module _ (machine : Machine) (memory : List ℕ) (h h' : Held) (sets : Sets) (sp
   pub row_went : state_of without_it ≡ record (state_of with_it) { rows = without space vpn.0 (state_of with_it).rows }
   row_went = retraction_shown (Some machine) memory h.contents h'.contents space vpn gone
 
-  pub row_went_sound : (granted : Caps) (seats : List ThreadNo) → residents_of h'.contents ≡ residents_of h.contents → IsSound with_it granted × HasPosts h seats → IsSound without_it granted × HasPosts h' seats
+  pub row_went_sound : (granted : Caps) (seats : List ThreadNo) → residents_of h'.contents ≡ residents_of h.contents → IsSoundMachine with_it granted × HasPosts h seats → IsSoundMachine without_it granted × HasPosts h' seats
   row_went_sound granted seats residents sound =
       let s = state_of with_it in
       let kept = held_without h h' rest residents (ap (λ (c : Contents). c.issued) gone.only) space vpn gone.contents in
@@ -184,7 +184,7 @@ module _ (machine : Machine) (memory : List ℕ) (h h' : Held) (sets sets' : Set
         subst₂ (λ (n : ThreadNo) (ss : Sets). AreSetsOf (set threads n.0 (flat_thread left)) ss) left_no (sym is) (sets_noted threads sets left within of)
 
     -- where it is one that may stand, the machine is sound
-    pub sound_left : (granted : Caps) → h'.caps ≡ h.caps → sets' ≡ noted sets left → Sound (with_thread (state_of before) no.0 (flat_thread left)) granted → IsSound before granted → IsSound after granted
+    pub sound_left : (granted : Caps) → h'.caps ≡ h.caps → sets' ≡ noted sets left → Sound (with_thread (state_of before) no.0 (flat_thread left)) granted → IsSoundMachine before granted → IsSoundMachine after granted
     sound_left granted caps is fits sound =
         sound_as before after granted granted refl caps sound (with_thread (state_of before) no.0 (flat_thread left)) now_stands fits (sets_after is sound.sets)
 
@@ -202,7 +202,7 @@ module _ (machine : Machine) (memory : List ℕ) (h h' : Held) (sets sets' : Set
     carried_beside = beside_held before after refl held spare
 
     module _ {T E : Type 0} (r : Result T E) (ok : OnOk r (flat_thread left ≡ own_part (flat_thread was))) (err : OnErr r (left ≡ was)) where
-      pub carried_sound : (granted : Caps) (seats : List ThreadNo) → IsSound before granted × HasPosts h seats → IsSound after granted × HasPosts h' seats
+      pub carried_sound : (granted : Caps) (seats : List ThreadNo) → IsSoundMachine before granted × HasPosts h seats → IsSoundMachine after granted × HasPosts h' seats
       carried_sound granted seats sound =
           let fits = own_fits (state_of before) granted (record { formed = sound.0.formed; sums = sound.0.sums }) no.0 (flat_thread was) (flat_thread left) stood r ok (on_err_weaker r (ap flat_thread) err) in
           (sound_left shows granted (ap (λ (x : Held). x.caps) rest) sets_are fits sound.0, posts_kept h h' seats held sound.1)

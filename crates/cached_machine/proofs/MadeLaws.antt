@@ -47,7 +47,7 @@ use Rattle.thread_sets.specs.SetsOf.{AreSetsOf}
 use Rattle.board_laws.specs.desc_tables.specs.Calls.{with_right}
 use Rattle.board_laws.specs.desc_tables.specs.Tables.{Held}
 use Rattle.board_laws.specs.Moves.{Declares, KeepsLoaded}
-use Rattle.cached_machine.specs.Cached.{is_loaded, state_of, Cached, IsSound}
+use Rattle.cached_machine.specs.Cached.{is_loaded, state_of, Cached, IsSoundMachine}
 use Rattle.cached_machine.specs.Moved.{IsMade, KeepsBeside, OnlyRoom}
 use Rattle.cached_machine.specs.Posts.{last_in, last_of, mark_in, AreSeated, HasPosts, HasSameMarks}
 use Rattle.cached_machine.proofs.AdmitLaws.{new_declared}
@@ -207,7 +207,7 @@ same_but_room threads sets sets' same of = record { completable = same.completab
 -- ---- what holds of the machine
 
 -- where only room changed
-pub sound_by_room : (m m' : Cached) (granted : Caps) → m'.machine ≡ m.machine → m'.held.caps ≡ m.held.caps → state_of m' ≡ state_of m → SameButRoom m.sets m'.sets → IsSound m granted → IsSound m' granted
+pub sound_by_room : (m m' : Cached) (granted : Caps) → m'.machine ≡ m.machine → m'.held.caps ≡ m.held.caps → state_of m' ≡ state_of m → SameButRoom m.sets m'.sets → IsSoundMachine m granted → IsSoundMachine m' granted
 sound_by_room m m' granted machine caps state same sound = record {
   formed = subst IsWellFormed (sym state) sound.formed;
   sets = subst (λ (s : FlatState). AreSetsOf s.threads m'.sets) (sym state) (same_but_room (state_of m).threads m.sets m'.sets same sound.sets);
@@ -215,9 +215,9 @@ sound_by_room m m' granted machine caps state same sound = record {
   sums = sound.sums ∙ ap (λ (s : FlatState). locks_granted s.kernels) (sym state);
 }
 
-module _ (m m' : Cached) (granted granted' : Caps) (machine : m'.machine ≡ m.machine) (caps : m'.held.caps ≡ m.held.caps) (sound : IsSound m granted) where
+module _ (m m' : Cached) (granted granted' : Caps) (machine : m'.machine ≡ m.machine) (caps : m'.held.caps ≡ m.held.caps) (sound : IsSoundMachine m granted) where
   -- where another state is shown
-  pub sound_as : (t : FlatState) → state_of m' ≡ t → Sound t granted' → AreSetsOf t.threads m'.sets → IsSound m' granted'
+  pub sound_as : (t : FlatState) → state_of m' ≡ t → Sound t granted' → AreSetsOf t.threads m'.sets → IsSoundMachine m' granted'
   sound_as t state is of = record {
     formed = subst IsWellFormed (sym state) is.formed;
     sets = subst (λ (s : FlatState). AreSetsOf s.threads m'.sets) (sym state) of;
@@ -225,33 +225,33 @@ module _ (m m' : Cached) (granted granted' : Caps) (machine : m'.machine ≡ m.m
     sums = is.sums ∙ ap (λ (s : FlatState). locks_granted s.kernels) (sym state);
   }
 
-module _ (m m' : Cached) (granted : Caps) (machine : m'.machine ≡ m.machine) (caps : m'.held.caps ≡ m.held.caps) (sound : IsSound m granted) where
+module _ (m m' : Cached) (granted : Caps) (machine : m'.machine ≡ m.machine) (caps : m'.held.caps ≡ m.held.caps) (sound : IsSoundMachine m granted) where
   abbrev s : FlatState
   s = state_of m
 
   base : Sound s granted
   base = record { formed = sound.formed; sums = sound.sums }
 
-  pub kernel_made : (n : KernelNo) (limits : Caps) → broken_rule s (decls.Kernel n limits) ≡ None → state_of m' ≡ declared s (decls.Kernel n limits) → AreSetsOf s.threads m'.sets → IsSound m' (plus granted limits)
+  pub kernel_made : (n : KernelNo) (limits : Caps) → broken_rule s (decls.Kernel n limits) ≡ None → state_of m' ≡ declared s (decls.Kernel n limits) → AreSetsOf s.threads m'.sets → IsSoundMachine m' (plus granted limits)
   unfolding declared
   kernel_made n limits fits state of = sound_as m m' granted (plus granted limits) machine caps sound (declared s (decls.Kernel n limits)) state (kernel_sound s granted base n limits fits) of
 
-  pub right_made : (kernel : KernelNo) (group : ℕ) (read write : Bool) → broken_rule s (decls.Right kernel group read write) ≡ None → state_of m' ≡ declared s (decls.Right kernel group read write) → AreSetsOf s.threads m'.sets → IsSound m' granted
+  pub right_made : (kernel : KernelNo) (group : ℕ) (read write : Bool) → broken_rule s (decls.Right kernel group read write) ≡ None → state_of m' ≡ declared s (decls.Right kernel group read write) → AreSetsOf s.threads m'.sets → IsSoundMachine m' granted
   unfolding declared
   right_made kernel group read write fits state of = sound_as m m' granted granted machine caps sound (declared s (decls.Right kernel group read write)) state (right_sound s granted base kernel group read write fits) of
 
-  pub space_made : (n : SpaceNo) (kernel : KernelNo) → broken_rule s (decls.Space n kernel) ≡ None → state_of m' ≡ declared s (decls.Space n kernel) → AreSetsOf s.threads m'.sets → IsSound m' granted
+  pub space_made : (n : SpaceNo) (kernel : KernelNo) → broken_rule s (decls.Space n kernel) ≡ None → state_of m' ≡ declared s (decls.Space n kernel) → AreSetsOf s.threads m'.sets → IsSoundMachine m' granted
   unfolding declared
   space_made n kernel fits state of = sound_as m m' granted granted machine caps sound (declared s (decls.Space n kernel)) state (space_sound s granted base n kernel fits) of
 
-  pub thread_made : (n : ThreadNo) (space : SpaceNo) (pc priority a0 a1 : ℕ) → broken_rule s (decls.Thread n space pc priority a0 a1) ≡ None → state_of m' ≡ declared s (decls.Thread n space pc priority a0 a1) → AreSetsOf (declared s (decls.Thread n space pc priority a0 a1)).threads m'.sets → IsSound m' granted
+  pub thread_made : (n : ThreadNo) (space : SpaceNo) (pc priority a0 a1 : ℕ) → broken_rule s (decls.Thread n space pc priority a0 a1) ≡ None → state_of m' ≡ declared s (decls.Thread n space pc priority a0 a1) → AreSetsOf (declared s (decls.Thread n space pc priority a0 a1)).threads m'.sets → IsSoundMachine m' granted
   thread_made n space pc priority a0 a1 fits state of = sound_as m m' granted granted machine caps sound (declared s (decls.Thread n space pc priority a0 a1)) state (thread_sound s granted base n space pc priority a0 a1 fits) of
 
-  pub row_made : (space : SpaceNo) (vpn : Vpn) (frame : Frame) (flags : Flags) (receiver : Option ThreadNo) → broken_rule s (decls.Map space vpn frame flags receiver) ≡ None → state_of m' ≡ declared s (decls.Map space vpn frame flags receiver) → AreSetsOf s.threads m'.sets → IsSound m' granted
+  pub row_made : (space : SpaceNo) (vpn : Vpn) (frame : Frame) (flags : Flags) (receiver : Option ThreadNo) → broken_rule s (decls.Map space vpn frame flags receiver) ≡ None → state_of m' ≡ declared s (decls.Map space vpn frame flags receiver) → AreSetsOf s.threads m'.sets → IsSoundMachine m' granted
   unfolding declared
   row_made space vpn frame flags receiver fits state of = sound_as m m' granted granted machine caps sound (declared s (decls.Map space vpn frame flags receiver)) state (row_sound s granted base space vpn frame flags receiver fits) of
 
-  pub word_made : (frame : Frame) (offset value : ℕ) → broken_rule s (decls.Word frame offset value) ≡ None → state_of m' ≡ declared s (decls.Word frame offset value) → AreSetsOf s.threads m'.sets → IsSound m' granted
+  pub word_made : (frame : Frame) (offset value : ℕ) → broken_rule s (decls.Word frame offset value) ≡ None → state_of m' ≡ declared s (decls.Word frame offset value) → AreSetsOf s.threads m'.sets → IsSoundMachine m' granted
   unfolding declared
   word_made frame offset value fits state of = sound_as m m' granted granted machine caps sound (declared s (decls.Word frame offset value)) state (word_sound s granted base frame offset value fits) of
 
@@ -271,7 +271,7 @@ module _ (machine : Machine) (memory : List ℕ) (h h' : Held) (sets sets' : Set
     pub room_state : state_of after ≡ state_of before
     room_state = shown_by_room h.contents h'.contents more (Some machine) memory
 
-    pub room_sound : (granted : Caps) (seats : List ThreadNo) → SameButRoom sets sets' → IsSound before granted × HasPosts h seats → IsSound after granted × HasPosts h' seats
+    pub room_sound : (granted : Caps) (seats : List ThreadNo) → SameButRoom sets sets' → IsSoundMachine before granted × HasPosts h seats → IsSoundMachine after granted × HasPosts h' seats
     room_sound granted seats same sound = (
       sound_by_room before after granted refl same_caps room_state same sound.0,
       posts_kept h h' seats (held_by_room h h' rest more) sound.1,

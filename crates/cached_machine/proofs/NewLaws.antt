@@ -27,7 +27,7 @@ use Rattle.board_laws.specs.shown_state.proofs.DeclareLemmas.{nothing_shown}
 use Rattle.thread_sets.specs.Sets.{Sets}
 use Rattle.thread_sets.specs.SetsOf.{AreSetsOf}
 use Rattle.board_laws.specs.desc_tables.specs.Tables.{Held}
-use Rattle.cached_machine.specs.Cached.{state_of, Cached, IsSound}
+use Rattle.cached_machine.specs.Cached.{state_of, Cached, IsSoundMachine}
 use Rattle.cached_machine.specs.Posts.{mark_in, AreSeated, HasPosts}
 
 -- a declared machine, before all else
@@ -65,7 +65,7 @@ module _ (machine : Machine) (memory : List ℕ) (held : Held) (sets : Sets) (ze
       nothing_shown (Some machine) memory machine.caps held.contents nothing
       ∙ ap (λ (bytes : List ℕ). record nothing_declared { machine = Some machine; memory = bytes }) zeros
 
-  pub new_sound : (granted : Caps) → rule_of_machine machine ≡ None → held.caps ≡ machine.caps → sets.completable ≡ [] → sets.ready ≡ [] → granted ≡ locks_granted [] → IsSound made granted
+  pub new_sound : (granted : Caps) → rule_of_machine machine ≡ None → held.caps ≡ machine.caps → sets.completable ≡ [] → sets.ready ≡ [] → granted ≡ locks_granted [] → IsSoundMachine made granted
   new_sound granted fits caps completable ready none = record {
     formed = subst IsWellFormed (sym shows_nothing) (first_formed machine fits);
     sets = subst (λ (ts : List FlatThread). AreSetsOf ts sets) (sym (ap (λ (s : FlatState). s.threads) shows_nothing)) (record { completable = completable; ready = ready });

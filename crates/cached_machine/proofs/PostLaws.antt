@@ -25,7 +25,7 @@ use Rattle.board_laws.specs.desc_tables.specs.Calls.{IsLike}
 use Rattle.board_laws.specs.Moves.{ShowsTheSame}
 use Rattle.cached_machine.specs.declared.posts.Post.{Post}
 use Rattle.cached_machine.specs.declared.posts.Post.TheVariants.{Out, In}
-use Rattle.cached_machine.specs.Cached.{is_loaded, IsSound}
+use Rattle.cached_machine.specs.Cached.{is_loaded, IsSoundMachine}
 use Rattle.cached_machine.specs.Posts.{but_at, last_in, last_of, mark_in, mark_of, posted, HasPosts, IsPosted, OnlyLoadedAreOut}
 use Rattle.cached_machine.proofs.AlikeLaws.{alike_sound, itself_but_room, posts_stay, same_loaded}
 use Rattle.cached_machine.proofs.LoadedLaws.{comes_from_itself, ComesFrom}
@@ -115,7 +115,7 @@ module _ (post : Post) (h h' : Held) (whom : ThreadNo) (is : IsPosted post h h' 
   ]
 
   module _ (machine : Machine) (memory : List ℕ) (sets : Sets) where
-    pub post_sound : (granted : Caps) → IsSound (record { machine = machine; memory = memory; held = h; sets = sets }) granted → IsSound (record { machine = machine; memory = memory; held = h'; sets = sets }) granted
+    pub post_sound : (granted : Caps) → IsSoundMachine (record { machine = machine; memory = memory; held = h; sets = sets }) granted → IsSoundMachine (record { machine = machine; memory = memory; held = h'; sets = sets }) granted
     post_sound = alike_sound machine memory h h' sets sets (is.only.shows (Some machine) memory) (ap (λ (x : Held). x.caps) is.only.rest) (itself_but_room sets)
 
   pub post_posts : (seats : List ThreadNo) → OnlyLoadedAreOut new → HasPosts h seats → HasPosts h' seats

@@ -28,7 +28,7 @@ use Rattle.board_laws.specs.shown_state.proofs.MoveLemmas.{alike_room, alike_spa
 use Rattle.board_laws.specs.store_residents.proofs.SlotLaws.{are_few}
 use Rattle.thread_sets.specs.Sets.{SameButRoom, Sets}
 use Rattle.thread_sets.specs.SetsOf.{AreSetsOf}
-use Rattle.cached_machine.specs.Cached.{Cached, IsSound}
+use Rattle.cached_machine.specs.Cached.{Cached, IsSoundMachine}
 use Rattle.cached_machine.specs.Moved.{OnlyRoom}
 use Rattle.cached_machine.specs.Posts.{HasPosts}
 use Rattle.cached_machine.proofs.AlikeLaws.{alike_sound, posts_stay, same_loaded, same_marks, same_out}
@@ -118,7 +118,7 @@ module _ (machine : Machine) (memory : List ℕ) (h h' : Held) (sets sets' : Set
   same_caps : h'.caps ≡ h.caps
   same_caps = ap (λ (x : Held). x.caps) rest
 
-  pub room_sound : (granted : Caps) → IsSound before granted → IsSound after granted
+  pub room_sound : (granted : Caps) → IsSoundMachine before granted → IsSoundMachine after granted
   room_sound = alike_sound machine memory h h' sets sets' (differs.shows (Some machine) memory) same_caps same
 
   pub room_posts : (seats : List ThreadNo) → HasPosts h seats → HasPosts h' seats
@@ -150,7 +150,7 @@ its_memory : (machine : Option Machine) (memory : List ℕ) (c : Contents) → (
 unfolding shown
 its_memory machine memory c = refl
 
-pub memory_sound : (machine : Machine) (memory memory' : List ℕ) (h : Held) (sets : Sets) (granted : Caps) → length memory' ≡ length memory → IsSound (record { machine = machine; memory = memory; held = h; sets = sets }) granted → IsSound (record { machine = machine; memory = memory'; held = h; sets = sets }) granted
+pub memory_sound : (machine : Machine) (memory memory' : List ℕ) (h : Held) (sets : Sets) (granted : Caps) → length memory' ≡ length memory → IsSoundMachine (record { machine = machine; memory = memory; held = h; sets = sets }) granted → IsSoundMachine (record { machine = machine; memory = memory'; held = h; sets = sets }) granted
 memory_sound machine memory memory' h sets granted long sound =
     let is = memory_shown (Some machine) memory memory' h.contents in
     let formed = sound.formed in

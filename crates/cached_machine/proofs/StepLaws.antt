@@ -45,7 +45,7 @@ use Rattle.thread_sets.proofs.SetsLemmas.{sets_noted}
 use Rattle.board_laws.specs.desc_tables.specs.Tables.{Held}
 use Rattle.cached_machine.specs.declared.stepping.Change.{Change}
 use Rattle.cached_machine.specs.declared.stepping.Change.TheVariants.{Put, Give, Answer}
-use Rattle.cached_machine.specs.Cached.{state_of, Cached, IsSound}
+use Rattle.cached_machine.specs.Cached.{state_of, Cached, IsSoundMachine}
 use Rattle.cached_machine.specs.Aside.{aside_of, but_for_steps}
 use Rattle.cached_machine.specs.Stepping.{lacks_mark, left_by, shows_left_by, IsMarked, IsStepped, MayCome, OnlyContents}
 
@@ -177,7 +177,7 @@ module _ (machine : Machine) (memory : List ℕ) (change : Change) (h h' : Held)
     pub shows : state_of after ≡ with_thread (state_of before) no.0 (shows_left_by change t)
     shows = now_stands ∙ ap (with_thread (state_of before) no.0) (shows_left change is.value its_may ∙ ap (shows_left_by change) is_value)
 
-    pub sound_stays : (granted : Caps) → IsSound before granted → IsSound after granted
+    pub sound_stays : (granted : Caps) → IsSoundMachine before granted → IsSoundMachine after granted
     sound_stays granted sound =
         let kept = thread_kept change is.value in
         let known = sound.formed.threads.each no.0 (flat_thread is.value) stood in
@@ -225,7 +225,7 @@ module _ (machine : Machine) (memory : List ℕ) (h h' : Held) (sets : Sets) (sp
   pub mark_aside : aside_of remarked ≡ aside_of unmarked
   mark_aside = aside_kept machine memory memory h h' sets sets only refl mark_contents
 
-  pub mark_sound : (granted : Caps) → IsSound unmarked granted → IsSound remarked granted
+  pub mark_sound : (granted : Caps) → IsSoundMachine unmarked granted → IsSoundMachine remarked granted
   mark_sound granted sound = record {
     formed = rw marks (marked_sound (state_of unmarked) granted (record { formed = sound.formed; sums = sound.sums }) space vpn.0 written).formed;
     sets = subst (λ (ts : List FlatThread). AreSetsOf ts sets) (sym (ap (λ (s : FlatState). s.threads) marks)) sound.sets;
@@ -290,7 +290,7 @@ module _ (machine : Machine) (memory : List ℕ) (h h' : Held) (sets : Sets) (sp
   pub record MarkLeaves : Type 0 where
     pub state : state_of (record { machine = machine; memory = memory; held = h'; sets = sets }) ≡ record (state_of (record { machine = machine; memory = memory; held = h; sets = sets })) { rows = map (marked space vpn.0 written) (state_of (record { machine = machine; memory = memory; held = h; sets = sets })).rows }
     pub aside : aside_of (record { machine = machine; memory = memory; held = h'; sets = sets }) ≡ aside_of (record { machine = machine; memory = memory; held = h; sets = sets })
-    pub sound : (granted : Caps) → IsSound (record { machine = machine; memory = memory; held = h; sets = sets }) granted → IsSound (record { machine = machine; memory = memory; held = h'; sets = sets }) granted
+    pub sound : (granted : Caps) → IsSoundMachine (record { machine = machine; memory = memory; held = h; sets = sets }) granted → IsSoundMachine (record { machine = machine; memory = memory; held = h'; sets = sets }) granted
 
   pub mark_left : MarkLeaves
   mark_left = by (stored.content_of slot_row_name h.contents.rows.kept (name.Mapping space vpn)) refl
@@ -302,7 +302,7 @@ module _ (machine : Machine) (memory : List ℕ) (h h' : Held) (sets : Sets) (sp
           record {
             state = ap (λ (x : Held). shown (Some machine) memory x.contents) same ∙ sym (mark_nothing (Some machine) memory h.contents space vpn was written);
             aside = ap (λ (x : Held). aside_of (record { machine = machine; memory = memory; held = x; sets = sets })) same;
-            sound = λ granted sound. subst (λ (x : Held). IsSound (record { machine = machine; memory = memory; held = x; sets = sets }) granted) (sym same) sound;
+            sound = λ granted sound. subst (λ (x : Held). IsSoundMachine (record { machine = machine; memory = memory; held = x; sets = sets }) granted) (sym same) sound;
           }
       by (Some row) e =
           let was : content_of h.contents (name.Mapping space vpn) ≡ Some (item.Mapping row) = ap (option_map item.Mapping) e in
@@ -320,6 +320,6 @@ module _ (machine : Machine) (memory memory' : List ℕ) (h : Held) (sets : Sets
   unfolding shown
   stores = refl
 
-  pub store_sound : (granted : Caps) → length memory' ≡ length memory → IsSound (record { machine = machine; memory = memory; held = h; sets = sets }) granted → IsSound (record { machine = machine; memory = memory'; held = h; sets = sets }) granted
+  pub store_sound : (granted : Caps) → length memory' ≡ length memory → IsSoundMachine (record { machine = machine; memory = memory; held = h; sets = sets }) granted → IsSoundMachine (record { machine = machine; memory = memory'; held = h; sets = sets }) granted
   unfolding shown
   store_sound granted same sound = record { formed = memory_formed (state_of (record { machine = machine; memory = memory; held = h; sets = sets })) memory' sound.formed same; sets = sound.sets; caps = sound.caps; sums = sound.sums }

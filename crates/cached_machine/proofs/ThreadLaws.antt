@@ -24,9 +24,9 @@ use Rattle.board_laws.specs.shown_state.specs.Shown.{flat_thread, shown}
 use Rattle.thread_sets.specs.Sets.{pushed, SameButRoom, Sets}
 use Rattle.thread_sets.specs.SetsOf.{AreSetsOf}
 use Rattle.thread_sets.proofs.SetsLemmas.{sets_pushed}
-use Rattle.board_laws.specs.desc_admits.specs.May.{MayBeDeclared}
+use Rattle.board_laws.specs.desc_tables.specs.May.{MayBeDeclared}
 use Rattle.board_laws.specs.desc_tables.specs.Tables.{Held}
-use Rattle.cached_machine.specs.Cached.{state_of, Cached, IsSound}
+use Rattle.cached_machine.specs.Cached.{state_of, Cached, IsSoundMachine}
 use Rattle.cached_machine.specs.Moved.{IsMade}
 use Rattle.cached_machine.specs.Posts.{HasPosts}
 use Rattle.cached_machine.proofs.AdmitLaws.{next_thread, thread_may}
@@ -84,7 +84,7 @@ module _ (machine : Machine) (memory : List ℕ) (h h1 : Held) (sets sets1 : Set
         all_sets is of =
             subst₂ (λ (t : FlatThread) (ss : Sets). AreSetsOf ((state_of between).threads ++ t ∷ []) ss) its (sym is) (sets_pushed (state_of between).threads sets1 thread of)
 
-        pub thread_keeps : (granted : Caps) (seats : List ThreadNo) → sets2 ≡ pushed sets1 thread → IsSound before granted × HasPosts h seats → IsSound after granted × HasPosts h2 seats
+        pub thread_keeps : (granted : Caps) (seats : List ThreadNo) → sets2 ≡ pushed sets1 thread → IsSoundMachine before granted × HasPosts h seats → IsSoundMachine after granted × HasPosts h2 seats
         thread_keeps granted seats is sound =
             let mid = room_sound machine memory h h1 sets sets1 rest1 more granted seats same sound in (
               thread_made between after granted refl (ap (λ (x : Held). x.caps) rest2) mid.0 no space pc priority a0 a1 fits_between state_after (all_sets is mid.0.sets),

@@ -32,7 +32,7 @@ is_loaded c name = list_any (λ (r : Resident). is_name name r.name) (residents_
 
 -- The state that is shown is well-formed, and the sets are those of its threads. The capacities are those of the machine, and
 -- the lock limits are summed.
-pub record IsSound (m : Cached) (granted : Caps) : Type 0 where
+pub record IsSoundMachine (m : Cached) (granted : Caps) : Type 0 where
   pub formed : IsWellFormed (state_of m)
   pub sets : AreSetsOf (state_of m).threads m.sets
   pub caps : m.held.caps ≡ m.machine.caps

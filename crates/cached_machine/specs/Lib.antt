@@ -1,5 +1,4 @@
 pub use Rattle.board_laws
-pub use Rattle.board_laws.specs.desc_admits
 pub use Rattle.board_laws.specs.desc_groups
 pub use Rattle.board_laws.specs.desc_parents
 pub use Rattle.board_laws.specs.desc_stores

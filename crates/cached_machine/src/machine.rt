@@ -32,14 +32,14 @@ pub struct CachedMachine {
 }
 
 impl Model for CachedMachine {
-    ghost use Rattle.cached_machine.specs.Cached.{Cached, IsSound};
+    ghost use Rattle.cached_machine.specs.Cached.{Cached, IsSoundMachine};
     ghost use Rattle.cached_machine.specs.Posts.{HasPosts};
 
     ghost Value = { Cached };
 
     ghost view = { λ m. record { machine = m.machine; memory = m.memory; held = m.tables; sets = m.sets } };
 
-    ghost invariant = { λ m. IsSound (record { machine = m.machine; memory = m.memory; held = m.tables; sets = m.sets }) m.granted × HasPosts m.tables m.seats.items };
+    ghost invariant = { λ m. IsSoundMachine (record { machine = m.machine; memory = m.memory; held = m.tables; sets = m.sets }) m.granted × HasPosts m.tables m.seats.items };
 }
 
 impl CachedMachine {

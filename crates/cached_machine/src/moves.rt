@@ -5,7 +5,7 @@ ghost use Rattle.cache_ident.specs.declared.idents.Standing.TheVariants.{Live};
 ghost use Rattle.cache_ident.specs.Rolls.{standing_in};
 ghost use Rattle.board_laws.specs.desc_stores.specs.Changes.{room_of};
 ghost use Rattle.board_laws.specs.desc_groups.specs.Moves.{HasPlaces, MayBeLocked};
-ghost use Rattle.board_laws.specs.desc_admits.specs.May.{MayBeLoaded};
+ghost use Rattle.board_laws.specs.desc_tables.specs.May.{MayBeLoaded};
 ghost use Rattle.board_laws.specs.desc_tables.specs.Calls.{HasPlacesFor};
 ghost use Rattle.board_laws.specs.Moves.{IsLoad, IsLock, IsUnload};
 ghost use Rattle.cached_machine.specs.Cached.{state_of};

@@ -18,13 +18,13 @@ use phys_groups::{Rights, Row};
 use space_cache::SpaceRec;
 use thread_cache::ThreadRec;
 
-// Does nothing. Whoever asks the tables for their room learns what holds of them; it is asked here for that alone.
+// Does nothing. A proof has from it what the tables' soundness says of what is found.
 pub(crate) fn known(tables: &Tables)
     ensures one { IsExactlyOne tables.now.contents }
     ensures found { (machine : Option Machine) (memory : List ℕ) → AreFound (shown machine memory tables.now.contents) tables.now.contents }
     ensures listed { (machine : Option Machine) (memory : List ℕ) → AreListed (shown machine memory tables.now.contents) tables.now.contents }
 {
-    let _ = tables.room();
+    tables.are_sound();
 }
 
 // How many rows stand.
@@ -66,7 +66,7 @@ fn thread_named(tables: &Tables, name: Name, near: Option<Ident>) -> Option<&Thr
 }
 
 // The row of a name, if it is that of one.
-fn row_named(tables: &Tables, name: Name) -> Option<&Row>
+pub(crate) fn row_named(tables: &Tables, name: Name) -> Option<&Row>
     ensures { option_copied result ≡ row_of_item (content_of tables.now.contents name) }
 {
     match tables.item(name) {

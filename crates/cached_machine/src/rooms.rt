@@ -37,12 +37,18 @@ impl CachedMachine {
 
     /// How many descriptors of each kind can be declared without memory. Constant time.
     pub fn room(&self) -> usize
-        ensures room { result ≡ min (room_of self.now.held.contents) self.now.sets.room }
+        ensures { result ≡ min (room_of self.now.held.contents) self.now.sets.room }
+    {
+        self.tables.room().min(self.sets.room())
+    }
+
+    /// What holds of the tables of every machine, and that no more is loaded than the capacities allow. It does nothing.
+    pub fn tables_are_sound(&self)
         ensures sound { (pairs : List (Ident × Node)) × AreSound self.now.held pairs }
         ensures places { (root : Ident) (at : ℕ) → at + count_of self.now.held.caps ≤ 2 ^ 64 → HasPlaces self.now.held.contents root at }
         ensures few { length (residents_of self.now.held.contents) ≤ count_of self.now.held.caps }
     {
-        self.tables.room().min(self.sets.room())
+        self.tables.are_sound();
     }
 
     /// Makes room for one more descriptor of each kind. Nothing else changes, and no room falls, also where memory is wanted.

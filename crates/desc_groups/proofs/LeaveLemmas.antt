@@ -8,7 +8,8 @@ use Rattle.cache_ident.specs.declared.idents.Ident.{Ident}
 use Rattle.cache_ident.specs.declared.idents.Standing.TheVariants.{Live}
 use Rattle.cache_ident.specs.declared.names.Caps.{Caps}
 use Rattle.cache_ident.specs.declared.rolls.Issued.{Issued}
-use Rattle.cache_ident.specs.Residents.{Resident, without}
+use Rattle.cache_ident.specs.declared.names.Name.{Name}
+use Rattle.cache_ident.specs.Residents.{without, IsResident, Resident}
 use Rattle.cache_ident.specs.Rolls.{departed, is_same, standing_in}
 use Rattle.cache_ident.proofs.RollLemmas.{is_same-refl}
 use Rattle.depend_lists.specs.declared.nodes.Node.{Node}
@@ -22,13 +23,13 @@ use Rattle.desc_parents.specs.resident_pairs.specs.Among.{Among}
 use Rattle.desc_parents.specs.desc_stores.specs.Contents.{resident_as, residents_of, Contents}
 use Rattle.desc_parents.specs.group_laws.specs.Leaving.{without_all}
 use Rattle.desc_parents.specs.group_laws.proofs.FromBelow.{group_leaves}
-use Rattle.desc_parents.specs.group_laws.proofs.Remaining.{without_all-push}
+use Rattle.desc_parents.specs.group_laws.proofs.Remaining.{without_all-push, without_all_cases}
 use Rattle.desc_parents.specs.shown_state.proofs.LookupLemmas.{one_row_a_page}
 use Rattle.desc_parents.specs.store_residents.proofs.KindLemmas.{at_as, live_loaded}
 use Rattle.desc_parents.specs.store_residents.proofs.ResidentLemmas.{live_iff, loaded_resident, one_each, resident_loaded}
 use Rattle.desc_parents.specs.Seen.{seen}
 use Rattle.desc_groups.specs.declared.departures.Gone.{Gone}
-use Rattle.desc_groups.specs.Moves.{departed_all, gone_as, idents_of, HasPlaces, KeepsButCounts}
+use Rattle.desc_groups.specs.Moves.{departed_all, gone_as, idents_of, AreNamed, HasPlaces, KeepsButCounts}
 use Rattle.desc_groups.specs.Whole.{AreWhole}
 use Rattle.desc_groups.proofs.ShowLemmas.{but_counts_onward, seen_kept}
 
@@ -84,9 +85,23 @@ one_less ident (x ∷ rs) q there is = by (λ later. one_less ident rs q later i
     by less false test (inl first) = let itself : is_same x.ident ident ≡ true = ap (λ (r : Resident). is_same r.ident ident) first ∙ ap (λ (i : Ident). is_same i ident) is ∙ is_same-refl ident in absurd (cc)
     by less false test (inr later) = let rest = less later in omega arith
 
+-- one more has its name
+named_more : (rs : List Resident) (idents : List Ident) (names : List Name) (ident : Ident) (name : Name) → AreNamed rs idents names → IsResident rs ident name → AreNamed rs (idents ++ ident ∷ []) (names ++ name ∷ [])
+named_more rs [] [] ident name are is = (is, tt)
+named_more rs [] (n ∷ names) ident name are is = absurd are
+named_more rs (i ∷ idents) [] ident name are is = absurd are
+named_more rs (i ∷ idents) (n ∷ names) ident name are is = (are.0, named_more rs idents names ident name are.1 is)
+
+-- there are as many names as identifiers
+named_length : (rs : List Resident) (idents : List Ident) (names : List Name) → AreNamed rs idents names → length names ≡ length idents
+named_length rs [] [] are = refl
+named_length rs [] (n ∷ names) are = absurd are
+named_length rs (i ∷ idents) [] are = absurd are
+named_length rs (i ∷ idents) (n ∷ names) are = let rest = named_length rs idents names are.1 in omega arith
+
 -- ---- what has left before a place
 
-pub record HasLeft (root : Ident) (cause : Cause) (at : ℕ) (nodes : List Node) (old now : Contents) (among : Among) (gone : List Gone) (place : ℕ) : Type 0 where
+pub record HasLeft (root : Ident) (cause : Cause) (at : ℕ) (nodes : List Node) (old now : Contents) (among : Among) (gone : List Gone) (names : List Name) (place : ℕ) : Type 0 where
   pub order : among.order ≡ nodes
   pub whole : AreWhole among.caps now among.pairs
   pub within : place ≤ length nodes
@@ -94,6 +109,7 @@ pub record HasLeft (root : Ident) (cause : Cause) (at : ℕ) (nodes : List Node)
   pub issued : now.issued ≡ departed_all old.issued (idents_to nodes place) at
   pub kept : KeepsButCounts old now
   pub gone_are : gone ≡ map (gone_of root cause) (take place nodes)
+  pub named : AreNamed (residents_of old) (idents_to nodes place) names
   pub few : place + length (residents_of now) ≤ length (residents_of old)
 
 all_taken : (nodes : List Node) (place : ℕ) → slice_get nodes place ≡ None → take place nodes ≡ nodes
@@ -141,7 +157,7 @@ module _ {caps : Caps} {old : Contents} {pairs : List (Ident × Node)} (whole : 
       let group : IsGroup (seen old) (residents_of old) r (map ident_of nodes) = record { pairs = pairs; are = whole.pairs_are; nodes = nodes; order = r_order; whole = refl } in
       subst (λ (n : ℕ). at + n ≤ 2 ^ 64) (length-map nodes ident_of) (places r (map ident_of nodes) (loaded_resident old whole.one.sound root r held.1) (at_as old root r held.1).1 group)
 
-  module _ {cause : Cause} {at : ℕ} {now : Contents} {among : Among} {gone : List Gone} {place : ℕ} (left : HasLeft root cause at nodes old now among gone place) where
+  module _ {cause : Cause} {at : ℕ} {now : Contents} {among : Among} {gone : List Gone} {names : List Name} {place : ℕ} (left : HasLeft root cause at nodes old now among gone names place) where
     ordered : (o : Option Node) → slice_get among.order place ≡ o → slice_get nodes place ≡ o
     ordered o is = ap (λ (all : List Node). slice_get all place) (sym left.order) ∙ is
 
@@ -179,9 +195,19 @@ module _ {caps : Caps} {old : Contents} {pairs : List (Ident × Node)} (whole : 
       pub gone_before : length gone ≡ place
       gone_before = ap length left.gone_are ∙ length-map (take place nodes) (gone_of root cause) ∙ length-take-le place nodes left.within
 
-      pub next_left : (new : Contents) (rest : Among) (behind : List Gone) → AreWhole rest.caps new rest.pairs → rest.order ≡ among.order → residents_of new ≡ without node.ident (residents_of now)
-          → new.issued ≡ departed now.issued node.ident (at + place) → KeepsButCounts now new → behind ≡ gone ++ gone_of root cause node ∷ [] → HasLeft root cause at nodes old new rest behind (place + 1)
-      next_left new rest behind whole_new same_order residents issued kept behind_is = record {
+      -- it was resident under its name before the first one left
+      next_named : (name : Name) → ((x : Resident) → resident_as now node.ident ≡ Some x → x.name ≡ name) → IsResident (residents_of old) node.ident name
+      next_named name its =
+          let before = (without_all_cases (idents_to nodes place) (residents_of old) q (next place node is).1).0 in
+          (q, before, own, its q (ap (resident_as now) (sym own) ∙ resident_loaded now q q_there))
+
+      pub named_before : length names ≡ place
+      named_before = named_length (residents_of old) (idents_to nodes place) names left.named ∙ length-map (take place nodes) ident_of ∙ length-take-le place nodes left.within
+
+      pub next_left : (new : Contents) (rest : Among) (behind : List Gone) (others : List Name) (name : Name) → AreWhole rest.caps new rest.pairs → rest.order ≡ among.order → residents_of new ≡ without node.ident (residents_of now)
+          → new.issued ≡ departed now.issued node.ident (at + place) → KeepsButCounts now new → behind ≡ gone ++ gone_of root cause node ∷ []
+          → ((x : Resident) → resident_as now node.ident ≡ Some x → x.name ≡ name) → others ≡ names ++ name ∷ [] → HasLeft root cause at nodes old new rest behind others (place + 1)
+      next_left new rest behind others name whole_new same_order residents issued kept behind_is its others_are = record {
         order = same_order ∙ left.order;
         whole = whole_new;
         within = (let low = next_within in omega arith);
@@ -194,6 +220,9 @@ module _ {caps : Caps} {old : Contents} {pairs : List (Ident × Node)} (whole : 
         kept = but_counts_onward old now new left.kept kept;
         gone_are = behind_is ∙ ap (λ (all : List Gone). all ++ gone_of root cause node ∷ []) left.gone_are
             ∙ sym (map-append (gone_of root cause) (take place nodes) (node ∷ [])) ∙ ap (map (gone_of root cause)) (sym (taken_more nodes place node is));
+        named = subst (λ (all : List Name). AreNamed (residents_of old) (idents_to nodes (place + 1)) all) (sym others_are)
+            (subst (λ (idents : List Ident). AreNamed (residents_of old) idents (names ++ name ∷ [])) (sym (idents_more nodes place node is))
+            (named_more (residents_of old) (idents_to nodes place) names node.ident name left.named (next_named name its)));
         few = (let one = one_less node.ident (residents_of now) q q_there own in let few = left.few in let same = ap length residents in omega arith);
       }
         where
@@ -216,6 +245,9 @@ module _ {caps : Caps} {old : Contents} {pairs : List (Ident × Node)} (whole : 
 
       pub residents_all : residents_of now ≡ without_all (idents_of gone) (residents_of old)
       residents_all = left.residents ∙ ap (λ (idents : List Ident). without_all idents (residents_of old)) idents_are
+
+      pub named_all : AreNamed (residents_of old) (idents_of gone) names
+      named_all = subst (λ (idents : List Ident). AreNamed (residents_of old) idents names) idents_are left.named
 
       pub issued_all : now.issued ≡ departed_all old.issued (idents_of gone) at
       issued_all = left.issued ∙ ap (λ (idents : List Ident). departed_all old.issued idents at) idents_are

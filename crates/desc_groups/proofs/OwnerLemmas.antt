@@ -3,8 +3,8 @@ use Rattle.std.proofs.Common.{◌≡◌, ℕ, Bool, true, false, length, List, [
 use Rattle.std.specs.Prelude.{if◌then◌else◌, option_to_list}
 use Rattle.std.proofs.lemmas.Option.{slice_get-get_or, slice_get_within}
 use Rattle.std.proofs.lemmas.Bool.{lt-ltb}
-use Rattle.std.specs.Bool.{then_some}
 use Rattle.std.specs.Option.{option_map}
+use Rattle.cache_ident.specs.declared.classes.Class.{Class}
 use Rattle.cache_ident.specs.declared.classes.Class.TheVariants as classes
 use Rattle.cache_ident.specs.declared.names.KernelNo.{KernelNo}
 use Rattle.cache_ident.specs.declared.names.Name.{Name}
@@ -28,6 +28,7 @@ use Rattle.phys_groups.specs.declared.rows.Row.{Row}
 use Rattle.phys_groups.specs.Rows.{row_name}
 use Rattle.kernel_cache.specs.declared.KernelRec.{KernelRec}
 use Rattle.kernel_cache.specs.Kernels as kernel_rec
+use Rattle.space_cache.specs.declared.SpaceRec.{SpaceRec}
 use Rattle.thread_cache.specs.declared.ThreadRec.{ThreadRec}
 use Rattle.cache_ident.specs.declared.idents.Kind.{Kind}
 use Rattle.cache_ident.specs.Names.{amount_of}
@@ -37,82 +38,77 @@ use Rattle.desc_parents.specs.desc_stores.specs.declared.items.Item.TheVariants 
 use Rattle.desc_parents.specs.desc_stores.specs.Contents.{content_of, item_as, resident_as, Contents}
 use Rattle.desc_parents.specs.desc_stores.specs.Items.{name_of}
 use Rattle.desc_parents.specs.desc_stores.specs.Sound.{IsExactlyOne}
-use Rattle.desc_parents.specs.shown_state.specs.Shown.{kernel_of, row_of_item, thread_of}
-use Rattle.desc_parents.specs.shown_state.proofs.ContentLemmas.{content_has_name, item_has_name, row_has_name}
-use Rattle.desc_parents.specs.shown_state.proofs.LookupLemmas.{count_kernels, found_kernel, found_row, found_thread, name_stands}
+use Rattle.desc_parents.specs.shown_state.specs.Shown.{kernel_of, row_of_item, space_of, thread_of}
+use Rattle.desc_parents.specs.shown_state.proofs.ContentLemmas.{content_has_name, item_has_name}
+use Rattle.desc_parents.specs.shown_state.proofs.LookupLemmas.{found_kernel, found_row, found_space, found_thread, name_stands}
 use Rattle.desc_parents.specs.Seen.{seen}
 
 -- the first kernel, if it is asked for
 abbrev first_if : Bool → Option KernelNo
 first_if b = if b then Some (record { 0 = 0 }) else None
 
-some_if : (b : Bool) (kernel : KernelNo) → then_some b kernel ≡ (if b then Some kernel else None)
-some_if true kernel = refl
-some_if false kernel = refl
+-- the class of a content, and its owner
+abbrev pub class_of_item : Item → Class
+class_of_item (item.Kernel kernel) = classes.Kernel
+class_of_item (item.Space space) = classes.Space
+class_of_item (item.Thread thread) = classes.Thread
+class_of_item (item.Mapping row) = class_of_row (Some row)
 
-module _ (c : Contents) where
-  -- the classes of what has a number
-  pub class_kernel : (kernel : KernelNo) → classes.Kernel ≡ class_of (seen c) (name.Kernel kernel)
+abbrev pub owner_of_item : FlatState → Item → Option KernelNo
+owner_of_item s (item.Kernel kernel) = Some (record { 0 = 0 })
+owner_of_item s (item.Space space) = Some space.kernel
+owner_of_item s (item.Thread thread) = owner s (name.Space thread.space)
+owner_of_item s (item.Mapping row) = owner s (name.Space row.space)
+
+module _ (c : Contents) (one : IsExactlyOne c) where
+  class_page : (row : Row) → content_of c (row_name row) ≡ Some (item.Mapping row) → class_of_row (Some row) ≡ class_of (seen c) (row_name row)
   unfolding class_of
-  class_kernel kernel = refl
+  class_page row there = ap (λ (o : Option Item). class_of_row (row_of_item o)) (sym there) ∙ ap class_of_row (sym (found_row None [] c one row.space row.vpn))
 
-  pub class_space : (space : SpaceNo) → classes.Space ≡ class_of (seen c) (name.Space space)
+  numbered_kernel : (number : KernelNo) → classes.Kernel ≡ class_of (seen c) (name.Kernel number)
   unfolding class_of
-  class_space space = refl
+  numbered_kernel number = refl
 
-  pub class_thread : (thread : ThreadNo) → classes.Thread ≡ class_of (seen c) (name.Thread thread)
+  numbered_space : (number : SpaceNo) → classes.Space ≡ class_of (seen c) (name.Space number)
   unfolding class_of
-  class_thread thread = refl
+  numbered_space number = refl
 
-  owner_space : (space : SpaceNo) → owner (seen c) (name.Space space) ≡ slice_get (seen c).spaces space.0
+  numbered_thread : (number : ThreadNo) → classes.Thread ≡ class_of (seen c) (name.Thread number)
+  unfolding class_of
+  numbered_thread number = refl
+
+  -- they are those of its name, where it stands
+  pub class_as_item : (content : Item) → content_of c (name_of content) ≡ Some content → class_of_item content ≡ class_of (seen c) (name_of content)
+  class_as_item (item.Kernel kernel) there = numbered_kernel kernel.no
+  class_as_item (item.Space space) there = numbered_space space.no
+  class_as_item (item.Thread thread) there = numbered_thread thread.no
+  class_as_item (item.Mapping row) there = class_page row there
+
+  owner_kernel : (kernel : KernelNo) → stands (seen c) (name.Kernel kernel) ≡ true → Some (record { 0 = 0 }) ≡ owner (seen c) (name.Kernel kernel)
+  unfolding stands owner
+  owner_kernel kernel there = by (slice_get (seen c).kernels kernel.0) refl there
+    where
+      by : (o : Option FlatKernel) → slice_get (seen c).kernels kernel.0 ≡ o → is_some o ≡ true → Some (record { 0 = 0 }) ≡ first_if (nat_lt kernel.0 (length (seen c).kernels))
+      by None is some = absurd (cc)
+      by (Some found) is some = sym (ap first_if (lt-ltb kernel.0 (length (seen c).kernels) (slice_get_within (seen c).kernels kernel.0 found is)))
+
+  owner_space : (space : SpaceRec) → content_of c (name.Space space.no) ≡ Some (item.Space space) → Some space.kernel ≡ owner (seen c) (name.Space space.no)
   unfolding owner
-  owner_space space = refl
+  owner_space space there = ap space_of (sym there) ∙ sym (found_space None [] c one space.no.0)
 
-  module _ (one : IsExactlyOne c) where
-    class_page : (space : SpaceNo) (vpn : Vpn) → class_of_row (row_of_item (content_of c (name.Mapping space vpn))) ≡ class_of (seen c) (name.Mapping space vpn)
-    unfolding class_of
-    class_page space vpn = ap class_of_row (sym (found_row None [] c one space vpn))
+  owner_thread : (thread : ThreadRec) → content_of c (name.Thread thread.no) ≡ Some (item.Thread thread) → owner (seen c) (name.Space thread.space) ≡ owner (seen c) (name.Thread thread.no)
+  unfolding owner
+  owner_thread thread there = ap (λ (o : Option Item). owner_of_thread (seen c) (thread_of o)) (sym there) ∙ ap (owner_of_thread (seen c)) (sym (found_thread None [] c one thread.no.0))
 
-    -- the class of a row
-    pub class_row : (n : Name) (space : SpaceNo) (vpn : Vpn) → n ≡ name.Mapping space vpn → class_of_row (row_of_item (content_of c n)) ≡ class_of (seen c) n
-    class_row n space vpn is = subst (λ (m : Name). class_of_row (row_of_item (content_of c m)) ≡ class_of (seen c) m) (sym is) (class_page space vpn)
+  owner_row : (row : Row) → content_of c (row_name row) ≡ Some (item.Mapping row) → owner (seen c) (name.Space row.space) ≡ owner (seen c) (row_name row)
+  unfolding owner
+  owner_row row there = ap (λ (o : Option Item). owner_of_row (seen c) (row_of_item o)) (sym there) ∙ ap (owner_of_row (seen c)) (sym (found_row None [] c one row.space row.vpn))
 
-    -- the owner of each kernel that was declared, of a thread and of a row
-    pub owner_kernel : (kernel : KernelNo) → then_some (nat_lt kernel.0 c.kernel_count) (record { 0 = 0 }) ≡ owner (seen c) (name.Kernel kernel)
-    unfolding owner
-    owner_kernel kernel = some_if (nat_lt kernel.0 c.kernel_count) (record { 0 = 0 }) ∙ ap (λ (n : ℕ). if nat_lt kernel.0 n then Some (record { 0 = 0 }) else None) (sym (count_kernels None [] c one))
-
-    owner_numbered : (thread : ThreadNo) → owner_of_thread (seen c) (thread_of (content_of c (name.Thread thread))) ≡ owner (seen c) (name.Thread thread)
-    unfolding owner
-    owner_numbered thread = ap (owner_of_thread (seen c)) (sym (found_thread None [] c one thread.0))
-
-    pub owner_thread : (n : Name) (thread : ThreadNo) → n ≡ name.Thread thread → owner_of_thread (seen c) (thread_of (content_of c n)) ≡ owner (seen c) n
-    owner_thread n thread is = subst (λ (m : Name). owner_of_thread (seen c) (thread_of (content_of c m)) ≡ owner (seen c) m) (sym is) (owner_numbered thread)
-
-    owner_page : (space : SpaceNo) (vpn : Vpn) → owner_of_row (seen c) (row_of_item (content_of c (name.Mapping space vpn))) ≡ owner (seen c) (name.Mapping space vpn)
-    unfolding owner
-    owner_page space vpn = ap (owner_of_row (seen c)) (sym (found_row None [] c one space vpn))
-
-    pub owner_row : (n : Name) (space : SpaceNo) (vpn : Vpn) → n ≡ name.Mapping space vpn → owner_of_row (seen c) (row_of_item (content_of c n)) ≡ owner (seen c) n
-    owner_row n space vpn is = subst (λ (m : Name). owner_of_row (seen c) (row_of_item (content_of c m)) ≡ owner (seen c) m) (sym is) (owner_page space vpn)
-
-    -- a thread's owner is that of its space, and so is a row's
-    pub owner_of_its_space : (n : Name) (number : ThreadNo) (thread : ThreadRec) → n ≡ name.Thread number → Some (item.Thread thread) ≡ content_of c n → owner (seen c) (name.Space thread.space) ≡ owner (seen c) n
-    owner_of_its_space n number thread is there = owner_space thread.space ∙ ap (λ (o : Option Item). owner_of_thread (seen c) (thread_of o)) there ∙ owner_thread n number is
-
-    pub owner_of_page : (space : SpaceNo) (vpn : Vpn) (content : Item) → Some content ≡ content_of c (name.Mapping space vpn) → owner (seen c) (name.Space space) ≡ owner (seen c) (name.Mapping space vpn)
-    owner_of_page space vpn content there = by (row_of_item (content_of c (name.Mapping space vpn))) refl
-      where
-        by : (o : Option Row) → row_of_item (content_of c (name.Mapping space vpn)) ≡ o → owner (seen c) (name.Space space) ≡ owner (seen c) (name.Mapping space vpn)
-        by None none = absurd (no_row (stored.content_of row_name c.rows.kept (name.Mapping space vpn)) there none)
-          where
-            no_row : (o : Option Row) → Some content ≡ option_map item.Mapping o → row_of_item (option_map item.Mapping o) ≡ None → ⊥
-            no_row None some is = absurd (cc)
-            no_row (Some row) some is = absurd (cc)
-        by (Some row) is =
-            let named = row_has_name c (name.Mapping space vpn) row is in
-            let same : row.space ≡ space = cc in
-            ap (λ (k : SpaceNo). owner (seen c) (name.Space k)) (sym same) ∙ owner_space row.space ∙ ap (owner_of_row (seen c)) (sym is) ∙ owner_page space vpn
+  pub owner_as_item : (content : Item) → content_of c (name_of content) ≡ Some content → owner_of_item (seen c) content ≡ owner (seen c) (name_of content)
+  owner_as_item (item.Kernel kernel) there = owner_kernel kernel.no (name_stands None [] c one (name.Kernel kernel.no) ∙ ap is_some there)
+  owner_as_item (item.Space space) there = owner_space space there
+  owner_as_item (item.Thread thread) there = owner_thread thread there
+  owner_as_item (item.Mapping row) there = owner_row row there
 
 -- what a space, a thread and a row stand in is what they depend on
 module _ (s : FlatState) where
@@ -249,8 +245,10 @@ module _ (c : Contents) (one : IsExactlyOne c) where
   pub limit_is : (kernel : KernelNo) (was : KernelRec) → content_of c (name.Kernel kernel) ≡ Some (item.Kernel was) → (of : Kind) → limit_of (seen c) kernel of ≡ amount_of was.limits of
   limit_is kernel was there of = ap (λ (o : Option FlatKernel). amount_of (limits_in o) of) (found_kernel None [] c one kernel.0 ∙ ap kernel_of there)
 
--- what is loaded with an identifier has the name of the content that is loaded with it
-pub name_of_loaded : (c : Contents) → IsExactlyOne c → (ident : Ident) (r : Resident) (content : Item) → resident_as c ident ≡ Some r → Some content ≡ item_as c ident → name_of content ≡ r.name
-name_of_loaded c one ident r content loaded there =
+-- what is found with an identifier is the content of what is loaded with it
+pub found_loaded : (c : Contents) → IsExactlyOne c → (ident : Ident) (r : Resident) (content : Item) → resident_as c ident ≡ Some r → Some content ≡ item_as c ident → (name_of content ≡ r.name) × (content_of c (name_of content) ≡ Some content)
+found_loaded c one ident r content loaded there =
     let found = loaded_item c one ident r loaded in
-    item_has_name c r.name content (found.2 ∙ sym found.1 ∙ sym there)
+    let is : content_of c r.name ≡ Some content = found.2 ∙ sym found.1 ∙ sym there in
+    let named = item_has_name c r.name content is in
+    (named, ap (content_of c) named ∙ is)

@@ -1,5 +1,5 @@
 -- What comes, goes, and is locked, and what that leaves.
-use Rattle.std.specs.Prelude.{◌≡◌, ◌≢◌, ℕ, ◌+◌, ◌-◌, ◌<◌, ◌≤◌, ◌^◌, true, false, List, [], ◌∷◌, map, AllPairs, Contains, length, Option, Some}
+use Rattle.std.specs.Prelude.{◌≡◌, ℕ, ◌+◌, ◌-◌, ◌<◌, ◌≤◌, ◌^◌, true, false, List, [], ◌∷◌, map, Contains, length, Option, Some}
 use Rattle.std.specs.Option.{option_map}
 use Rattle.cache_ident.specs.declared.idents.Cause.{Cause}
 use Rattle.cache_ident.specs.declared.idents.Cause.TheVariants.{Dependent}
@@ -10,12 +10,10 @@ use Rattle.cache_ident.specs.declared.names.Caps.{Caps}
 use Rattle.cache_ident.specs.declared.names.Name.{Name}
 use Rattle.cache_ident.specs.declared.rolls.Issued.{Issued}
 use Rattle.cache_ident.specs.Names.{amount_of, kind_of}
-use Rattle.cache_ident.specs.Residents.{Resident}
+use Rattle.cache_ident.specs.Residents.{IsResident, Resident}
 use Rattle.cache_ident.specs.Rolls.{departed}
-use Rattle.depend_lists.specs.declared.nodes.TheConstants.{MOST_PARENTS}
 use Rattle.flat_state.specs.declared.events.Machine.{Machine}
 use Rattle.flat_state.specs.Names.{is_fit_name}
-use Rattle.desc_parents.specs.resident_pairs.specs.Among.{AreParents}
 use Rattle.run_journal.specs.Groups.{HasParents, IsGroup}
 use Rattle.kernel_cache.specs.declared.KernelRec.{KernelRec}
 use Rattle.desc_parents.specs.desc_stores.specs.declared.items.Item.{Item}
@@ -70,15 +68,12 @@ gone_as cause [] = []
 gone_as cause (ident ∷ []) = record { ident = ident; cause = cause } ∷ []
 gone_as cause (ident ∷ other ∷ idents) = record { ident = ident; cause = Dependent } ∷ gone_as cause (other ∷ idents)
 
--- the name stands on the shelf, there is a slot for it, it is fit, and the parents are all that it depends on, which is loaded
-pub record MayEnter (c : Contents) (name : Name) (parents : List Ident) : Type 0 where
+-- a name can come at once: it stands on the shelf, a slot of its kind is free, it is fit, and what it depends on is loaded
+pub record MayEnter (c : Contents) (name : Name) : Type 0 where
   pub shelved : IsShelved c name
   pub place : IsFullOf c (kind_of name) → ⊥
   pub fit : is_fit_name (seen c) name ≡ true
   pub has : HasParents (seen c) (residents_of c) name
-  pub parents_are : AreParents (seen c) (residents_of c) name parents
-  pub apart : AllPairs ◌≢◌ parents
-  pub few : length parents ≤ MOST_PARENTS
 
 -- what is loaded with the identifier is locked already, or its owner has fewer locked of the kind than it may have
 abbrev pub MayBeLocked : Contents → Ident → Type 0
@@ -96,6 +91,12 @@ pub record IsPutKernel (old new : Contents) (kernel : KernelRec) : Type 0 where
 -- the identifiers of what left
 abbrev pub idents_of : List Gone → List Ident
 idents_of gone = map (λ g. g.ident) gone
+
+-- the names with which the identifiers were resident, one for each, in their order
+abbrev pub AreNamed : List Resident → List Ident → List Name → Type 0
+AreNamed rs [] [] = Unit {0}
+AreNamed rs (ident ∷ idents) (name ∷ names) = IsResident rs ident name × AreNamed rs idents names
+AreNamed rs _ _ = ⊥
 
 -- the group that leaves with the root, the first at a place of the journal and each further one at the next, gets places that
 -- a number of 64 bits can name

@@ -16,11 +16,11 @@ ghost use Rattle.desc_parents.specs.store_residents.specs.Slots.{KeepsSlots};
 ghost use Rattle.desc_parents.specs.group_laws.specs.Leaving.{without_all};
 ghost use Rattle.desc_parents.specs.Seen.{seen};
 ghost use Rattle.desc_groups.specs.Whole.{AreWhole, HasCounts, IsWhole};
-ghost use Rattle.desc_groups.specs.Moves.{KeepsButCounts, gone_as, departed_all, idents_of, HasPlaces};
+ghost use Rattle.desc_groups.specs.Moves.{AreNamed, KeepsButCounts, gone_as, departed_all, idents_of, HasPlaces};
 
 use crate::counts::count_down;
-use crate::owners::{class_of, each_is_one, owner_by};
-use cache_ident::{Cause, Ident};
+use crate::owners::{class_by, name_by, owner_by};
+use cache_ident::{Cause, Ident, Name};
 use depend_lists::Node;
 use desc_parents::{ResidentPairs, Stores};
 
@@ -33,7 +33,8 @@ pub struct Gone {
 
 /// Takes a loaded descriptor out of its cache, for the cause, and before it all that depends on it, in the order of leaving.
 /// Each goes to the shelf of its owner with the content that it has then, and its lock ends. `gone` has then what left, in
-/// this order. The first one leaves at the place `at` of the journal, and each further one at the next.
+/// this order, and `names` the name of each. The first one leaves at the place `at` of the journal, and each further one at
+/// the next.
 ///
 /// It takes no memory, and a time logarithmic in what is there for each descriptor that leaves.
 pub fn leave(
@@ -43,21 +44,26 @@ pub fn leave(
     cause: Cause,
     at: u64,
     gone: &mut Vec<Gone>,
+    names: &mut Vec<Name>,
 )
     requires whole { AreWhole pairs.old.caps stores.old pairs.old.pairs }
     requires live { standing_in stores.old.issued root ≡ Live }
     requires places { HasPlaces stores.old root at }
     requires room { length (residents_of stores.old) ≤ vec_capacity gone.old }
+    requires for_names { length (residents_of stores.old) ≤ vec_capacity names.old }
     ensures caps { pairs.new.caps ≡ pairs.old.caps }
     ensures whole { AreWhole pairs.new.caps stores.new pairs.new.pairs }
     ensures group { (r : Resident) → Contains (residents_of stores.old) r → r.ident ≡ root → IsGroup (seen stores.old) (residents_of stores.old) r (idents_of gone.new.items) }
     ensures causes { gone.new.items ≡ gone_as cause (idents_of gone.new.items) }
+    ensures named { AreNamed (residents_of stores.old) (idents_of gone.new.items) names.new.items }
     ensures residents { residents_of stores.new ≡ without_all (idents_of gone.new.items) (residents_of stores.old) }
     ensures issued { stores.new.issued ≡ departed_all stores.old.issued (idents_of gone.new.items) at }
     ensures kept { KeepsButCounts stores.old stores.new }
     ensures capacity { vec_capacity gone.new ≡ vec_capacity gone.old }
+    ensures for_names { vec_capacity names.new ≡ vec_capacity names.old }
 {
     gone.clear();
+    names.clear();
     order_from(stores, pairs, root);
     let mut place = 0;
     while let Some(node) = pairs.at(place) {
@@ -66,12 +72,14 @@ pub fn leave(
         } else {
             Cause::Dependent
         };
+        let name = name_by(stores, node.ident);
         depart(stores, pairs, node.ident, at + place as u64);
         // There is room for all that is loaded.
         gone.push_reserved(Gone {
             ident: node.ident,
             cause: why,
         });
+        names.push_reserved(name);
         place += 1;
     }
 }
@@ -84,10 +92,7 @@ fn order_from(stores: &Stores, pairs: &mut ResidentPairs, root: Ident)
     ensures pairs { pairs.new.pairs ≡ pairs.old.pairs }
     ensures order { (r : Resident) → resident_as stores.now root ≡ Some r → IsOrder pairs.old.pairs (node_of (seen stores.now) r) pairs.new.order }
 {
-    let Some(item) = stores.get(root) else {
-        unreachable!()
-    };
-    let class = class_of(stores, item.name());
+    let class = class_by(stores, root);
     pairs.order(Node { ident: root, class });
 }
 
@@ -124,5 +129,5 @@ fn take_out(stores: &mut Stores, ident: Ident, at: u64)
     if locked {
         count_down(stores, owner, ident.kind);
     }
-    each_is_one(stores);
+    stores.each_is_one();
 }

@@ -11,18 +11,18 @@ ghost use Rattle.desc_parents.specs.shown_state.specs.Shown.{shown};
 ghost use Rattle.desc_groups.specs.Whole.{AreWhole};
 ghost use Rattle.desc_groups.specs.Moves.{MayEnter};
 
-use crate::owners::{class_of, each_is_one};
+use crate::owners::{class_by, parents_by};
 use cache_ident::{Ident, Name};
 use depend_lists::Node;
 use desc_parents::{ResidentPairs, Stores};
 
 /// Loads a descriptor from the shelf into the lowest free slot of its kind, with an identifier that is issued now. It isn't
-/// locked, and depends on the parents, which are those of all that it depends on.
+/// locked, and depends on what it depended on on the shelf, which is loaded.
 ///
-/// It takes no memory, and a time logarithmic in what is there.
-pub fn enter(stores: &mut Stores, pairs: &mut ResidentPairs, name: Name, parents: &[Ident]) -> Ident
+/// It takes no memory, and a time logarithmic in what is there: the name is looked for once, on the shelf.
+pub fn enter(stores: &mut Stores, pairs: &mut ResidentPairs, name: Name) -> Ident
     requires whole { AreWhole pairs.old.caps stores.old pairs.old.pairs }
-    requires may { MayEnter stores.old name parents.now }
+    requires may { MayEnter stores.old name }
     requires spare { 0 < stores.old.spare }
     ensures caps { pairs.new.caps ≡ pairs.old.caps }
     ensures whole { AreWhole pairs.new.caps stores.new pairs.new.pairs }
@@ -35,9 +35,10 @@ pub fn enter(stores: &mut Stores, pairs: &mut ResidentPairs, name: Name, parents
     ensures room { room_of stores.new ≡ room_of stores.old }
     ensures spare { stores.old.spare ≡ stores.new.spare + 1 }
 {
-    let class = class_of(stores, name);
     let ident = stores.load(name);
-    each_is_one(stores);
-    pairs.load(Node { ident, class }, parents);
+    stores.each_is_one();
+    let class = class_by(stores, ident);
+    let parents = parents_by(stores, ident);
+    pairs.load(Node { ident, class }, &parents);
     ident
 }

@@ -12,9 +12,8 @@ mod places;
 
 pub use departures::{Gone, leave};
 pub use desc_parents::{
-    Item, ItemRef, Parents, ResidentPairs, Stores, is_fit, kernel_of, parents_of,
+    FoundItem, Item, ItemRef, Parents, ResidentPairs, Stores, kernel_of, parents_of,
 };
 pub use entering::enter;
 pub use locks::{lock, unlock};
-pub use owners::{class_of, owner_of};
 pub use places::there_are_places;

@@ -9,7 +9,7 @@ ghost use Rattle.desc_groups.specs.Whole.{IsWhole, StaysWhole};
 ghost use Rattle.desc_groups.specs.Moves.{KeepsButCounts, MayBeLocked};
 
 use crate::counts::{count_down, count_up};
-use crate::owners::{each_is_one, owner_by};
+use crate::owners::owner_by;
 use cache_ident::Ident;
 use desc_parents::Stores;
 
@@ -30,7 +30,7 @@ pub fn lock(stores: &mut Stores, ident: Ident)
         let owner = owner_by(stores, ident);
         stores.lock(ident);
         count_up(stores, owner, ident.kind);
-        each_is_one(stores);
+        stores.each_is_one();
     }
 }
 
@@ -49,6 +49,6 @@ pub fn unlock(stores: &mut Stores, ident: Ident)
         let owner = owner_by(stores, ident);
         stores.unlock(ident);
         count_down(stores, owner, ident.kind);
-        each_is_one(stores);
+        stores.each_is_one();
     }
 }

@@ -1,78 +1,48 @@
-//! Who owns a descriptor, and to which class it belongs.
+//! What is loaded with an identifier: its name, its class, and who owns it.
 
+ghost use Rattle.std.specs.Prelude.{◌≡◌, ◌≢◌, is_some, AllPairs, Some};
 ghost use Rattle.cache_ident.specs.Rolls.{standing_in};
 ghost use Rattle.cache_ident.specs.declared.idents.Standing.TheVariants.{Live};
 ghost use Rattle.cache_ident.specs.Residents.{Resident};
-ghost use Rattle.desc_parents.specs.desc_stores.specs.Contents.{resident_as};
-ghost use Rattle.desc_parents.specs.desc_stores.specs.Sound.{IsExactlyOne};
-ghost use Rattle.desc_groups.specs.Whole.{IsWhole};
-ghost use Rattle.std.specs.Prelude.{◌≡◌, is_some, Some};
 ghost use Rattle.flat_state.specs.Dependence.{owner};
 ghost use Rattle.flat_state.specs.Names.{class_by, class_of as class_in};
-ghost use Rattle.cache_ident.specs.declared.names.Name.{Name};
-ghost use Rattle.desc_parents.specs.Seen.{seen};
+ghost use Rattle.desc_parents.specs.desc_stores.specs.Contents.{content_of, resident_as, residents_of};
+ghost use Rattle.desc_parents.specs.desc_stores.specs.Items.{name_of, shown};
+ghost use Rattle.desc_parents.specs.resident_pairs.specs.Among.{AreParents};
+ghost use Rattle.desc_parents.specs.desc_stores.specs.Sound.{IsExactlyOne};
+ghost use Rattle.desc_parents.specs.Seen.{seen, HasPlainRows};
+ghost use Rattle.desc_groups.specs.Whole.{IsWhole};
 
 use cache_ident::{Class, Ident, KernelNo, Name};
-use desc_parents::{ItemRef, Stores, kernel_of};
+use desc_parents::{ItemRef, Parents, Stores, kernel_of, parents_of};
 use phys_groups::Row;
 
-/// The kernel that owns a descriptor; `None` where there is none of that name. The first kernel owns kernels, a kernel its
-/// spaces and what is in them. Two searches.
-pub fn owner_of(stores: &Stores, name: Name) -> Option<KernelNo>
-    ensures { result ≡ owner (seen stores.now) name }
-{
-    each_is_one(stores);
-    match name {
-        Name::Kernel(kernel) => first_kernel(stores, kernel),
-        Name::Space(space) => kernel_of(stores, space),
-        Name::Thread(_) => match stores.item(name)? {
-            ItemRef::Thread(thread) => kernel_of(stores, thread.space),
-            _ => None,
-        },
-        Name::Mapping(space, _) => {
-            stores.item(name)?;
-            kernel_of(stores, space)
-        }
-    }
-}
-
-/// The kernel that owns what is loaded with an identifier.
-pub(crate) fn owner_by(stores: &Stores, ident: Ident) -> KernelNo
-    requires whole { IsWhole stores.now }
+/// The name of what is loaded with an identifier. Constant time.
+pub(crate) fn name_by(stores: &Stores, ident: Ident) -> Name
+    requires one { IsExactlyOne stores.now }
     requires live { standing_in stores.now.issued ident ≡ Live }
-    ensures { (r : Resident) → resident_as stores.now ident ≡ Some r → owner (seen stores.now) r.name ≡ Some result }
+    ensures { (r : Resident) → resident_as stores.now ident ≡ Some r → r.name ≡ result }
 {
-    each_is_one(stores);
     let Some(item) = stores.get(ident) else {
         unreachable!()
     };
-    let Some(owner) = owner_of(stores, item.name()) else {
+    item.name()
+}
+
+/// The class of what is loaded with an identifier, by which it leaves before others or behind them. Constant time.
+pub(crate) fn class_by(stores: &Stores, ident: Ident) -> Class
+    requires one { IsExactlyOne stores.now }
+    requires live { standing_in stores.now.issued ident ≡ Live }
+    ensures { (r : Resident) → resident_as stores.now ident ≡ Some r → class_in (seen stores.now) r.name ≡ result }
+{
+    let Some(item) = stores.get(ident) else {
         unreachable!()
     };
-    owner
-}
-
-// The first kernel, where there is one of that number.
-fn first_kernel(stores: &Stores, kernel: KernelNo) -> Option<KernelNo>
-    ensures { result ≡ owner (seen stores.now) (Name.Kernel kernel) }
-{
-    each_is_one(stores);
-    (kernel.0 < stores.kernel_count()).then_some(KernelNo(0))
-}
-
-/// The class of a descriptor, by which it leaves before others or behind them. One search for a row.
-pub fn class_of(stores: &Stores, name: Name) -> Class
-    ensures { result ≡ class_in (seen stores.now) name }
-{
-    each_is_one(stores);
-    match name {
-        Name::Kernel(_) => Class::Kernel,
-        Name::Space(_) => Class::Space,
-        Name::Thread(_) => Class::Thread,
-        Name::Mapping(_, _) => match stores.item(name) {
-            Some(ItemRef::Mapping(row)) => class_of_row(row),
-            _ => Class::OtherRow,
-        },
+    match item {
+        ItemRef::Kernel(_) => Class::Kernel,
+        ItemRef::Space(_) => Class::Space,
+        ItemRef::Thread(_) => Class::Thread,
+        ItemRef::Mapping(row) => class_of_row(row),
     }
 }
 
@@ -88,9 +58,47 @@ fn class_of_row(row: &Row) -> Class
     }
 }
 
-// Whoever asks the stores for their room learns that each name is in one place. It is asked here for that alone.
-pub(crate) fn each_is_one(stores: &Stores)
-    ensures { IsExactlyOne stores.now }
+/// The identifiers of all that what is loaded with an identifier depends on, as far as it is loaded, each once. It takes the
+/// time of `parents_of`.
+pub(crate) fn parents_by(stores: &Stores, ident: Ident) -> Parents
+    requires one { IsExactlyOne stores.now }
+    requires rows { HasPlainRows (seen stores.now) }
+    requires live { standing_in stores.now.issued ident ≡ Live }
+    ensures parents { (r : Resident) → resident_as stores.now ident ≡ Some r → AreParents (seen stores.now) (residents_of stores.now) r.name result.items }
+    ensures apart { AllPairs ◌≢◌ result.items }
 {
-    let _ = stores.room();
+    let Some(item) = stores.get(ident) else {
+        unreachable!()
+    };
+    parents_of(stores, item)
+}
+
+/// The kernel that owns what is loaded with an identifier. A search for the space where it stands in one.
+pub(crate) fn owner_by(stores: &Stores, ident: Ident) -> KernelNo
+    requires whole { IsWhole stores.now }
+    requires live { standing_in stores.now.issued ident ≡ Live }
+    ensures { (r : Resident) → resident_as stores.now ident ≡ Some r → owner (seen stores.now) r.name ≡ Some result }
+{
+    stores.each_is_one();
+    let Some(item) = stores.get(ident) else {
+        unreachable!()
+    };
+    let Some(owner) = owner_of(stores, item) else {
+        unreachable!()
+    };
+    owner
+}
+
+// The kernel that owns a content that stands: the first kernel owns kernels, and a kernel its spaces and what is in them.
+fn owner_of(stores: &Stores, item: ItemRef<'_>) -> Option<KernelNo>
+    requires { content_of stores.now (name_of (shown item)) ≡ Some (shown item) }
+    ensures { result ≡ owner (seen stores.now) (name_of (shown item.entry)) }
+{
+    stores.each_is_one();
+    match item {
+        ItemRef::Kernel(_) => Some(KernelNo(0)),
+        ItemRef::Space(space) => Some(space.kernel),
+        ItemRef::Thread(thread) => kernel_of(stores, thread.space),
+        ItemRef::Mapping(row) => kernel_of(stores, row.space),
+    }
 }

@@ -19,7 +19,7 @@ use Rattle.store_residents.specs.desc_stores.specs.declared.items.Item.{Item}
 use Rattle.store_residents.specs.desc_stores.specs.declared.items.Item.TheVariants as item
 use Rattle.store_residents.specs.desc_stores.specs.declared.items.ItemRef.{ItemRef}
 use Rattle.store_residents.specs.desc_stores.specs.Contents.{content_of, residents_of, Contents}
-use Rattle.store_residents.specs.desc_stores.specs.Items.{shown}
+use Rattle.store_residents.specs.desc_stores.specs.Items.{name_of, shown}
 use Rattle.store_residents.specs.desc_stores.specs.Sound.{IsExactlyOne}
 use Rattle.store_residents.specs.resident_pairs.specs.Among.{AreParents}
 use Rattle.shown_state.specs.Shown.{row_of_item, space_of, thread_of}
@@ -62,12 +62,20 @@ module _ (c : Contents) (one : IsExactlyOne c) where
   parents_are (name.Thread number) = ap (λ o. option_to_list (option_map (λ t. name.Space t.space) o)) (found_thread None [] c one number.0) ∙ of_thread (seen c) (stored.content_of thread_rec.name_of c.threads (name.Thread number))
   parents_are (name.Mapping space vpn) = ap (parents_of_found (seen c)) (found_row None [] c one space vpn) ∙ of_row (seen c) (stored.content_of row_name c.rows.kept (name.Mapping space vpn))
 
-  -- so the identifiers of what the found content says are those of its parents
-  pub are_found : (n : Name) (found as_is : Option ItemRef) → found ≡ as_is → option_map shown found ≡ content_of c n → (idents : List Ident) → idents ≡ idents_of (residents_of c) (parents_of_item (seen c) (option_map shown as_is)) → AreParents (seen c) (residents_of c) n idents
-  are_found n found as_is same is idents are =
-      let said = parents_are n ∙ ap (parents_of_item (seen c)) (sym is ∙ ap (option_map shown) same) in
+  -- so the identifiers of what a content that stands says are those of its parents
+  pub are_of_item : (given : ItemRef) {as_is : ItemRef} → given ≡ as_is → content_of c (name_of (shown given)) ≡ Some (shown given) → (idents : List Ident) → idents ≡ idents_of (residents_of c) (parents_of_item (seen c) (Some (shown as_is)))
+      → AreParents (seen c) (residents_of c) (name_of (shown given)) idents
+  are_of_item given same stands idents are =
+      let n = name_of (shown given) in
+      let said = parents_are n ∙ ap (parents_of_item (seen c)) (stands ∙ ap (λ (r : ItemRef). Some (shown r)) same) in
       subst (AreParents (seen c) (residents_of c) n) (ap (idents_of (residents_of c)) said ∙ sym are) (are_parents c one (seen c) n)
 
-  -- and those of names that differ differ
+  -- what doesn't stand depends on nothing
+  pub are_of_none : (n : Name) → content_of c n ≡ None → (idents : List Ident) → idents ≡ [] → AreParents (seen c) (residents_of c) n idents
+  are_of_none n none idents are =
+      let said = parents_are n ∙ ap (parents_of_item (seen c)) none in
+      subst (AreParents (seen c) (residents_of c) n) (ap (idents_of (residents_of c)) said ∙ sym are) (are_parents c one (seen c) n)
+
+  -- and the identifiers of names that differ differ
   pub are_apart : (names : List Name) (idents : List Ident) → idents ≡ idents_of (residents_of c) names → AllPairs (λ a b. a ≢ b) names → AllPairs (λ a b. a ≢ b) idents
   are_apart names idents are apart = subst (AllPairs (λ (a : Ident) (b : Ident). a ≢ b)) (sym are) (idents_apart c one names apart)

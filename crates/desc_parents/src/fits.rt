@@ -18,17 +18,16 @@ use store_residents::{ItemRef, Stores};
 pub fn kernel_of(stores: &Stores, space: SpaceNo) -> Option<KernelNo>
     ensures { result ≡ owner (seen stores.now) (Name.Space space) }
 {
-    // Whoever asks the stores for their room learns that each name is in one place.
-    let _room = stores.room();
+    stores.each_is_one();
     match stores.item(Name::Space(space)) {
         Some(ItemRef::Space(found)) => Some(found.kernel),
         _ => None,
     }
 }
 
-/// Whether the rights of the kernel that owns a row's space cover the row's flags on its frame. A row of a space that isn't
-/// there has no rights. Two searches.
-pub fn is_fit(stores: &Stores, row: &Row) -> bool
+// Whether the rights of the kernel that owns a row's space cover the row's flags on its frame. A row of a space that isn't
+// there has no rights. Two searches.
+fn is_fit(stores: &Stores, row: &Row) -> bool
     requires frame { row.now.frame.0 < 2048 }
     ensures { result ≡ is_fit_row (seen stores.now) row.now }
 {
@@ -39,8 +38,7 @@ pub fn is_fit(stores: &Stores, row: &Row) -> bool
 fn rights_over(stores: &Stores, space: SpaceNo) -> Rights
     ensures { (group : ℕ) → right_on result group ≡ right_on (rights_of (seen stores.now) space) group }
 {
-    // As above.
-    let _room = stores.room();
+    stores.each_is_one();
     let none = Rights::none();
     let Some(kernel) = kernel_of(stores, space) else {
         return none;
@@ -56,8 +54,7 @@ pub(crate) fn names_fit_row(stores: &Stores, name: Name) -> bool
     requires rows { HasPlainRows (seen stores.now) }
     ensures { result ≡ is_fit_found (seen stores.now) (row_of_item (content_of stores.now name)) }
 {
-    // As above.
-    let _room = stores.room();
+    stores.each_is_one();
     match stores.item(name) {
         Some(ItemRef::Mapping(row)) => is_fit(stores, row),
         _ => false,

@@ -1,9 +1,10 @@
 //! The identifiers of what a descriptor depends on.
 
-ghost use Rattle.std.specs.Prelude.{◌≡◌, ◌≢◌, ◌<◌, ◌≤◌, [], ◌∷◌, length, AllPairs, Contains};
+ghost use Rattle.std.specs.Prelude.{◌≡◌, ◌≢◌, ◌<◌, ◌≤◌, [], ◌∷◌, length, AllPairs, Contains, Some};
 ghost use Rattle.depend_lists.specs.declared.nodes.TheConstants.{MOST_PARENTS};
 ghost use Rattle.flat_state.specs.Dependence.{parents_of_row};
-ghost use Rattle.store_residents.specs.desc_stores.specs.Contents.{residents_of};
+ghost use Rattle.store_residents.specs.desc_stores.specs.Contents.{content_of, residents_of};
+ghost use Rattle.store_residents.specs.desc_stores.specs.Items.{name_of, shown};
 ghost use Rattle.store_residents.specs.resident_pairs.specs.Among.{AreParents};
 ghost use Rattle.desc_parents.specs.Idents.{fit_signal_names, idents_of, HasAlsoIdentsOf};
 ghost use Rattle.desc_parents.specs.Seen.{seen, HasPlainRows};
@@ -19,23 +20,22 @@ use store_residents::{ItemRef, Stores};
 /// other row on its space and its receiver.
 pub type Parents = ArrayVec<Ident, MOST_PARENTS>;
 
-/// The identifiers of all that a descriptor depends on, as far as it is loaded, each once. A search for the descriptor, one
-/// for each that it depends on, and for a message row four more for each signal row of its frame.
-pub fn parents_of(stores: &Stores, name: Name) -> Parents
+/// The identifiers of all that a content that stands depends on, as far as it is loaded, each once. A search for each, and
+/// for a message row four more for each signal row of its frame.
+pub fn parents_of(stores: &Stores, item: ItemRef<'_>) -> Parents
     requires rows { HasPlainRows (seen stores.now) }
-    ensures parents { AreParents (seen stores.now) (residents_of stores.now) name result.items }
+    requires stands { content_of stores.now (name_of (shown item)) ≡ Some (shown item) }
+    ensures parents { AreParents (seen stores.now) (residents_of stores.now) (name_of (shown item.entry)) result.items }
     ensures apart { AllPairs ◌≢◌ result.items }
 {
-    // Whoever asks the stores for their room learns that each name is in one place.
-    let _room = stores.room();
+    stores.each_is_one();
     let mut parents = Parents::new();
-    match stores.item(name) {
-        Some(ItemRef::Space(space)) => add(stores, Name::Kernel(space.kernel), &mut parents),
-        Some(ItemRef::Thread(thread)) => add(stores, Name::Space(thread.space), &mut parents),
-        Some(ItemRef::Mapping(row)) => add_those_of_row(stores, row, &mut parents),
+    match item {
         // A kernel depends on nothing.
-        Some(ItemRef::Kernel(_)) => {}
-        None => {}
+        ItemRef::Kernel(_) => {}
+        ItemRef::Space(space) => add(stores, Name::Kernel(space.kernel), &mut parents),
+        ItemRef::Thread(thread) => add(stores, Name::Space(thread.space), &mut parents),
+        ItemRef::Mapping(row) => add_those_of_row(stores, row, &mut parents),
     }
     parents
 }
@@ -62,8 +62,7 @@ fn add_fit_signal_rows(stores: &Stores, frame: Frame, parents: &mut Parents)
     requires room { length parents.old.items ≤ 1 }
     ensures { HasAlsoIdentsOf (residents_of stores.now) parents.old.items parents.new.items (fit_signal_names (seen stores.now) frame) }
 {
-    // As above.
-    let _room = stores.room();
+    stores.each_is_one();
     for name in stores.signal_rows(frame) {
         if names_fit_row(stores, name) {
             add(stores, name, parents);
@@ -76,8 +75,7 @@ fn add(stores: &Stores, name: Name, parents: &mut Parents)
     requires room { length parents.old.items < MOST_PARENTS }
     ensures { HasAlsoIdentsOf (residents_of stores.now) parents.old.items parents.new.items (name ∷ []) }
 {
-    // As above.
-    let _room = stores.room();
+    stores.each_is_one();
     if let Some(ident) = stores.resident(name) {
         parents.push(ident);
     }

@@ -4,6 +4,6 @@
 mod fits;
 mod found;
 
-pub use fits::{is_fit, kernel_of};
+pub use fits::kernel_of;
 pub use found::{Parents, parents_of};
-pub use store_residents::{Item, ItemRef, ResidentPairs, Stores};
+pub use store_residents::{FoundItem, Item, ItemRef, ResidentPairs, Stores};

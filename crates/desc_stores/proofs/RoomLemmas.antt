@@ -1,14 +1,18 @@
 -- Contents with more room, and no contents at all.
-use Rattle.std.proofs.Common.{◌≡◌, ℕ, List, replicate, Option, Some, None, IsSome, sym, ◌∙◌, ap, subst, arith}
-use Rattle.std.specs.Option.{IfSome}
+use Rattle.std.proofs.Common.{◌≡◌, ℕ, List, replicate, Option, Some, None, IsSome, sym, ◌∙◌, ap, subst, arith, refl}
+use Rattle.std.specs.Option.{option_map, IfNone, IfSome}
 use Rattle.cache_ident.specs.declared.idents.Ident.{Ident}
+use Rattle.cache_ident.specs.declared.idents.Kind.{Kind}
 use Rattle.cache_ident.specs.declared.idents.Kind.TheVariants as kind
 use Rattle.cache_ident.specs.declared.names.Caps.{Caps}
 use Rattle.cache_ident.specs.declared.names.Name.{Name}
+use Rattle.cache_ident.specs.declared.names.Name.TheVariants as name
+use Rattle.cache_ident.specs.declared.names.ThreadNo.{ThreadNo}
+use Rattle.cache_ident.specs.Residents.{Resident}
 use Rattle.slot_cache.specs.declared.loaded.Loaded.{Loaded}
 use Rattle.slot_cache.specs.Cells.{HasNoName, IsFoundAs}
 use Rattle.slot_cache.specs.Rows.{row_name}
-use Rattle.slot_cache.proofs.SlotLemmas.{all_none, not_none}
+use Rattle.slot_cache.proofs.SlotLemmas.{all_none, not_none, some_same}
 use Rattle.owner_shelf.specs.declared.shelved.Shelved.{Shelved}
 use Rattle.owner_shelf.specs.Rows.{row_under}
 use Rattle.kernel_cache.specs.declared.KernelRec.{KernelRec}
@@ -18,13 +22,15 @@ use Rattle.space_cache.specs.Spaces as space_rec
 use Rattle.thread_cache.specs.declared.ThreadRec.{ThreadRec}
 use Rattle.thread_cache.specs.Threads as thread_rec
 use Rattle.kind_store.specs.Kept as stored
+use Rattle.kind_store.specs.Rolls.{loaded_as}
 use Rattle.row_store.specs.Kept.{KeptRows}
 use Rattle.kind_store.specs.Changes as moves
 use Rattle.kind_store.proofs.CellLemmas.{found, found-absent}
 use Rattle.kind_store.proofs.ContentLemmas.{content-same, content-shelved}
-use Rattle.desc_stores.specs.Contents.{resident_of, Contents, IsResidentAs}
+use Rattle.desc_stores.specs.Contents.{resident_in, resident_of, Contents, HasNoResident, IsResidentAs}
 use Rattle.desc_stores.specs.Sound.{kernel_named, space_named, thread_named, AreSound, IsNumbered}
 use Rattle.desc_stores.specs.Changes.{no_kept, IsNothing}
+use Rattle.desc_stores.proofs.CellLemmas.{loaded_back}
 use Rattle.desc_stores.proofs.SoundLemmas.{listed-none, numbered-keeps}
 use Rattle.desc_stores.proofs.KindLemmas.{kernels_resident, rows_resident, spaces_resident, threads_resident}
 
@@ -102,3 +108,27 @@ rows_found c sound n None found = found
 rows_found c sound n (Some ident) (l, there, own, named) =
     let of_kind = ap (λ (i : Ident). i.kind) (sym own) ∙ (sound.rows.placed ident.slot l there).1 in
     (resident_of row_name l, rows_resident c ident l of_kind there own, named)
+
+-- of what a change gives something is what it makes of something
+some_made : {A B : Type 0} (make : A → B) (o : Option A) (made : B) → option_map make o ≡ Some made → (x : A) × (o ≡ Some x) × (make x ≡ made)
+some_made make None made is = absurd (cc)
+some_made make (Some x) made is = (x, refl, some_same (make x) made is)
+
+-- a thread that isn't found by name isn't resident
+pub threads_absent : (c : Contents) (number : ThreadNo) (r : Option Ident) → IfNone r (HasNoName thread_rec.name_of c.threads.cells (name.Thread number)) → IfNone r (HasNoResident c (name.Thread number))
+threads_absent c number (Some ident) none = none
+threads_absent c number None none = λ ident resident held same. by ident resident same ident.kind held
+  where
+    by : (ident : Ident) (resident : Resident) → resident.name ≡ name.Thread number → (k : Kind) → resident_in c k ident ≡ Some resident → ⊥
+    by ident resident same kind.Kernel held =
+        let l = some_made (resident_of kernel_rec.name_of) (loaded_as c.kernels.cells ident) resident held in
+        absurd (cc (ap (λ (r : Resident). r.name) l.2 ∙ same))
+    by ident resident same kind.Space held =
+        let l = some_made (resident_of space_rec.name_of) (loaded_as c.spaces.cells ident) resident held in
+        absurd (cc (ap (λ (r : Resident). r.name) l.2 ∙ same))
+    by ident resident same kind.Thread held =
+        let l = some_made (resident_of thread_rec.name_of) (loaded_as c.threads.cells ident) resident held in
+        none ident.slot l.0 (loaded_back c.threads.cells ident l.0 l.1).0 (ap (λ (r : Resident). r.name) l.2 ∙ same)
+    by ident resident same kind.Mapping held =
+        let l = some_made (resident_of row_name) (loaded_as c.rows.kept.cells ident) resident held in
+        absurd (cc (ap (λ (r : Resident). r.name) l.2 ∙ same))

@@ -7,19 +7,17 @@ use Rattle.cache_ident.specs.declared.names.Caps.{Caps}
 use Rattle.cache_ident.specs.declared.names.KernelNo.{KernelNo}
 use Rattle.cache_ident.specs.declared.names.Name.{Name}
 use Rattle.cache_ident.specs.declared.names.Name.TheVariants as name
-use Rattle.phys_groups.specs.declared.rows.Row.{Row}
 use Rattle.sorted_list.specs.Sorted.{IsAdded}
 use Rattle.slot_cache.specs.Cells.{changed, with_lock, with_value}
 use Rattle.slot_cache.specs.Rows.{row_name}
 use Rattle.kernel_cache.specs.Kernels as kernel_rec
 use Rattle.space_cache.specs.Spaces as space_rec
-use Rattle.thread_cache.specs.declared.ThreadRec.{ThreadRec}
 use Rattle.thread_cache.specs.Threads as thread_rec
 use Rattle.kind_store.specs.Kept.{Kept}
 use Rattle.kind_store.specs.Changes.{is_name, with_content, IsLeaving, IsLoading}
 use Rattle.desc_stores.specs.declared.items.Item.{Item}
 use Rattle.desc_stores.specs.declared.items.Item.TheVariants as item
-use Rattle.desc_stores.specs.Contents.{content_of, item_as, Contents}
+use Rattle.desc_stores.specs.Contents.{content_of, Contents}
 use Rattle.desc_stores.specs.Items.{name_of}
 
 -- each name has the content that it had
@@ -123,24 +121,6 @@ with_item c ident (item.Kernel kernel) = record c { kernels = record c.kernels {
 with_item c ident (item.Space space) = record c { spaces = record c.spaces { cells = changed c.spaces.cells ident.slot (with_value space) } }
 with_item c ident (item.Thread thread) = record c { threads = record c.threads { cells = changed c.threads.cells ident.slot (with_value thread) } }
 with_item c ident (item.Mapping row) = record c { rows = record c.rows { kept = record c.rows.kept { cells = changed c.rows.kept.cells ident.slot (with_value row) } } }
-
--- a call with a loaded thread gave that result, and what it left of the thread stands in its place
-pub record IsUpdatingThread {R : Type 0} (call : ThreadRec → R → ThreadRec → Type 0) (old new : Contents) (ident : Ident) (result : R) : Type 0 where
-  pub value : ThreadRec
-  pub was : item_as old ident ≡ Some (item.Thread value)
-  pub left : ThreadRec
-  pub called_with : call value result left
-  pub contents : HasContent old new (item.Thread left)
-  pub is : new ≡ with_item old ident (item.Thread left)
-
--- the same of a row
-pub record IsUpdatingRow {R : Type 0} (call : Row → R → Row → Type 0) (old new : Contents) (ident : Ident) (result : R) : Type 0 where
-  pub value : Row
-  pub was : item_as old ident ≡ Some (item.Mapping value)
-  pub left : Row
-  pub called_with : call value result left
-  pub contents : HasContent old new (item.Mapping left)
-  pub is : new ≡ with_item old ident (item.Mapping left)
 
 -- the contents once the item stands in the place of the content of its name, in its slot or on the shelf
 abbrev pub with_named : Contents → Item → Contents

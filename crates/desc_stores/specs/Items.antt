@@ -24,10 +24,10 @@ shown (ref.Space space) = item.Space space.now
 shown (ref.Thread thread) = item.Thread thread.now
 shown (ref.Mapping row) = item.Mapping row.now
 
--- the one may stand in the place of the other: it has its name, and a row also its frame and its receiver
+-- the one may stand in the place of the other: it has its name, and a row also its frame, its flags and its receiver
 abbrev pub Agrees : Item → Item → Type 0
 Agrees (item.Kernel was) (item.Kernel kernel) = was.no ≡ kernel.no
 Agrees (item.Space was) (item.Space space) = was.no ≡ space.no
 Agrees (item.Thread was) (item.Thread thread) = was.no ≡ thread.no
-Agrees (item.Mapping was) (item.Mapping row) = (row_name was ≡ row_name row) × (was.frame ≡ row.frame) × (was.receiver ≡ row.receiver)
+Agrees (item.Mapping was) (item.Mapping row) = (row_name was ≡ row_name row) × (was.frame ≡ row.frame) × (was.flags ≡ row.flags) × (was.receiver ≡ row.receiver)
 Agrees _ _ = ⊥

@@ -3,7 +3,7 @@
 ghost use Rattle.std.specs.Prelude.{◌≡◌};
 ghost use Rattle.desc_stores.specs.Items.{name_of, shown};
 
-use cache_ident::Name;
+use cache_ident::{Ident, Name};
 use kernel_cache::KernelRec;
 use phys_groups::Row;
 use slot_cache::Descriptor;
@@ -54,4 +54,12 @@ impl<'a> ItemRef<'a> {
             ItemRef::Mapping(row) => row.name(),
         }
     }
+}
+
+/// The content of a name, where it stands.
+#[derive(Clone, Copy)]
+pub struct FoundItem<'a> {
+    pub item: ItemRef<'a>,
+    /// The identifier with which the name is loaded; `None` where the content is on a shelf.
+    pub ident: Option<Ident>,
 }

@@ -5,5 +5,5 @@
 mod items;
 mod stores;
 
-pub use items::{Item, ItemRef};
+pub use items::{FoundItem, Item, ItemRef};
 pub use stores::Stores;

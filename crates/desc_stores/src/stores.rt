@@ -13,7 +13,7 @@ ghost use Rattle.cache_ident.specs.declared.names.Name.{Name};
 ghost use Rattle.cache_ident.specs.Names.{kind_of};
 ghost use Rattle.cache_ident.specs.Residents.{with_loaded, with_lock, without, Resident};
 ghost use Rattle.cache_ident.specs.Rolls.{departed, just_issued, standing_in};
-ghost use Rattle.mapping_cache.specs.Frames.{IsRowOf};
+ghost use Rattle.row_store.specs.Frames.{IsRowOf};
 ghost use Rattle.phys_groups.specs.declared.rows.Row.{Row};
 ghost use Rattle.thread_cache.specs.declared.ThreadRec.{ThreadRec};
 ghost use Rattle.slot_cache.specs.Cells.{loaded_in, HasExactlyLoaded, IsInOrderOfSlot};
@@ -25,15 +25,15 @@ ghost use Rattle.desc_stores.specs.declared.items.Item.{Item};
 ghost use Rattle.desc_stores.specs.Items.{name_of, shown, Agrees};
 ghost use Rattle.desc_stores.specs.Contents.{content_of, item_as, names_of, resident_as, residents_of, shelf_owner, HasNoResident, IsFullOf, IsLowestFreeOf, IsResidentAs, IsShelved, IsVictimOf, LockIs, NoneMayGoOf};
 ghost use Rattle.desc_stores.specs.Sound.{AreOwned, IsExactlyOne};
-ghost use Rattle.desc_stores.specs.Changes.{relocked, room_of, with_item, HasContent, HasNoContent, IsDeclaring, IsLeavingOf, IsLoadingOf, IsNext, IsNothing, IsUpdatingNamed, IsUpdatingRow, IsUpdatingThread, KeepsContents, LeavesWhatHasRoom, OnlyMakesRoom};
+ghost use Rattle.desc_stores.specs.Changes.{relocked, room_of, with_item, HasContent, HasNoContent, IsDeclaring, IsLeavingOf, IsLoadingOf, IsNext, IsNothing, IsUpdatingNamed, KeepsContents, LeavesWhatHasRoom, OnlyMakesRoom};
 
-use super::items::{Item, ItemRef};
+use super::items::{FoundItem, Item, ItemRef};
 use cache_ident::{Caps, Frame, Ident, KernelNo, Kind, Name, NoMemory, Roll, Standing};
 use growing_list::Values;
 use kernel_cache::KernelRec;
 use kind_store::KindStore;
 use phys_groups::Row;
-use row_store::{RowStore, SignalRows};
+use row_store::{RowStore, RowsOf, SignalRows};
 use slot_cache::{Descriptor, Iter};
 use sorted_list::Run;
 use space_cache::SpaceRec;
@@ -177,16 +177,57 @@ impl Stores {
         }
     }
 
+    /// What holds of any stores: each name is in one place, and the names that stand are those that were declared and not
+    /// retracted. It does nothing.
+    pub fn each_is_one(&self)
+        ensures { IsExactlyOne self.now }
+    {
+        self.kernels.each_is_one();
+        self.spaces.each_is_one();
+        self.threads.each_is_one();
+        self.rows.each_is_one();
+    }
+
+    /// The content of a name, wherever it is, and the identifier with which the name is loaded, if it is; `None` where it has
+    /// no content. One search where it is loaded.
+    pub fn found(&self, name: Name) -> Option<FoundItem<'_>>
+        ensures content { option_map (λ found. shown found.item) result ≡ content_of self.now name }
+        ensures loaded { IfSome result (λ found. IfSome found.ident (IsResidentAs self.now name)) }
+        ensures shelved { IfSome result (λ found. IfNone found.ident (HasNoResident self.now name)) }
+    {
+        match name {
+            Name::Kernel(_) => {
+                let found = self.kernels.found(name)?;
+                let item = ItemRef::Kernel(found.value);
+                let ident = found.ident;
+                Some(FoundItem { item, ident })
+            }
+            Name::Space(_) => {
+                let found = self.spaces.found(name)?;
+                let item = ItemRef::Space(found.value);
+                let ident = found.ident;
+                Some(FoundItem { item, ident })
+            }
+            Name::Thread(_) => {
+                let found = self.threads.found(name)?;
+                let item = ItemRef::Thread(found.value);
+                let ident = found.ident;
+                Some(FoundItem { item, ident })
+            }
+            Name::Mapping(_, _) => {
+                let found = self.rows.found(name)?;
+                let item = ItemRef::Mapping(found.value);
+                let ident = found.ident;
+                Some(FoundItem { item, ident })
+            }
+        }
+    }
+
     /// The content of a name, wherever it is; `None` where there is none. One search where it is loaded.
     pub fn item(&self, name: Name) -> Option<ItemRef<'_>>
         ensures { option_map shown result ≡ content_of self.now name }
     {
-        match name {
-            Name::Kernel(_) => Some(ItemRef::Kernel(self.kernels.item(name)?)),
-            Name::Space(_) => Some(ItemRef::Space(self.spaces.item(name)?)),
-            Name::Thread(_) => Some(ItemRef::Thread(self.threads.item(name)?)),
-            Name::Mapping(_, _) => Some(ItemRef::Mapping(self.rows.item(name)?)),
-        }
+        self.item_near(name, None)
     }
 
     /// As `item`. Where the name is loaded with the identifier `near`, that takes constant time.
@@ -238,12 +279,7 @@ impl Stores {
         ensures found { IfSome result (IsResidentAs self.now name) }
         ensures absent { IfNone result (HasNoResident self.now name) }
     {
-        match name {
-            Name::Kernel(_) => self.kernels.resident(name),
-            Name::Space(_) => self.spaces.resident(name),
-            Name::Thread(_) => self.threads.resident(name),
-            Name::Mapping(_, _) => self.rows.resident(name),
-        }
+        self.resident_near(name, None)
     }
 
     /// As `resident`. Where the name is loaded with the identifier `near`, that takes constant time.
@@ -332,13 +368,21 @@ impl Stores {
         self.rows.has_signal_rows()
     }
 
-    /// The identifiers of the loaded rows of a frame, each once, in no order that a caller may rest on. Two searches in
-    /// what is loaded, and one for each that it gives.
-    pub fn rows_of_frame(&self, frame: Frame) -> Run<'_, Frame, Ident>
-        ensures rows { (ident : Ident) → Contains result ident ↔ IsRowOf self.now.rows.kept.cells frame ident }
+    /// The identifiers of the loaded message rows of a frame, each once, in no order that a caller may rest on. Two searches
+    /// in what is loaded, and one for each that it gives.
+    pub fn message_rows(&self, frame: Frame) -> Run<'_, RowsOf, Ident>
+        ensures rows { (ident : Ident) → Contains result ident ↔ IsRowOf self.now.rows.kept.cells frame true ident }
         ensures once { AllPairs (λ a b. a ≢ b) result }
     {
-        self.rows.of_frame(frame)
+        self.rows.message_rows(frame)
+    }
+
+    /// The identifiers of the loaded rows of a frame that are no message rows, as `message_rows` gives those that are.
+    pub fn other_rows(&self, frame: Frame) -> Run<'_, RowsOf, Ident>
+        ensures rows { (ident : Ident) → Contains result ident ↔ IsRowOf self.now.rows.kept.cells frame false ident }
+        ensures once { AllPairs (λ a b. a ≢ b) result }
+    {
+        self.rows.other_rows(frame)
     }
 
     /// Loads a descriptor from the shelf into the lowest free slot of its kind, with an identifier that is issued now. It
@@ -412,8 +456,8 @@ impl Stores {
         }
     }
 
-    /// Puts a content of the same name, and of the same frame and receiver if it is a row, in the place of the one that is
-    /// loaded with an identifier, and gives the old one back. Constant time.
+    /// Puts a content of the same name, and of the same frame, flags and receiver if it is a row, in the place of the one
+    /// that is loaded with an identifier, and gives the old one back. Constant time.
     pub fn change(&mut self, ident: Ident, item: Item) -> Item
         requires live { standing_in self.old.issued ident ≡ Live }
         requires agrees { (was : Item) → item_as self.old ident ≡ Some was → Agrees was item }
@@ -428,32 +472,6 @@ impl Stores {
             Item::Thread(thread) => Item::Thread(self.threads.change(ident, thread)),
             Item::Mapping(row) => Item::Mapping(self.rows.change(ident, row)),
         }
-    }
-
-    /// Changes a loaded thread where it stands, but for its number, and gives what the change gives. The record isn't
-    /// moved. Constant time.
-    pub fn update_thread<R, F: FnOnce(&mut ThreadRec) -> R>(&mut self, ident: Ident, change: F) -> R
-        requires live { standing_in self.old.issued ident ≡ Live }
-        requires thread { ident.kind ≡ Kind.Thread }
-        requires callable { F.IsAlwaysCallable change }
-        requires agrees { (thread left : ThreadRec) (result : R) → item_as self.old ident ≡ Some (Item.Thread thread) → FnOnceReturnsAtMut F.FnOnce change thread result left → Agrees (Item.Thread thread) (Item.Thread left) }
-        ensures updated { IsUpdatingThread (FnOnceReturnsAtMut F.FnOnce change) self.old self.new ident result }
-        ensures residents { residents_of self.new ≡ residents_of self.old }
-    {
-        self.threads.update(ident, change)
-    }
-
-    /// Changes a loaded row where it stands, but for its name, frame and receiver, and gives what the change gives. The
-    /// row isn't moved. Constant time.
-    pub fn update_row<R, F: FnOnce(&mut Row) -> R>(&mut self, ident: Ident, change: F) -> R
-        requires live { standing_in self.old.issued ident ≡ Live }
-        requires row { ident.kind ≡ Kind.Mapping }
-        requires callable { F.IsAlwaysCallable change }
-        requires agrees { (row left : Row) (result : R) → item_as self.old ident ≡ Some (Item.Mapping row) → FnOnceReturnsAtMut F.FnOnce change row result left → Agrees (Item.Mapping row) (Item.Mapping left) }
-        ensures updated { IsUpdatingRow (FnOnceReturnsAtMut F.FnOnce change) self.old self.new ident result }
-        ensures residents { residents_of self.new ≡ residents_of self.old }
-    {
-        self.rows.update(ident, change)
     }
 
     /// Changes the thread of a name where it stands, in its slot or on the shelf, but for its number, and gives what the
@@ -475,9 +493,9 @@ impl Stores {
         self.threads.update_named(name, near, change)
     }
 
-    /// Changes the row of a name where it stands, in its slot or on the shelf, but for its name, frame and receiver, and
-    /// gives what the change gives. The row isn't moved. Where the name is loaded with the identifier `near`, that takes
-    /// constant time.
+    /// Changes the row of a name where it stands, in its slot or on the shelf, but for its name, frame, flags and
+    /// receiver, and gives what the change gives. The row isn't moved. Where the name is loaded with the identifier `near`,
+    /// that takes constant time.
     pub fn update_row_named<R, F: FnOnce(&mut Row) -> R>(
         &mut self,
         name: Name,

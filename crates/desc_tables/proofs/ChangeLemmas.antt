@@ -31,29 +31,29 @@ use Rattle.flat_state.proofs.Finding.{find-contains}
 use Rattle.flat_state.proofs.Places.{get-set_same, get-set_other}
 use Rattle.flat_laws.proofs.Members.{Contains-from_map}
 use Rattle.run_journal.specs.Legal.{AreGood}
-use Rattle.desc_admits.specs.group_laws.proofs.Ranks.{own_row}
+use Rattle.desc_groups.specs.group_laws.proofs.Ranks.{own_row}
 use Rattle.kind_store.specs.Changes.{is_name}
-use Rattle.desc_admits.specs.desc_stores.specs.declared.items.Item.{Item}
-use Rattle.desc_admits.specs.desc_stores.specs.declared.items.Item.TheVariants as item
-use Rattle.desc_admits.specs.desc_stores.specs.Changes.{with_item, with_named, HasContent, KeepsContents}
-use Rattle.desc_admits.specs.desc_stores.specs.Contents.{content_of, item_as, residents_of, Contents}
-use Rattle.desc_admits.specs.desc_stores.specs.Items.{name_of, Agrees}
-use Rattle.desc_admits.specs.desc_stores.specs.Sound.{AreOwned, IsExactlyOne}
+use Rattle.desc_groups.specs.desc_stores.specs.declared.items.Item.{Item}
+use Rattle.desc_groups.specs.desc_stores.specs.declared.items.Item.TheVariants as item
+use Rattle.desc_groups.specs.desc_stores.specs.Changes.{with_item, with_named, HasContent, KeepsContents}
+use Rattle.desc_groups.specs.desc_stores.specs.Contents.{content_of, item_as, residents_of, Contents}
+use Rattle.desc_groups.specs.desc_stores.specs.Items.{name_of, Agrees}
+use Rattle.desc_groups.specs.desc_stores.specs.Sound.{AreOwned, IsExactlyOne}
 use Rattle.owner_shelf.proofs.NameLemmas.{same_by_eq}
-use Rattle.desc_admits.specs.shown_state.specs.Shown.{flat_thread, row_of_item, shown, thread_of, HasSameNames}
-use Rattle.desc_admits.specs.shown_state.specs.Edits.{in_place_of, with_changed}
-use Rattle.desc_admits.specs.shown_state.specs.Owning.{OwnersStay}
-use Rattle.desc_admits.specs.shown_state.proofs.AlikeLemmas.{alike_kept, shown_alike}
-use Rattle.desc_admits.specs.shown_state.proofs.ChangeLemmas.{change_shown}
-use Rattle.desc_admits.specs.shown_state.proofs.ContentLemmas.{item_has_name, named_by_page}
-use Rattle.desc_admits.specs.shown_state.proofs.LookupLemmas.{found_row, found_thread, one_row_a_page}
-use Rattle.desc_admits.specs.shown_state.proofs.MoveLemmas.{names_changed}
-use Rattle.desc_admits.specs.shown_state.proofs.OwnerLemmas.{owners_row, owners_thread, stays_owned}
-use Rattle.desc_admits.specs.shown_state.proofs.UpdateLemmas.{agreed_name, loaded_content}
-use Rattle.desc_admits.specs.store_residents.specs.Slots.{KeepsSlots}
-use Rattle.desc_admits.specs.store_residents.proofs.StayLemmas.{slots-changing}
-use Rattle.desc_admits.specs.desc_parents.specs.Seen.{seen, HasPlainRows}
-use Rattle.desc_admits.specs.desc_groups.specs.declared.departures.Gone.{Gone}
+use Rattle.desc_groups.specs.shown_state.specs.Shown.{flat_thread, row_of_item, shown, thread_of, HasSameNames}
+use Rattle.desc_groups.specs.shown_state.specs.Edits.{in_place_of, with_changed}
+use Rattle.desc_groups.specs.shown_state.specs.Owning.{OwnersStay}
+use Rattle.desc_groups.specs.shown_state.proofs.AlikeLemmas.{alike_kept, shown_alike}
+use Rattle.desc_groups.specs.shown_state.proofs.ChangeLemmas.{change_shown}
+use Rattle.desc_groups.specs.shown_state.proofs.ContentLemmas.{item_has_name, named_by_page}
+use Rattle.desc_groups.specs.shown_state.proofs.LookupLemmas.{found_row, found_thread, one_row_a_page}
+use Rattle.desc_groups.specs.shown_state.proofs.MoveLemmas.{names_changed}
+use Rattle.desc_groups.specs.shown_state.proofs.OwnerLemmas.{owners_row, owners_thread, stays_owned}
+use Rattle.desc_groups.specs.shown_state.proofs.UpdateLemmas.{agreed_name, loaded_content}
+use Rattle.desc_groups.specs.store_residents.specs.Slots.{KeepsSlots}
+use Rattle.desc_groups.specs.store_residents.proofs.StayLemmas.{slots-changing}
+use Rattle.desc_groups.specs.desc_parents.specs.Seen.{seen, HasPlainRows}
+use Rattle.desc_groups.specs.declared.departures.Gone.{Gone}
 use Rattle.desc_tables.specs.Calls.{IsLike}
 use Rattle.desc_tables.specs.Tables.{ArePlaced, AreSound}
 use Rattle.desc_tables.proofs.LikeLemmas.{fit_there, like_for, KeepsLoaded}
@@ -66,7 +66,7 @@ pub like_agrees : (was new : Item) → IsLike was new → Agrees was new
 like_agrees (item.Kernel was) (item.Kernel kernel) like = ap (λ k. k.no) like
 like_agrees (item.Space was) (item.Space space) like = ap (λ s. s.no) like
 like_agrees (item.Thread was) (item.Thread thread) like = like.0
-like_agrees (item.Mapping was) (item.Mapping row) like = (like.0, like.1, like.3)
+like_agrees (item.Mapping was) (item.Mapping row) like = like
 like_agrees _ _ like = absurd like
 
 -- who owns what is on a shelf, whatever came in the place of what is loaded
@@ -200,12 +200,12 @@ module _ (s : FlatState) (single : HasOneRowAPage s.rows) (was now : Row) (here 
   }
 
 -- a content of one name came in the place of another, while the same names stand, in as many slots
-module _ (caps : Caps) (old new : Contents) (gone : List Gone) (pairs : List (Ident × Node)) (sound : AreSound (record { caps = caps; contents = old; gone = gone }) pairs) (one : IsExactlyOne new) (residents : residents_of new ≡ residents_of old) (names : HasSameNames old new) (slots : KeepsSlots old new) (owned : AreOwned (owner (seen old)) new) where
+module _ (caps : Caps) (old new : Contents) (gone : List Gone) (left : List Name) (pairs : List (Ident × Node)) (sound : AreSound (record { caps = caps; contents = old; gone = gone; left = left }) pairs) (one : IsExactlyOne new) (residents : residents_of new ≡ residents_of old) (names : HasSameNames old new) (slots : KeepsSlots old new) (owned : AreOwned (owner (seen old)) new) where
   -- where the same content came
-  same_item : (it : Item) → content_of old (name_of it) ≡ Some it → HasContent old new it → AreSound (record { caps = caps; contents = new; gone = gone }) pairs
+  same_item : (it : Item) → content_of old (name_of it) ≡ Some it → HasContent old new it → AreSound (record { caps = caps; contents = new; gone = gone; left = left }) pairs
   same_item it there has =
       let keeps = same_contents old new it there has in
-      sound_kept caps old new gone pairs sound one slots residents (shown_alike None [] old new (alike_kept old new keeps names)) keeps owned
+      sound_kept caps old new gone left pairs sound one slots residents (shown_alike None [] old new (alike_kept old new keeps names)) keeps owned
 
   -- where one came that is no kernel, after which owners stay
   module _ (it : Item) (there : IsSome (content_of old (name_of it))) (has : HasContent old new it) where
@@ -223,9 +223,9 @@ module _ (caps : Caps) (old new : Contents) (gone : List Gone) (pairs : List (Id
         by true same = absurd (let clash : it ≡ item.Kernel kernel = cc in none kernel clash)
         by false same = same
 
-    changed : ((kernel : KernelRec) → it ≡ item.Kernel kernel → ⊥) → OwnersStay (seen old) (with_changed (seen old) it) → HasPlainRows (with_changed (seen old) it) → KeepsLoaded (seen old) (with_changed (seen old) it) (residents_of old) → RoomIn caps (with_changed (seen old) it) → ArePlaced (with_changed (seen old) it) → AreSound (record { caps = caps; contents = new; gone = gone }) pairs
+    changed : ((kernel : KernelRec) → it ≡ item.Kernel kernel → ⊥) → OwnersStay (seen old) (with_changed (seen old) it) → HasPlainRows (with_changed (seen old) it) → KeepsLoaded (seen old) (with_changed (seen old) it) (residents_of old) → RoomIn caps (with_changed (seen old) it) → ArePlaced (with_changed (seen old) it) → AreSound (record { caps = caps; contents = new; gone = gone; left = left }) pairs
     changed none stay plain keeps room placed =
-        sound_like caps old new gone pairs sound one slots residents
+        sound_like caps old new gone left pairs sound one slots residents
         (subst HasPlainRows (sym shows) plain)
         (subst (λ (s : FlatState). IsLikeFor (seen old) s (residents_of old)) (sym shows) (like_for (seen old) (with_changed (seen old) it) (residents_of old) sound.whole.good keeps))
         (owned_changed stay)
@@ -235,7 +235,7 @@ module _ (caps : Caps) (old new : Contents) (gone : List Gone) (pairs : List (Id
         (subst ArePlaced (sym shows) placed)
 
   -- whatever came that is like what was there
-  pub sound_replaced : (was it : Item) → content_of old (name_of was) ≡ Some was → IsLike was it → HasContent old new it → AreSound (record { caps = caps; contents = new; gone = gone }) pairs
+  pub sound_replaced : (was it : Item) → content_of old (name_of was) ≡ Some was → IsLike was it → HasContent old new it → AreSound (record { caps = caps; contents = new; gone = gone; left = left }) pairs
   sound_replaced (item.Kernel was) (item.Kernel kernel) there like has = same_item (item.Kernel kernel) (subst (λ (k : KernelRec). content_of old (name_of (item.Kernel k)) ≡ Some (item.Kernel k)) like there) has
   sound_replaced (item.Space was) (item.Space space) there like has = same_item (item.Space space) (subst (λ (k : SpaceRec). content_of old (name_of (item.Space k)) ≡ Some (item.Space k)) like there) has
   sound_replaced (item.Thread was) (item.Thread thread) there like has =
@@ -269,9 +269,9 @@ shown_replaced old new was it one names there like has machine memory =
 
 -- once one came in the place of what is loaded with an identifier
 module _ (old new : Contents) (ident : Ident) (was it : Item) (at : item_as old ident ≡ Some was) (like : IsLike was it) (has : HasContent old new it) (is : new ≡ with_item old ident it) where
-  pub sound_changed : (caps : Caps) (gone : List Gone) (pairs : List (Ident × Node)) → AreSound (record { caps = caps; contents = old; gone = gone }) pairs → IsExactlyOne new → residents_of new ≡ residents_of old → AreSound (record { caps = caps; contents = new; gone = gone }) pairs
-  sound_changed caps gone pairs sound one residents =
-      sound_replaced caps old new gone pairs sound one residents (names_changed old new ident it is) (slots-changing old new ident it is)
+  pub sound_changed : (caps : Caps) (gone : List Gone) (left : List Name) (pairs : List (Ident × Node)) → AreSound (record { caps = caps; contents = old; gone = gone; left = left }) pairs → IsExactlyOne new → residents_of new ≡ residents_of old → AreSound (record { caps = caps; contents = new; gone = gone; left = left }) pairs
+  sound_changed caps gone left pairs sound one residents =
+      sound_replaced caps old new gone left pairs sound one residents (names_changed old new ident it is) (slots-changing old new ident it is)
       (subst (AreOwned (owner (seen old))) (sym is) (owned_item (owner (seen old)) old ident it sound.whole.owned))
       was it (loaded_content old sound.whole.one ident was at) like has
 
@@ -283,8 +283,8 @@ module _ (old new : Contents) (n : Name) (was it : Item) (at : content_of old n 
   found_named : content_of old (name_of was) ≡ Some was
   found_named = ap (content_of old) (item_has_name old n was at) ∙ at
 
-  pub sound_named : (caps : Caps) (gone : List Gone) (pairs : List (Ident × Node)) → AreSound (record { caps = caps; contents = old; gone = gone }) pairs → IsExactlyOne new → residents_of new ≡ residents_of old → AreOwned (owner (seen old)) new → AreSound (record { caps = caps; contents = new; gone = gone }) pairs
-  sound_named caps gone pairs sound one residents owned = sound_replaced caps old new gone pairs sound one residents (names_named old new it is) (slots_named old new it is) owned was it found_named like has
+  pub sound_named : (caps : Caps) (gone : List Gone) (left : List Name) (pairs : List (Ident × Node)) → AreSound (record { caps = caps; contents = old; gone = gone; left = left }) pairs → IsExactlyOne new → residents_of new ≡ residents_of old → AreOwned (owner (seen old)) new → AreSound (record { caps = caps; contents = new; gone = gone; left = left }) pairs
+  sound_named caps gone left pairs sound one residents owned = sound_replaced caps old new gone left pairs sound one residents (names_named old new it is) (slots_named old new it is) owned was it found_named like has
 
   pub shown_named : IsExactlyOne old → (machine : Option Machine) (memory : List ℕ) → shown machine memory new ≡ with_changed (shown machine memory old) it
   shown_named one machine memory = shown_replaced old new was it one (names_named old new it is) found_named like has machine memory

@@ -10,7 +10,7 @@ use Rattle.flat_state.proofs.Places.{count_by-cons, count_by-filter}
 use Rattle.flat_laws.proofs.Members.{Contains-here, Contains-behind, Contains-cases, contains_nothing}
 use Rattle.run_journal.specs.Legal.{count_of, is_kind}
 use Rattle.run_journal.proofs.Others.{other_ident, stays_without}
-use Rattle.desc_admits.specs.group_laws.specs.Leaving.{without_all}
+use Rattle.desc_groups.specs.group_laws.specs.Leaving.{without_all}
 
 module _ {X : Type 0} where
   -- where whatever passes one test passes one of two others, no more pass it than pass these

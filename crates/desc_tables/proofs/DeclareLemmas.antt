@@ -39,7 +39,7 @@ use Rattle.run_journal.specs.Legal.{is_kernel, is_kind, locked_by, AreGood}
 use Rattle.desc_tables.specs.Tables.{ArePlaced}
 use Rattle.desc_tables.proofs.LikeLemmas.{fit_there, KeepsLoaded}
 use Rattle.desc_tables.proofs.ListLemmas.{filter-agree}
-use Rattle.desc_admits.specs.desc_parents.specs.Seen.{HasPlainRows}
+use Rattle.desc_groups.specs.desc_parents.specs.Seen.{HasPlainRows}
 
 sum_by-one : (f : FlatKernel → ℕ) (k : FlatKernel) → sum_by f (k ∷ []) ≡ f k
 sum_by-one f k = let one = sum_by-cons f k [] in omega arith

@@ -19,9 +19,9 @@ use Rattle.flat_state.specs.Declaration.{locks_granted}
 use Rattle.flat_state.proofs.Places.{count_by-cons}
 use Rattle.flat_laws.proofs.Members.{Contains-cases, contains_nothing}
 use Rattle.run_journal.specs.Legal.{count_of, is_kernel, is_kind, limits_in, locked_by}
-use Rattle.desc_admits.specs.journal_laws.specs.Leaving.{AreApart}
-use Rattle.desc_admits.specs.group_laws.proofs.Counting.{apart_behind, apart_first}
-use Rattle.desc_admits.specs.May.{kept_of}
+use Rattle.desc_groups.specs.journal_laws.specs.Leaving.{AreApart}
+use Rattle.desc_groups.specs.group_laws.proofs.Counting.{apart_behind, apart_first}
+use Rattle.desc_tables.specs.May.{kept_of}
 use Rattle.desc_tables.proofs.Counts.{count_either, count_narrow, count_nothing}
 
 -- ---- locked

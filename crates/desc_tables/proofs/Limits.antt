@@ -20,23 +20,23 @@ use Rattle.flat_state.specs.State.{FlatState}
 use Rattle.flat_state.specs.Dependence.{owner}
 use Rattle.flat_state.specs.Declaration.{locks_granted}
 use Rattle.run_journal.specs.Legal.{is_kernel, is_kind, limit_of, limits_in, locked_by}
-use Rattle.desc_admits.specs.desc_stores.specs.declared.items.Item.{Item}
-use Rattle.desc_admits.specs.desc_stores.specs.declared.items.Item.TheVariants as item
-use Rattle.desc_admits.specs.desc_stores.specs.Contents.{content_of, resident_as, residents_of, Contents}
-use Rattle.desc_admits.specs.desc_stores.specs.Sound.{kernel_named}
-use Rattle.desc_admits.specs.shown_state.specs.Shown.{flat_kernel, kernel_of}
-use Rattle.desc_admits.specs.shown_state.proofs.LookupLemmas.{found_kernel}
-use Rattle.desc_admits.specs.shown_state.proofs.ContentLemmas.{item_has_name}
-use Rattle.desc_admits.specs.store_residents.proofs.ResidentLemmas.{live_iff, one_each, resident_loaded, serials_rise}
-use Rattle.desc_admits.specs.store_residents.proofs.SlotLaws.{are_few}
-use Rattle.desc_admits.specs.store_residents.proofs.SlotLemmas.{kind_is}
-use Rattle.desc_admits.specs.journal_laws.specs.Leaving.{AreApart, HaveOneEach}
-use Rattle.desc_admits.specs.group_laws.specs.Leaving.{lock_of, without_all}
-use Rattle.desc_admits.specs.group_laws.proofs.LockCounts.{lock_is_there, locks_loaded, locks_locked, locks_unlocked}
-use Rattle.desc_admits.specs.desc_parents.specs.Seen.{seen}
-use Rattle.desc_admits.specs.desc_groups.specs.Moves.{KeepsButCounts, MayBeLocked}
-use Rattle.desc_admits.specs.desc_groups.specs.Whole.{AreWhole}
-use Rattle.desc_admits.specs.May.{wanted_of}
+use Rattle.desc_groups.specs.desc_stores.specs.declared.items.Item.{Item}
+use Rattle.desc_groups.specs.desc_stores.specs.declared.items.Item.TheVariants as item
+use Rattle.desc_groups.specs.desc_stores.specs.Contents.{content_of, resident_as, residents_of, Contents}
+use Rattle.desc_groups.specs.desc_stores.specs.Sound.{kernel_named}
+use Rattle.desc_groups.specs.shown_state.specs.Shown.{flat_kernel, kernel_of}
+use Rattle.desc_groups.specs.shown_state.proofs.LookupLemmas.{found_kernel}
+use Rattle.desc_groups.specs.shown_state.proofs.ContentLemmas.{item_has_name}
+use Rattle.desc_groups.specs.store_residents.proofs.ResidentLemmas.{live_iff, one_each, resident_loaded, serials_rise}
+use Rattle.desc_groups.specs.store_residents.proofs.SlotLaws.{are_few}
+use Rattle.desc_groups.specs.store_residents.proofs.SlotLemmas.{kind_is}
+use Rattle.desc_groups.specs.journal_laws.specs.Leaving.{AreApart, HaveOneEach}
+use Rattle.desc_groups.specs.group_laws.specs.Leaving.{lock_of, without_all}
+use Rattle.desc_groups.specs.group_laws.proofs.LockCounts.{lock_is_there, locks_loaded, locks_locked, locks_unlocked}
+use Rattle.desc_groups.specs.desc_parents.specs.Seen.{seen}
+use Rattle.desc_groups.specs.Moves.{KeepsButCounts, MayBeLocked}
+use Rattle.desc_groups.specs.Whole.{AreWhole}
+use Rattle.desc_tables.specs.May.{wanted_of}
 use Rattle.desc_tables.specs.Tables.{ArePlaced, AreSound, Held, IsLimited}
 use Rattle.desc_tables.proofs.Counts.{count_left, length_by_kind}
 

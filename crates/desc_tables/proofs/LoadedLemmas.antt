@@ -6,11 +6,11 @@ use Rattle.cache_ident.specs.declared.idents.Ident.{Ident}
 use Rattle.cache_ident.specs.declared.names.Name.{Name}
 use Rattle.cache_ident.specs.Residents.{Resident, IsNameResident, IsResident}
 use Rattle.depend_lists.specs.declared.nodes.Node.{Node}
-use Rattle.desc_admits.specs.desc_stores.specs.declared.items.Item.{Item}
-use Rattle.desc_admits.specs.desc_stores.specs.declared.items.ItemRef.{ItemRef}
-use Rattle.desc_admits.specs.desc_stores.specs.Items.{shown}
-use Rattle.desc_admits.specs.desc_stores.specs.Contents.{content_of, item_as, residents_of, Contents, IsShelved}
-use Rattle.desc_admits.specs.store_residents.proofs.ContentLemmas.{resident_item, shelved_iff}
+use Rattle.desc_groups.specs.desc_stores.specs.declared.items.Item.{Item}
+use Rattle.desc_groups.specs.desc_stores.specs.declared.items.ItemRef.{ItemRef}
+use Rattle.desc_groups.specs.desc_stores.specs.Items.{shown}
+use Rattle.desc_groups.specs.desc_stores.specs.Contents.{content_of, item_as, residents_of, Contents, IsShelved}
+use Rattle.desc_groups.specs.store_residents.proofs.ContentLemmas.{resident_item, shelved_iff}
 use Rattle.desc_tables.specs.Tables.{AreSound, Held}
 
 -- what is loaded under a name has its content

@@ -14,14 +14,14 @@ use Rattle.thread_cache.specs.declared.ThreadRec.{ThreadRec}
 use Rattle.thread_cache.specs.Threads as thread_rec
 use Rattle.kind_store.specs.Kept.{Kept}
 use Rattle.kind_store.specs.Changes.{cells_with, loaded_with, with_content}
-use Rattle.desc_admits.specs.desc_stores.specs.declared.items.Item.{Item}
-use Rattle.desc_admits.specs.desc_stores.specs.declared.items.Item.TheVariants as item
-use Rattle.desc_admits.specs.desc_stores.specs.Changes.{with_named}
-use Rattle.desc_admits.specs.desc_stores.specs.Contents.{Contents}
-use Rattle.desc_admits.specs.shown_state.specs.Shown.{HasSameNames}
-use Rattle.desc_admits.specs.shown_state.proofs.MoveLemmas.{names_in_kernels, names_in_rows, names_in_spaces, names_in_threads}
-use Rattle.desc_admits.specs.store_residents.specs.Slots.{KeepsSlots}
-use Rattle.desc_admits.specs.store_residents.proofs.StayLemmas.{slots-is, slots-kernels, slots-rows, slots-spaces, slots-threads}
+use Rattle.desc_groups.specs.desc_stores.specs.declared.items.Item.{Item}
+use Rattle.desc_groups.specs.desc_stores.specs.declared.items.Item.TheVariants as item
+use Rattle.desc_groups.specs.desc_stores.specs.Changes.{with_named}
+use Rattle.desc_groups.specs.desc_stores.specs.Contents.{Contents}
+use Rattle.desc_groups.specs.shown_state.specs.Shown.{HasSameNames}
+use Rattle.desc_groups.specs.shown_state.proofs.MoveLemmas.{names_in_kernels, names_in_rows, names_in_spaces, names_in_threads}
+use Rattle.desc_groups.specs.store_residents.specs.Slots.{KeepsSlots}
+use Rattle.desc_groups.specs.store_residents.proofs.StayLemmas.{slots-is, slots-kernels, slots-rows, slots-spaces, slots-threads}
 
 length-named : {T : Type 0} (called : T → Name) (cells : List (Option (Loaded T))) (name : Name) (value : T) → length (cells_with called cells name value) ≡ length cells
 length-named called cells name value = length-map cells (option_map (loaded_with called name value))

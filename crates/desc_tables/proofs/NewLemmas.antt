@@ -7,7 +7,7 @@ use Rattle.cache_ident.specs.declared.names.Name.TheVariants as name
 use Rattle.cache_ident.specs.declared.rolls.Issued.{Issued}
 use Rattle.cache_ident.specs.Residents.{Resident}
 use Rattle.depend_lists.specs.Pairs.{count_of}
-use Rattle.desc_admits.specs.resident_pairs.specs.Among.{Among}
+use Rattle.desc_groups.specs.resident_pairs.specs.Among.{Among}
 use Rattle.owner_shelf.specs.declared.shelved.Shelved.{Shelved}
 use Rattle.slot_cache.specs.Rows.{row_name}
 use Rattle.kernel_cache.specs.Kernels as kernel_rec
@@ -18,15 +18,15 @@ use Rattle.flat_state.specs.Dependence.{owner}
 use Rattle.flat_state.specs.Names.{stands}
 use Rattle.flat_laws.proofs.Members.{contains_nothing}
 use Rattle.kind_store.specs.Kept as stored
-use Rattle.desc_admits.specs.desc_stores.specs.declared.items.Item.{Item}
-use Rattle.desc_admits.specs.desc_stores.specs.Changes.{IsNothing}
-use Rattle.desc_admits.specs.desc_stores.specs.Contents.{content_of, residents_of, Contents}
-use Rattle.desc_admits.specs.desc_stores.specs.Sound.{IsExactlyOne}
-use Rattle.desc_admits.specs.shown_state.proofs.DeclareLemmas.{nothing_shown}
-use Rattle.desc_admits.specs.shown_state.proofs.LookupLemmas.{name_stands}
-use Rattle.desc_admits.specs.store_residents.proofs.StayLemmas.{slots-nothing}
-use Rattle.desc_admits.specs.desc_parents.specs.Seen.{seen, HasPlainRows}
-use Rattle.desc_admits.specs.desc_groups.specs.declared.departures.Gone.{Gone}
+use Rattle.desc_groups.specs.desc_stores.specs.declared.items.Item.{Item}
+use Rattle.desc_groups.specs.desc_stores.specs.Changes.{IsNothing}
+use Rattle.desc_groups.specs.desc_stores.specs.Contents.{content_of, residents_of, Contents}
+use Rattle.desc_groups.specs.desc_stores.specs.Sound.{IsExactlyOne}
+use Rattle.desc_groups.specs.shown_state.proofs.DeclareLemmas.{nothing_shown}
+use Rattle.desc_groups.specs.shown_state.proofs.LookupLemmas.{name_stands}
+use Rattle.desc_groups.specs.store_residents.proofs.StayLemmas.{slots-nothing}
+use Rattle.desc_groups.specs.desc_parents.specs.Seen.{seen, HasPlainRows}
+use Rattle.desc_groups.specs.declared.departures.Gone.{Gone}
 use Rattle.desc_tables.specs.Tables.{ArePlaced, AreSound}
 
 none_stands : (n : Name) → stands nothing_declared n ≡ false
@@ -70,8 +70,8 @@ module _ (caps : Caps) (c : Contents) (nothing : IsNothing caps c) (one : IsExac
   empty : residents_of c ≡ []
   empty = none_resident c nothing.issued
 
-  sound_nothing : (gone : List Gone) → AreSound (record { caps = caps; contents = c; gone = gone }) []
-  sound_nothing gone = record {
+  sound_nothing : (gone : List Gone) (left : List Name) → AreSound (record { caps = caps; contents = c; gone = gone; left = left }) []
+  sound_nothing gone left = record {
     whole = record {
       one = one;
       sized = slots-nothing caps c nothing;
@@ -95,6 +95,7 @@ module _ (caps : Caps) (c : Contents) (nothing : IsNothing caps c) (one : IsExac
   }
 
   -- with no pairs, and room for all that can leave
-  pub sound_new : (among : Among) (gone : List Gone) (room : ℕ) → among ≡ record { caps = caps; pairs = []; order = [] } → count_of caps ≤ room → AreSound (record { caps = among.caps; contents = c; gone = gone }) among.pairs × (count_of among.caps ≤ room)
-  sound_new among gone room is roomy =
-      subst (λ (a : Among). AreSound (record { caps = a.caps; contents = c; gone = gone }) a.pairs × (count_of a.caps ≤ room)) (sym is) (sound_nothing gone, roomy)
+  pub sound_new : (among : Among) (gone : List Gone) (left : List Name) (room for_names : ℕ) → among ≡ record { caps = caps; pairs = []; order = [] } → count_of caps ≤ room → count_of caps ≤ for_names
+      → AreSound (record { caps = among.caps; contents = c; gone = gone; left = left }) among.pairs × (count_of among.caps ≤ room) × (count_of among.caps ≤ for_names)
+  sound_new among gone left room for_names is roomy named =
+      subst (λ (a : Among). AreSound (record { caps = a.caps; contents = c; gone = gone; left = left }) a.pairs × (count_of a.caps ≤ room) × (count_of a.caps ≤ for_names)) (sym is) (sound_nothing gone left, roomy, named)

@@ -17,7 +17,7 @@ use Rattle.flat_state.specs.Names.{stands}
 use Rattle.flat_laws.proofs.Members.{Contains-here, Contains-some}
 use Rattle.run_journal.specs.Groups.{HasParents}
 use Rattle.run_journal.specs.Legal.{AreGood}
-use Rattle.desc_admits.specs.store_residents.proofs.SlotLaws.{what_is_there}
+use Rattle.desc_groups.specs.store_residents.proofs.SlotLaws.{what_is_there}
 
 -- a kernel owns the name, and stands
 abbrev pub IsOwned : FlatState → Name → Type 0

@@ -30,23 +30,23 @@ use Rattle.space_cache.specs.declared.SpaceRec.{SpaceRec}
 use Rattle.space_cache.specs.Spaces as space_rec
 use Rattle.kind_store.specs.Changes.{is_name}
 use Rattle.kind_store.specs.Kept as stored
-use Rattle.desc_admits.specs.desc_stores.specs.declared.items.Item.{Item}
-use Rattle.desc_admits.specs.desc_stores.specs.declared.items.Item.TheVariants as item
-use Rattle.desc_admits.specs.desc_stores.specs.Changes.{HasContent, IsDeclaring, IsNext}
-use Rattle.desc_admits.specs.desc_stores.specs.Contents.{content_of, residents_of, Contents}
-use Rattle.desc_admits.specs.desc_stores.specs.Items.{name_of}
-use Rattle.desc_admits.specs.desc_stores.specs.Sound.{AreOwned, IsExactlyOne}
-use Rattle.desc_admits.specs.shown_state.specs.Shown.{flat_kernel, flat_thread, row_of_item, space_of, thread_of}
-use Rattle.desc_admits.specs.shown_state.specs.Edits.{with_new}
-use Rattle.desc_admits.specs.shown_state.specs.Owning.{kernel_in, owner_in}
-use Rattle.desc_admits.specs.shown_state.proofs.ChangeLemmas.{at_name, elsewhere}
-use Rattle.desc_admits.specs.shown_state.proofs.DeclareLemmas.{declaration_shown}
-use Rattle.desc_admits.specs.shown_state.proofs.LookupLemmas.{count_kernels, found_row, name_stands}
-use Rattle.desc_admits.specs.shown_state.proofs.OwnerLemmas.{owner_found, owners_declared, stays_owned}
-use Rattle.desc_admits.specs.store_residents.proofs.StayLemmas.{slots-declaring}
-use Rattle.desc_admits.specs.desc_parents.specs.Seen.{seen, HasPlainRows}
-use Rattle.desc_admits.specs.desc_groups.specs.declared.departures.Gone.{Gone}
-use Rattle.desc_admits.specs.May.{no_locks, IsNewItem, IsNewRow}
+use Rattle.desc_groups.specs.desc_stores.specs.declared.items.Item.{Item}
+use Rattle.desc_groups.specs.desc_stores.specs.declared.items.Item.TheVariants as item
+use Rattle.desc_groups.specs.desc_stores.specs.Changes.{HasContent, IsDeclaring, IsNext}
+use Rattle.desc_groups.specs.desc_stores.specs.Contents.{content_of, residents_of, Contents}
+use Rattle.desc_groups.specs.desc_stores.specs.Items.{name_of}
+use Rattle.desc_groups.specs.desc_stores.specs.Sound.{AreOwned, IsExactlyOne}
+use Rattle.desc_groups.specs.shown_state.specs.Shown.{flat_kernel, flat_thread, row_of_item, space_of, thread_of}
+use Rattle.desc_groups.specs.shown_state.specs.Edits.{with_new}
+use Rattle.desc_groups.specs.shown_state.specs.Owning.{kernel_in, owner_in}
+use Rattle.desc_groups.specs.shown_state.proofs.ChangeLemmas.{at_name, elsewhere}
+use Rattle.desc_groups.specs.shown_state.proofs.DeclareLemmas.{declaration_shown}
+use Rattle.desc_groups.specs.shown_state.proofs.LookupLemmas.{count_kernels, found_row, name_stands}
+use Rattle.desc_groups.specs.shown_state.proofs.OwnerLemmas.{owner_found, owners_declared, stays_owned}
+use Rattle.desc_groups.specs.store_residents.proofs.StayLemmas.{slots-declaring}
+use Rattle.desc_groups.specs.desc_parents.specs.Seen.{seen, HasPlainRows}
+use Rattle.desc_groups.specs.declared.departures.Gone.{Gone}
+use Rattle.desc_tables.specs.May.{no_locks, IsNewItem, IsNewRow}
 use Rattle.desc_tables.specs.Calls.{OwnsNew}
 use Rattle.desc_tables.specs.Tables.{ArePlaced, AreSound, IsLimited}
 use Rattle.desc_tables.proofs.DeclareLemmas.{grants_kernel, keeps_grown, keeps_row, none_locked, placed_kernel, placed_row, placed_space, plain_row}
@@ -112,7 +112,7 @@ row_apart caps c one row its r space vpn x there is at message = by (is_signal_r
         let content : content_of c r.name ≡ Some (item.Mapping x) = ap (content_of c) is ∙ mapping_item (content_of c (name.Mapping space vpn)) x (sym (found_row None [] c one space vpn) ∙ at) in
         absurd (its.alone signal.1 parts.1 r x there content message frame)
 
-module _ (caps : Caps) (old new : Contents) (gone : List Gone) (pairs : List (Ident × Node)) (sound : AreSound (record { caps = caps; contents = old; gone = gone }) pairs) (one : IsExactlyOne new) (who : KernelNo) where
+module _ (caps : Caps) (old new : Contents) (gone : List Gone) (left : List Name) (pairs : List (Ident × Node)) (sound : AreSound (record { caps = caps; contents = old; gone = gone; left = left }) pairs) (one : IsExactlyOne new) (who : KernelNo) where
   kernel_cases : (it : Item) → HasContent old new it → {P : KernelRec → Type 0} → ((kernel : KernelRec) → it ≡ item.Kernel kernel → P kernel) → ((n : Name) (kernel : KernelRec) → content_of old n ≡ Some (item.Kernel kernel) → P kernel) → (n : Name) (kernel : KernelRec) → content_of new n ≡ Some (item.Kernel kernel) → P kernel
   kernel_cases it has {P = P} fresh before n kernel at = by (is_name (name_of it) n) (sym (has n) ∙ at)
     where
@@ -145,12 +145,12 @@ module _ (caps : Caps) (old new : Contents) (gone : List Gone) (pairs : List (Id
   declared_so : (it : Item) → IsNext old it → IsNewItem caps old it → content_of old (name_of it) ≡ None → HasContent old new it → IsDeclaring old new who it → OwnsNew old it who → residents_of new ≡ residents_of old
       → ((owner_of : Name → Option KernelNo) → owner_of (name_of it) ≡ Some who → AreOwned owner_of old → AreOwned owner_of new)
       → HasPlainRows (with_new (seen old) it) → KeepsLoaded (seen old) (with_new (seen old) it) (residents_of old) → RoomIn caps (with_new (seen old) it) → ArePlaced (with_new (seen old) it)
-      → AreSound (record { caps = caps; contents = new; gone = gone }) pairs
+      → AreSound (record { caps = caps; contents = new; gone = gone; left = left }) pairs
   declared_so it next its absent has declaring owns residents owned plain keeps room placed =
       let shows : seen new ≡ with_new (seen old) it = declaration_shown None [] old new sound.whole.one who it declaring next absent has in
       let its_owner : owner (seen new) (name_of it) ≡ Some who = owner_found None [] new one (name_of it) ∙ owner_declared old new sound.whole.one it who next has declaring owns in
       let before : AreOwned (owner (seen new)) old = stays_owned old (owner (seen old)) (owner (seen new)) (λ n kernel some at. subst (λ (s : FlatState). owner s n ≡ Some kernel) (sym shows) (owners_declared (seen old) it n kernel at)) sound.whole.owned in
-      sound_like caps old new gone pairs sound one (slots-declaring old new who it declaring) residents
+      sound_like caps old new gone left pairs sound one (slots-declaring old new who it declaring) residents
       (subst HasPlainRows (sym shows) plain)
       (subst (λ (s : FlatState). IsLikeFor (seen old) s (residents_of old)) (sym shows) (like_for (seen old) (with_new (seen old) it) (residents_of old) sound.whole.good keeps))
       (owned (owner (seen new)) its_owner before)
@@ -161,7 +161,7 @@ module _ (caps : Caps) (old new : Contents) (gone : List Gone) (pairs : List (Id
 
   pub sound_declared : (it : Item) → IsNext old it → IsNewItem caps old it → content_of old (name_of it) ≡ None → HasContent old new it → IsDeclaring old new who it → OwnsNew old it who → residents_of new ≡ residents_of old
       → ((owner_of : Name → Option KernelNo) → owner_of (name_of it) ≡ Some who → AreOwned owner_of old → AreOwned owner_of new)
-      → AreSound (record { caps = caps; contents = new; gone = gone }) pairs
+      → AreSound (record { caps = caps; contents = new; gone = gone; left = left }) pairs
   sound_declared (item.Kernel kernel) next its absent has declaring owns residents owned =
       let s = seen old in
       declared_so (item.Kernel kernel) next its absent has declaring owns residents owned

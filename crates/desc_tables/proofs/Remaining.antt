@@ -11,18 +11,18 @@ use Rattle.flat_state.specs.State.{FlatState}
 use Rattle.flat_state.specs.Dependence.{Depends}
 use Rattle.flat_laws.proofs.Members.{Contains-here, Contains-cases, contains_nothing}
 use Rattle.run_journal.specs.Groups.{node_of, ArePairsOf, HasParents, IsGroup}
-use Rattle.desc_admits.specs.group_laws.specs.Leaving.{without_all}
-use Rattle.desc_admits.specs.group_laws.proofs.Remaining.{stays_without_all}
+use Rattle.desc_groups.specs.group_laws.specs.Leaving.{without_all}
+use Rattle.desc_groups.specs.group_laws.proofs.Remaining.{stays_without_all}
 
 abbrev ident_of : Node → Ident
 ident_of node = node.ident
 
 module _ (s : FlatState) (rs : List Resident) (keep : List Ident) where
   -- all that what is kept depends on is kept
-  abbrev pub IsClosed : Type 0
-  IsClosed = (r parent : Resident) → Contains rs r → Contains keep r.ident → Contains rs parent → Depends s r.name parent.name → Contains keep parent.ident
+  abbrev pub KeepsParentsOfKept : Type 0
+  KeepsParentsOfKept = (r parent : Resident) → Contains rs r → Contains keep r.ident → Contains rs parent → Depends s r.name parent.name → Contains keep parent.ident
 
-  module _ (closed : IsClosed) where
+  module _ (closed : KeepsParentsOfKept) where
     parent_kept : (pairs : List (Ident × Node)) → ArePairsOf s rs pairs → (root : Ident) (node : Node) → Contains pairs (root, node) → Contains keep node.ident → Contains keep root
     parent_kept pairs are root node there kept =
         let pair = are.sound (root, node) there in

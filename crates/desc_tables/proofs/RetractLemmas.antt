@@ -27,22 +27,22 @@ use Rattle.run_journal.specs.Legal.{AreGood}
 use Rattle.owner_shelf.specs.Rows.{content_under}
 use Rattle.owner_shelf.proofs.NameLemmas.{eq_same}
 use Rattle.kind_store.specs.Changes.{is_name}
-use Rattle.desc_admits.specs.desc_stores.specs.declared.items.Item.{Item}
-use Rattle.desc_admits.specs.desc_stores.specs.declared.items.Item.TheVariants as item
-use Rattle.desc_admits.specs.desc_stores.specs.Changes.{HasNoContent}
-use Rattle.desc_admits.specs.desc_stores.specs.Contents.{content_of, names_of, resident_of, residents_of, Contents, IsShelved}
-use Rattle.desc_admits.specs.desc_stores.specs.Sound.{AreOwned, IsExactlyOne}
-use Rattle.desc_admits.specs.desc_stores.proofs.PutLemmas.{shelved_content}
-use Rattle.desc_admits.specs.shown_state.specs.Edits.{without_row}
-use Rattle.desc_admits.specs.shown_state.proofs.ContentLemmas.{named_by_page}
-use Rattle.desc_admits.specs.shown_state.proofs.DeclareLemmas.{retraction_shown}
-use Rattle.desc_admits.specs.shown_state.proofs.LookupLemmas.{one_row_a_page}
-use Rattle.desc_admits.specs.shown_state.proofs.OwnerLemmas.{owners_retracted, stays_owned}
-use Rattle.desc_admits.specs.store_residents.proofs.ContentLemmas.{shelved_iff}
-use Rattle.desc_admits.specs.store_residents.proofs.ResidentLemmas.{seat_resident}
-use Rattle.desc_admits.specs.store_residents.proofs.StayLemmas.{slots-retracting}
-use Rattle.desc_admits.specs.desc_parents.specs.Seen.{seen, HasPlainRows}
-use Rattle.desc_admits.specs.desc_groups.specs.declared.departures.Gone.{Gone}
+use Rattle.desc_groups.specs.desc_stores.specs.declared.items.Item.{Item}
+use Rattle.desc_groups.specs.desc_stores.specs.declared.items.Item.TheVariants as item
+use Rattle.desc_groups.specs.desc_stores.specs.Changes.{HasNoContent}
+use Rattle.desc_groups.specs.desc_stores.specs.Contents.{content_of, names_of, resident_of, residents_of, Contents, IsShelved}
+use Rattle.desc_groups.specs.desc_stores.specs.Sound.{AreOwned, IsExactlyOne}
+use Rattle.desc_groups.specs.desc_stores.proofs.PutLemmas.{shelved_content}
+use Rattle.desc_groups.specs.shown_state.specs.Edits.{without_row}
+use Rattle.desc_groups.specs.shown_state.proofs.ContentLemmas.{named_by_page}
+use Rattle.desc_groups.specs.shown_state.proofs.DeclareLemmas.{retraction_shown}
+use Rattle.desc_groups.specs.shown_state.proofs.LookupLemmas.{one_row_a_page}
+use Rattle.desc_groups.specs.shown_state.proofs.OwnerLemmas.{owners_retracted, stays_owned}
+use Rattle.desc_groups.specs.store_residents.proofs.ContentLemmas.{shelved_iff}
+use Rattle.desc_groups.specs.store_residents.proofs.ResidentLemmas.{seat_resident}
+use Rattle.desc_groups.specs.store_residents.proofs.StayLemmas.{slots-retracting}
+use Rattle.desc_groups.specs.desc_parents.specs.Seen.{seen, HasPlainRows}
+use Rattle.desc_groups.specs.declared.departures.Gone.{Gone}
 use Rattle.desc_tables.specs.Tables.{ArePlaced, AreSound}
 use Rattle.desc_tables.proofs.LikeLemmas.{fit_there, like_for, KeepsLoaded}
 use Rattle.desc_tables.proofs.ListLemmas.{filter-kept, find-kept}
@@ -125,7 +125,7 @@ module _ (old new : Contents) (space : SpaceNo) (vpn : Vpn) (shelved : IsShelved
       let none : content_of new n ≡ None = has n ∙ ap (λ (b : Bool). cond b None (content_of old n)) (eq_same (name.Mapping space vpn) n (sym is)) in
       absurd (let clash : IsSome {T = Item} None = subst (λ (o : Option Item). IsSome o) none some in cc)
 
-  module _ (caps : Caps) (gone : List Gone) (pairs : List (Ident × Node)) (sound : AreSound (record { caps = caps; contents = old; gone = gone }) pairs) (one : IsExactlyOne new) (residents : residents_of new ≡ residents_of old) (cells : new.rows.kept.cells ≡ old.rows.kept.cells) (owned : AreOwned (owner (seen old)) new) where
+  module _ (caps : Caps) (gone : List Gone) (left : List Name) (pairs : List (Ident × Node)) (sound : AreSound (record { caps = caps; contents = old; gone = gone; left = left }) pairs) (one : IsExactlyOne new) (residents : residents_of new ≡ residents_of old) (cells : new.rows.kept.cells ≡ old.rows.kept.cells) (owned : AreOwned (owner (seen old)) new) where
     abbrev after : FlatState
     after = without_row (seen old) space vpn
 
@@ -138,10 +138,10 @@ module _ (old new : Contents) (space : SpaceNo) (vpn : Vpn) (shelved : IsShelved
     single : HasOneRowAPage (seen old).rows
     single = one_row_a_page None [] old sound.whole.one
 
-    sound_without : AreSound (record { caps = caps; contents = new; gone = gone }) pairs
+    sound_without : AreSound (record { caps = caps; contents = new; gone = gone; left = left }) pairs
     sound_without =
         let keeps = keeps_left (seen old) (residents_of old) single space vpn absent sound.whole.good in
-        sound_like caps old new gone pairs sound one (slots-retracting old new only cells) residents
+        sound_like caps old new gone left pairs sound one (slots-retracting old new only cells) residents
         (subst HasPlainRows (sym shows) (plain_left (seen old) (residents_of old) single space vpn absent sound.whole.rows))
         (subst (λ (s : FlatState). IsLikeFor (seen old) s (residents_of old)) (sym shows) (like_for (seen old) after (residents_of old) sound.whole.good keeps))
         (stays_owned new (owner (seen old)) (owner (seen new)) (λ n kernel some at. subst (λ (s : FlatState). owner s n ≡ Some kernel) (sym shows) (owners_retracted (seen old) space vpn n kernel (gone_from_new n some) at)) owned)
@@ -150,9 +150,9 @@ module _ (old new : Contents) (space : SpaceNo) (vpn : Vpn) (shelved : IsShelved
         (λ n kernel at. sound.limited n kernel (kernel_kept n kernel at))
         (subst ArePlaced (sym shows) (placed_left (seen old) (residents_of old) single space vpn absent sound.placed))
 
-pub sound_retracted : (caps : Caps) (old new : Contents) (gone : List Gone) (pairs : List (Ident × Node)) → AreSound (record { caps = caps; contents = old; gone = gone }) pairs → IsExactlyOne new → (n : Name) → kind_of n ≡ kind.Mapping → IsShelved old n → HasNoContent old new n → names_of new kind.Mapping ≡ filter (λ other. not (is_name other n)) (names_of old kind.Mapping) → new ≡ record old { rows = new.rows }
-    → residents_of new ≡ residents_of old → new.rows.kept.cells ≡ old.rows.kept.cells → AreOwned (owner (seen old)) new → AreSound (record { caps = caps; contents = new; gone = gone }) pairs
-sound_retracted caps old new gone pairs sound one (name.Kernel number) of shelved has names only residents cells owned = absurd (cc)
-sound_retracted caps old new gone pairs sound one (name.Space number) of shelved has names only residents cells owned = absurd (cc)
-sound_retracted caps old new gone pairs sound one (name.Thread number) of shelved has names only residents cells owned = absurd (cc)
-sound_retracted caps old new gone pairs sound one (name.Mapping space vpn) of shelved has names only residents cells owned = sound_without old new space vpn shelved has names only caps gone pairs sound one residents cells owned
+pub sound_retracted : (caps : Caps) (old new : Contents) (gone : List Gone) (left : List Name) (pairs : List (Ident × Node)) → AreSound (record { caps = caps; contents = old; gone = gone; left = left }) pairs → IsExactlyOne new → (n : Name) → kind_of n ≡ kind.Mapping → IsShelved old n → HasNoContent old new n → names_of new kind.Mapping ≡ filter (λ other. not (is_name other n)) (names_of old kind.Mapping) → new ≡ record old { rows = new.rows }
+    → residents_of new ≡ residents_of old → new.rows.kept.cells ≡ old.rows.kept.cells → AreOwned (owner (seen old)) new → AreSound (record { caps = caps; contents = new; gone = gone; left = left }) pairs
+sound_retracted caps old new gone left pairs sound one (name.Kernel number) of shelved has names only residents cells owned = absurd (cc)
+sound_retracted caps old new gone left pairs sound one (name.Space number) of shelved has names only residents cells owned = absurd (cc)
+sound_retracted caps old new gone left pairs sound one (name.Thread number) of shelved has names only residents cells owned = absurd (cc)
+sound_retracted caps old new gone left pairs sound one (name.Mapping space vpn) of shelved has names only residents cells owned = sound_without old new space vpn shelved has names only caps gone left pairs sound one residents cells owned

@@ -33,29 +33,29 @@ use Rattle.flat_state.proofs.Places.{get-set_other, get-set_same, sum_by-set_sam
 use Rattle.flat_laws.proofs.Members.{Contains-behind, Contains-map}
 use Rattle.run_journal.specs.Legal.{locked_by, AreGood}
 use Rattle.run_journal.proofs.Others.{Contains-from_filter}
-use Rattle.desc_admits.specs.group_laws.proofs.Ranks.{own_row}
+use Rattle.desc_groups.specs.group_laws.proofs.Ranks.{own_row}
 use Rattle.kernel_cache.specs.Kernels as kernel_rec
 use Rattle.kind_store.specs.Kept as stored
 use Rattle.kind_store.specs.Changes.{is_name}
-use Rattle.desc_admits.specs.desc_stores.specs.declared.items.Item.{Item}
-use Rattle.desc_admits.specs.desc_stores.specs.declared.items.Item.TheVariants as item
-use Rattle.desc_admits.specs.desc_stores.specs.Changes.{HasContent}
-use Rattle.desc_admits.specs.desc_stores.specs.Contents.{content_of, residents_of, Contents}
-use Rattle.desc_admits.specs.desc_stores.specs.Items.{name_of}
-use Rattle.desc_admits.specs.desc_stores.specs.Sound.{AreOwned, IsExactlyOne}
+use Rattle.desc_groups.specs.desc_stores.specs.declared.items.Item.{Item}
+use Rattle.desc_groups.specs.desc_stores.specs.declared.items.Item.TheVariants as item
+use Rattle.desc_groups.specs.desc_stores.specs.Changes.{HasContent}
+use Rattle.desc_groups.specs.desc_stores.specs.Contents.{content_of, residents_of, Contents}
+use Rattle.desc_groups.specs.desc_stores.specs.Items.{name_of}
+use Rattle.desc_groups.specs.desc_stores.specs.Sound.{AreOwned, IsExactlyOne}
 use Rattle.owner_shelf.proofs.NameLemmas.{same_by_eq}
-use Rattle.desc_admits.specs.shown_state.specs.Shown.{flat_kernel, kernel_of, shown}
-use Rattle.desc_admits.specs.shown_state.specs.Edits.{with_changed}
-use Rattle.desc_admits.specs.shown_state.proofs.ChangeLemmas.{change_shown}
-use Rattle.desc_admits.specs.shown_state.proofs.ContentLemmas.{item_has_name, same_tests}
-use Rattle.desc_admits.specs.shown_state.proofs.LookupLemmas.{found_kernel, one_row_a_page}
-use Rattle.desc_admits.specs.shown_state.proofs.MoveLemmas.{names_in_kernels}
-use Rattle.desc_admits.specs.shown_state.proofs.OwnerLemmas.{owners_kernel, stays_owned}
-use Rattle.desc_admits.specs.store_residents.proofs.StayLemmas.{slots-is, slots-kernels}
-use Rattle.desc_admits.specs.desc_parents.specs.Seen.{seen, HasPlainRows}
-use Rattle.desc_admits.specs.desc_groups.specs.declared.departures.Gone.{Gone}
+use Rattle.desc_groups.specs.shown_state.specs.Shown.{flat_kernel, kernel_of, shown}
+use Rattle.desc_groups.specs.shown_state.specs.Edits.{with_changed}
+use Rattle.desc_groups.specs.shown_state.proofs.ChangeLemmas.{change_shown}
+use Rattle.desc_groups.specs.shown_state.proofs.ContentLemmas.{item_has_name, same_tests}
+use Rattle.desc_groups.specs.shown_state.proofs.LookupLemmas.{found_kernel, one_row_a_page}
+use Rattle.desc_groups.specs.shown_state.proofs.MoveLemmas.{names_in_kernels}
+use Rattle.desc_groups.specs.shown_state.proofs.OwnerLemmas.{owners_kernel, stays_owned}
+use Rattle.desc_groups.specs.store_residents.proofs.StayLemmas.{slots-is, slots-kernels}
+use Rattle.desc_groups.specs.desc_parents.specs.Seen.{seen, HasPlainRows}
+use Rattle.desc_groups.specs.declared.departures.Gone.{Gone}
 use Rattle.desc_tables.specs.Calls.{with_right, with_rights}
-use Rattle.desc_admits.specs.May.{wanted_of}
+use Rattle.desc_tables.specs.May.{wanted_of}
 use Rattle.desc_tables.specs.Tables.{ArePlaced, AreSound}
 use Rattle.desc_tables.proofs.LikeLemmas.{fit_there, like_for, KeepsLoaded}
 use Rattle.desc_tables.proofs.ListLemmas.{filter-agree}
@@ -165,7 +165,7 @@ module _ (old new : Contents) (one : IsExactlyOne old) (number : KernelNo) (grou
           (was, ap (content_of old) (sym (same_by_eq (name_of (item.Kernel granted)) n is)) ∙ found, ap (λ (k : KernelRec). k.no) one, ap (λ (k : KernelRec). k.locked) one, ap (λ (k : KernelRec). k.limits) one)
       by false is same = (kernel, same, refl, refl, refl)
 
-  module _ (caps : Caps) (gone : List Gone) (pairs : List (Ident × Node)) (sound : AreSound (record { caps = caps; contents = old; gone = gone }) pairs) (now_one : IsExactlyOne new) (residents : residents_of new ≡ residents_of old) (slots : length new.kernels.cells ≡ length old.kernels.cells) (owned : AreOwned (owner (seen old)) new) (good : AreGood (with_rights (seen old) number group right) (residents_of old)) where
+  module _ (caps : Caps) (gone : List Gone) (left : List Name) (pairs : List (Ident × Node)) (sound : AreSound (record { caps = caps; contents = old; gone = gone; left = left }) pairs) (now_one : IsExactlyOne new) (residents : residents_of new ≡ residents_of old) (slots : length new.kernels.cells ≡ length old.kernels.cells) (owned : AreOwned (owner (seen old)) new) (good : AreGood (with_rights (seen old) number group right) (residents_of old)) where
     abbrev after : FlatState
     after = with_changed (seen old) (item.Kernel granted)
 
@@ -188,7 +188,7 @@ module _ (old new : Contents) (one : IsExactlyOne old) (number : KernelNo) (grou
         let k = kernel_like n kernel at in
         ap (λ (l : Caps). amount_of l kind) (sym k.3) ∙ sound.whole.counted n k.0 k.1 kind ∙ ap (λ (no : KernelNo). locked_by (seen old) (residents_of old) no kind) k.2
 
-    pub sound_granted : AreSound (record { caps = caps; contents = new; gone = gone }) pairs
+    pub sound_granted : AreSound (record { caps = caps; contents = new; gone = gone; left = left }) pairs
     sound_granted =
         let shows : seen new ≡ after = shown_changed None [] in
         let like : IsLikeFor (seen old) after (residents_of old) =
@@ -196,7 +196,7 @@ module _ (old new : Contents) (one : IsExactlyOne old) (number : KernelNo) (grou
         (keeps_rights (seen old) (residents_of old) (one_row_a_page None [] old one) (slice_set (seen old).kernels was.no.0 (flat_kernel granted)) sound.whole.good good_after (still_there (seen old).kernels was.no.0 (flat_kernel was) (flat_kernel granted) here refl)) in
         let plain : HasPlainRows after = record { agreed = sound.whole.rows.agreed; framed = sound.whole.rows.framed; few = sound.whole.rows.few } in
         let placed : ArePlaced after = record { spaces = λ kernel at. subst (λ (n : ℕ). kernel.0 < n) (sym as_many) (sound.placed.spaces kernel at); rows = sound.placed.rows } in
-        sound_like caps old new gone pairs sound now_one
+        sound_like caps old new gone left pairs sound now_one
         (slots-is old (record old { kernels = new.kernels }) new only (slots-kernels old new.kernels old.kernel_count old.issued old.spare slots))
         residents
         (subst HasPlainRows (sym shows) plain)

@@ -1,6 +1,7 @@
 -- Room and identifiers that may be issued change nothing else.
 use Rattle.std.proofs.Common.{◌≡◌, ℕ, ◌+◌, ◌<◌, ◌≤◌, true, cond, List, [], Option, Some, None, IsSome, Contains, refl, ap, sym, ◌∙◌, subst, arith}
-use Rattle.std.specs.Prelude.{count_by}
+use Rattle.std.specs.Prelude.{◌-◌, count_by, min}
+use Rattle.std.proofs.Math.Nat.{le-min, min-le_left, min-le_right}
 use Rattle.cache_ident.specs.declared.idents.Ident.{Ident}
 use Rattle.cache_ident.specs.declared.idents.Kind.{Kind}
 use Rattle.cache_ident.specs.declared.idents.Kind.TheVariants as kind
@@ -19,20 +20,20 @@ use Rattle.flat_state.specs.State.{FlatState}
 use Rattle.flat_state.specs.Translation.{is_fit_row}
 use Rattle.kind_store.specs.Changes.{is_name}
 use Rattle.kind_store.specs.Kept as stored
-use Rattle.desc_admits.specs.desc_stores.specs.declared.items.Item.{Item}
-use Rattle.desc_admits.specs.desc_stores.specs.declared.items.Item.TheVariants as item
-use Rattle.desc_admits.specs.desc_stores.specs.Changes.{HasContent, IsNext, KeepsContents, OnlyMakesRoom}
-use Rattle.desc_admits.specs.desc_stores.specs.Contents.{content_of, resident_as, resident_in, residents_of, Contents}
-use Rattle.desc_admits.specs.desc_stores.specs.Items.{name_of}
-use Rattle.desc_admits.specs.desc_stores.specs.Sound.{AreOwned, IsExactlyOne}
-use Rattle.desc_admits.specs.shown_state.specs.Shown.{shown}
-use Rattle.desc_admits.specs.shown_state.proofs.AlikeLemmas.{shown_alike}
-use Rattle.desc_admits.specs.shown_state.proofs.ListLemmas.{filter_map-agree}
-use Rattle.desc_admits.specs.shown_state.proofs.MoveLemmas.{alike_room, alike_spare}
-use Rattle.desc_admits.specs.store_residents.proofs.StayLemmas.{slots-roomier, slots-reserving}
-use Rattle.desc_admits.specs.desc_parents.specs.Seen.{seen}
-use Rattle.desc_admits.specs.desc_groups.specs.declared.departures.Gone.{Gone}
-use Rattle.desc_admits.specs.May.{IsNewItem, MayBeDeclared, wanted_of}
+use Rattle.desc_groups.specs.desc_stores.specs.declared.items.Item.{Item}
+use Rattle.desc_groups.specs.desc_stores.specs.declared.items.Item.TheVariants as item
+use Rattle.desc_groups.specs.desc_stores.specs.Changes.{room_of, HasContent, IsDeclaring, IsNext, KeepsContents, OnlyMakesRoom}
+use Rattle.desc_groups.specs.desc_stores.specs.Contents.{content_of, resident_as, resident_in, residents_of, Contents}
+use Rattle.desc_groups.specs.desc_stores.specs.Items.{name_of}
+use Rattle.desc_groups.specs.desc_stores.specs.Sound.{AreOwned, IsExactlyOne}
+use Rattle.desc_groups.specs.shown_state.specs.Shown.{shown}
+use Rattle.desc_groups.specs.shown_state.proofs.AlikeLemmas.{shown_alike}
+use Rattle.desc_groups.specs.shown_state.proofs.ListLemmas.{filter_map-agree}
+use Rattle.desc_groups.specs.shown_state.proofs.MoveLemmas.{alike_room, alike_spare}
+use Rattle.desc_groups.specs.store_residents.proofs.StayLemmas.{slots-roomier, slots-reserving}
+use Rattle.desc_groups.specs.desc_parents.specs.Seen.{seen}
+use Rattle.desc_groups.specs.declared.departures.Gone.{Gone}
+use Rattle.desc_tables.specs.May.{IsNewItem, MayBeDeclared, wanted_of}
 use Rattle.desc_tables.specs.Tables.{AreSound}
 use Rattle.desc_tables.proofs.SoundLemmas.{sound_kept}
 
@@ -139,17 +140,17 @@ module _ (old new : Contents) where
   owned_spared : (owner_of : Name → Option KernelNo) → AreOwned owner_of old → AreOwned owner_of spared
   owned_spared owner_of owned = record { kernels = owned.kernels; spaces = owned.spaces; threads = owned.threads; rows = owned.rows }
 
-  module _ (caps : Caps) (gone : List Gone) (pairs : List (Ident × Node)) (sound : AreSound (record { caps = caps; contents = old; gone = gone }) pairs) (one : IsExactlyOne new) where
-    pub sound_room : OnlyMakesRoom old new → AreSound (record { caps = caps; contents = new; gone = gone }) pairs
+  module _ (caps : Caps) (gone : List Gone) (left : List Name) (pairs : List (Ident × Node)) (sound : AreSound (record { caps = caps; contents = old; gone = gone; left = left }) pairs) (one : IsExactlyOne new) where
+    pub sound_room : OnlyMakesRoom old new → AreSound (record { caps = caps; contents = new; gone = gone; left = left }) pairs
     sound_room more =
-        sound_kept caps old new gone pairs sound one (slots-roomier old new more) (residents_room more)
+        sound_kept caps old new gone left pairs sound one (slots-roomier old new more) (residents_room more)
         (shown_alike None [] old new (alike_room old new more))
         (subst (KeepsContents old) (sym more.is) keeps_roomy)
         (subst (AreOwned (owner (seen old))) (sym more.is) (owned_roomy (owner (seen old)) sound.whole.owned))
 
-    pub sound_spare : new ≡ record old { spare = new.spare } → AreSound (record { caps = caps; contents = new; gone = gone }) pairs
+    pub sound_spare : new ≡ record old { spare = new.spare } → AreSound (record { caps = caps; contents = new; gone = gone; left = left }) pairs
     sound_spare is =
-        sound_kept caps old new gone pairs sound one (slots-reserving old new is) (ap residents_of is ∙ resident_spared)
+        sound_kept caps old new gone left pairs sound one (slots-reserving old new is) (ap residents_of is ∙ resident_spared)
         (shown_alike None [] old new (alike_spare old new is))
         (subst (KeepsContents old) (sym is) keeps_spared)
         (subst (AreOwned (owner (seen old))) (sym is) (owned_spared (owner (seen old)) sound.whole.owned))
@@ -161,3 +162,34 @@ no_room c = record { is = refl; kernels = omega arith; spaces = omega arith; thr
 -- a content that came once there was room came to what there was
 pub onward_from_room : (old mid new : Contents) (it : Item) → OnlyMakesRoom old mid → HasContent mid new it → HasContent old new it
 onward_from_room old mid new it more has n = has n ∙ ap (cond (is_name (name_of it) n) (Some it)) (keeps_room old mid more n)
+
+-- the least of four falls by one at most where none of them falls by more
+least_falls : (a b c d e f g h : ℕ) → a ≤ e + 1 → b ≤ f + 1 → c ≤ g + 1 → d ≤ h + 1 → min (min a b) (min c d) ≤ min (min e f) (min g h) + 1
+least_falls a b c d e f g h first second third fourth =
+    let left = min-le_left (min a b) (min c d) in
+    let right = min-le_right (min a b) (min c d) in
+    let at_e : min (min a b) (min c d) - 1 ≤ e = omega (arith, left, min-le_left a b, first) in
+    let at_f : min (min a b) (min c d) - 1 ≤ f = omega (arith, left, min-le_right a b, second) in
+    let at_g : min (min a b) (min c d) - 1 ≤ g = omega (arith, right, min-le_left c d, third) in
+    let at_h : min (min a b) (min c d) - 1 ≤ h = omega (arith, right, min-le_right c d, fourth) in
+    omega (arith, le-min (le-min at_e at_f) (le-min at_g at_h))
+
+-- a descriptor that comes takes the room of one at most
+pub room_put : (old new : Contents) (owner : KernelNo) (it : Item) → IsDeclaring old new owner it → room_of old ≤ room_of new + 1
+room_put old new owner (item.Kernel kernel) is =
+    subst (λ (c : Contents). room_of old ≤ room_of c + 1) (sym is.2) (least_falls old.kernels.room old.spaces.room old.threads.room old.rows.room new.kernels.room old.spaces.room old.threads.room old.rows.room (omega (arith, is.1)) (omega arith) (omega arith) (omega arith))
+room_put old new owner (item.Space space) is =
+    subst (λ (c : Contents). room_of old ≤ room_of c + 1) (sym is.2) (least_falls old.kernels.room old.spaces.room old.threads.room old.rows.room old.kernels.room new.spaces.room old.threads.room old.rows.room (omega arith) (omega (arith, is.1)) (omega arith) (omega arith))
+room_put old new owner (item.Thread thread) is =
+    subst (λ (c : Contents). room_of old ≤ room_of c + 1) (sym is.2) (least_falls old.kernels.room old.spaces.room old.threads.room old.rows.room old.kernels.room old.spaces.room new.threads.room old.rows.room (omega arith) (omega arith) (omega (arith, is.1)) (omega arith))
+room_put old new owner (item.Mapping row) is =
+    subst (λ (c : Contents). room_of old ≤ room_of c + 1) (sym is.3) (least_falls old.kernels.room old.spaces.room old.threads.room old.rows.room old.kernels.room old.spaces.room old.threads.room new.rows.room (omega arith) (omega arith) (omega arith) (omega (arith, is.1)))
+
+-- where room is made none falls
+pub room_grows : (old new : Contents) → OnlyMakesRoom old new → room_of old ≤ room_of new
+room_grows old new more =
+    let left = min-le_left (min old.kernels.room old.spaces.room) (min old.threads.room old.rows.room) in
+    let right = min-le_right (min old.kernels.room old.spaces.room) (min old.threads.room old.rows.room) in
+    le-min
+    (le-min (omega (arith, left, min-le_left old.kernels.room old.spaces.room, more.kernels)) (omega (arith, left, min-le_right old.kernels.room old.spaces.room, more.spaces)))
+    (le-min (omega (arith, right, min-le_left old.threads.room old.rows.room, more.threads)) (omega (arith, right, min-le_right old.threads.room old.rows.room, more.rows)))

@@ -15,16 +15,16 @@ use Rattle.flat_state.specs.Names.{class_of}
 use Rattle.run_journal.specs.Groups.{node_of, ArePairsOf}
 use Rattle.run_journal.specs.Legal.{locked_by, AreGood}
 use Rattle.kernel_cache.specs.declared.KernelRec.{KernelRec}
-use Rattle.desc_admits.specs.desc_stores.specs.declared.items.Item.TheVariants as item
-use Rattle.desc_admits.specs.desc_stores.specs.Changes.{KeepsContents}
-use Rattle.desc_admits.specs.desc_stores.specs.Contents.{content_of, residents_of, Contents}
-use Rattle.desc_admits.specs.desc_stores.specs.Sound.{AreOwned, IsExactlyOne}
-use Rattle.desc_admits.specs.store_residents.specs.Slots.{KeepsSlots}
-use Rattle.desc_admits.specs.store_residents.proofs.StayLemmas.{slots-kept}
-use Rattle.desc_admits.specs.group_laws.proofs.LockCounts.{locks_same}
-use Rattle.desc_admits.specs.desc_parents.specs.Seen.{seen, HasPlainRows}
-use Rattle.desc_admits.specs.desc_groups.specs.declared.departures.Gone.{Gone}
-use Rattle.desc_admits.specs.May.{wanted_of}
+use Rattle.desc_groups.specs.desc_stores.specs.declared.items.Item.TheVariants as item
+use Rattle.desc_groups.specs.desc_stores.specs.Changes.{KeepsContents}
+use Rattle.desc_groups.specs.desc_stores.specs.Contents.{content_of, residents_of, Contents}
+use Rattle.desc_groups.specs.desc_stores.specs.Sound.{AreOwned, IsExactlyOne}
+use Rattle.desc_groups.specs.store_residents.specs.Slots.{KeepsSlots}
+use Rattle.desc_groups.specs.store_residents.proofs.StayLemmas.{slots-kept}
+use Rattle.desc_groups.specs.group_laws.proofs.LockCounts.{locks_same}
+use Rattle.desc_groups.specs.desc_parents.specs.Seen.{seen, HasPlainRows}
+use Rattle.desc_groups.specs.declared.departures.Gone.{Gone}
+use Rattle.desc_tables.specs.May.{wanted_of}
 use Rattle.desc_tables.specs.Tables.{ArePlaced, AreSound, IsLimited, LeavesRoom}
 
 -- beside all that the kernels of a state may lock, each cache has room for what is wanted
@@ -67,10 +67,10 @@ module _ (s t : FlatState) (rs : List Resident) (like : IsLikeFor s t rs) where
   pub counts_stay : (c : Contents) → AreCounted s rs c → AreCounted t rs c
   counts_stay c counted n kernel there kind = counted n kernel there kind ∙ locks_same s t rs kernel.no kind (λ r r_there. sym (like.owners r r_there))
 
-module _ (caps : Caps) (old new : Contents) (gone : List Gone) (pairs : List (Ident × Node)) (sound : AreSound (record { caps = caps; contents = old; gone = gone }) pairs) (one : IsExactlyOne new) (slots : KeepsSlots old new) (residents : residents_of new ≡ residents_of old) where
+module _ (caps : Caps) (old new : Contents) (gone : List Gone) (left : List Name) (pairs : List (Ident × Node)) (sound : AreSound (record { caps = caps; contents = old; gone = gone; left = left }) pairs) (one : IsExactlyOne new) (slots : KeepsSlots old new) (residents : residents_of new ≡ residents_of old) where
   -- where what is seen changed, but not for what is loaded
   pub sound_like : HasPlainRows (seen new) → IsLikeFor (seen old) (seen new) (residents_of old) → AreOwned (owner (seen new)) new → AreCounted (seen old) (residents_of old) new
-      → LeavesRoom caps new → IsLimited new → ArePlaced (seen new) → AreSound (record { caps = caps; contents = new; gone = gone }) pairs
+      → LeavesRoom caps new → IsLimited new → ArePlaced (seen new) → AreSound (record { caps = caps; contents = new; gone = gone; left = left }) pairs
   sound_like rows like owned counted room limited placed = record {
     whole = record {
       one = one;
@@ -87,7 +87,7 @@ module _ (caps : Caps) (old new : Contents) (gone : List Gone) (pairs : List (Id
   }
 
   -- where no content changed, and what is seen is the same
-  pub sound_kept : seen new ≡ seen old → KeepsContents old new → AreOwned (owner (seen old)) new → AreSound (record { caps = caps; contents = new; gone = gone }) pairs
+  pub sound_kept : seen new ≡ seen old → KeepsContents old new → AreOwned (owner (seen old)) new → AreSound (record { caps = caps; contents = new; gone = gone; left = left }) pairs
   sound_kept same keeps owned =
       let like : IsLikeFor (seen old) (seen new) (residents_of old) = record {
         depends = λ r there. ap (λ (s : FlatState). parents s r.name) same;

@@ -16,21 +16,20 @@ use Rattle.flat_state.specs.Names.{is_fit_name, stands}
 use Rattle.flat_laws.proofs.ParentLaws.{there_is}
 use Rattle.run_journal.specs.Groups.{HasParents, IsGroup}
 use Rattle.run_journal.specs.Legal.{count_of, is_kind}
-use Rattle.desc_admits.specs.desc_stores.specs.Contents.{content_of, residents_of, Contents, IsFullOf, IsLowestFreeOf, NoneMayGoOf}
-use Rattle.desc_admits.specs.shown_state.proofs.LookupLemmas.{name_stands}
-use Rattle.desc_admits.specs.store_residents.specs.Slots.{resident_at}
-use Rattle.desc_admits.specs.store_residents.specs.Victims.{IsOldest}
-use Rattle.desc_admits.specs.store_residents.proofs.ContentLemmas.{shelved_iff}
-use Rattle.desc_admits.specs.store_residents.proofs.SlotLaws.{few, full_at, full_iff, lowest_at, what_is_there}
-use Rattle.desc_admits.specs.store_residents.proofs.SlotLemmas.{is_kind-refl, kind_is}
-use Rattle.desc_admits.specs.store_residents.proofs.VictimLemmas.{locked_or_kept}
-use Rattle.desc_admits.specs.group_laws.specs.Leaving.{without_all}
-use Rattle.desc_admits.specs.group_laws.proofs.Remaining.{without_all_cases}
-use Rattle.desc_admits.specs.desc_parents.specs.Seen.{seen}
-use Rattle.desc_admits.specs.desc_groups.specs.Moves.{but_for_counts, departed_all, KeepsButCounts}
-use Rattle.desc_admits.specs.desc_groups.specs.Whole.{AreWhole}
-use Rattle.desc_admits.specs.May.{MayBeLoaded}
-use Rattle.desc_tables.specs.Calls.{IsReady}
+use Rattle.desc_groups.specs.desc_stores.specs.Contents.{content_of, residents_of, Contents, IsFullOf, IsLowestFreeOf, NoneMayGoOf}
+use Rattle.desc_groups.specs.shown_state.proofs.LookupLemmas.{name_stands}
+use Rattle.desc_groups.specs.store_residents.specs.Slots.{resident_at}
+use Rattle.desc_groups.specs.store_residents.specs.Victims.{IsOldest}
+use Rattle.desc_groups.specs.store_residents.proofs.ContentLemmas.{shelved_iff}
+use Rattle.desc_groups.specs.store_residents.proofs.SlotLaws.{few, full_at, full_iff, lowest_at, what_is_there}
+use Rattle.desc_groups.specs.store_residents.proofs.SlotLemmas.{is_kind-refl, kind_is}
+use Rattle.desc_groups.specs.store_residents.proofs.VictimLemmas.{locked_or_kept}
+use Rattle.desc_groups.specs.group_laws.specs.Leaving.{without_all}
+use Rattle.desc_groups.specs.group_laws.proofs.Remaining.{without_all_cases}
+use Rattle.desc_groups.specs.desc_parents.specs.Seen.{seen}
+use Rattle.desc_groups.specs.Moves.{but_for_counts, departed_all, KeepsButCounts, MayEnter}
+use Rattle.desc_groups.specs.Whole.{AreWhole}
+use Rattle.desc_tables.specs.May.{MayBeLoaded}
 use Rattle.desc_tables.specs.Tables.{AreSound, Held}
 use Rattle.desc_tables.proofs.Counts.{count_left_one}
 use Rattle.desc_tables.proofs.Granted.{all_locked_or_kept, kept_within, locked_within}
@@ -76,7 +75,7 @@ module _ (old : Held) (pairs : List (Ident × Node)) (sound : AreSound old pairs
       omega arith
 
   -- once the victim has left with its group the name can come
-  pub ready_behind : (new : Held) (after : List (Ident × Node)) (victim : Resident) (idents : List Ident) → IsOldest rs (kind_of loading) keep victim → IsGroup s rs victim idents → AreWhole new.caps new.contents after → new.caps ≡ old.caps → residents_of new.contents ≡ without_all idents rs → KeepsButCounts old.contents new.contents → IsReady new.contents loading
+  pub ready_behind : (new : Held) (after : List (Ident × Node)) (victim : Resident) (idents : List Ident) → IsOldest rs (kind_of loading) keep victim → IsGroup s rs victim idents → AreWhole new.caps new.contents after → new.caps ≡ old.caps → residents_of new.contents ≡ without_all idents rs → KeepsButCounts old.contents new.contents → MayEnter new.contents loading
   ready_behind new after victim idents oldest group whole caps left kept = record {
     shelved = (shelved_iff new.contents whole.one loading).1 (
       some_by_map but_for_counts (content_of old.contents loading) (content_of new.contents loading) (kept.contents loading) on_shelf.0,
@@ -101,7 +100,7 @@ module _ (old : Held) (pairs : List (Ident × Node)) (sound : AreSound old pairs
   }
 
   -- where a slot is free it can come at once
-  pub ready_now : (IsFullOf old.contents (kind_of loading) → ⊥) → IsReady old.contents loading
+  pub ready_now : (IsFullOf old.contents (kind_of loading) → ⊥) → MayEnter old.contents loading
   ready_now place = record { shelved = may.shelved; place = place; fit = may.fit; has = may.kept.has }
 
 -- a kind with a free slot isn't full

@@ -1,5 +1,5 @@
 -- When a call may be made, and what it leaves.
-use Rattle.std.specs.Prelude.{◌≡◌, ℕ, true, Bool, List, slice_set, Option, Some, IsSome}
+use Rattle.std.specs.Prelude.{◌≡◌, ℕ, Bool, List, slice_set, Option, Some, IsSome}
 use Rattle.cache_ident.specs.declared.idents.Ident.{Ident}
 use Rattle.cache_ident.specs.declared.names.KernelNo.{KernelNo}
 use Rattle.cache_ident.specs.declared.names.Name.{Name}
@@ -11,20 +11,18 @@ use Rattle.flat_state.specs.declared.events.Decl.TheVariants as decls
 use Rattle.flat_state.specs.declared.events.Machine.{Machine}
 use Rattle.flat_state.specs.Declaration.{declared}
 use Rattle.flat_state.specs.Dependence.{owner}
-use Rattle.flat_state.specs.Names.{is_fit_name}
 use Rattle.flat_state.specs.State.{FlatState}
-use Rattle.run_journal.specs.Groups.{HasParents}
 use Rattle.kernel_cache.specs.declared.KernelRec.{KernelRec}
-use Rattle.desc_admits.specs.desc_stores.specs.declared.items.Item.{Item}
-use Rattle.desc_admits.specs.desc_stores.specs.declared.items.Item.TheVariants as item
-use Rattle.desc_admits.specs.desc_stores.specs.Changes.{with_named, HasContent}
-use Rattle.desc_admits.specs.desc_stores.specs.Contents.{content_of, residents_of, IsFullOf, IsShelved, Contents}
-use Rattle.desc_admits.specs.desc_stores.specs.Items.{name_of}
-use Rattle.desc_admits.specs.shown_state.specs.Shown.{shown}
-use Rattle.desc_admits.specs.shown_state.specs.Edits.{with_changed}
-use Rattle.desc_admits.specs.store_residents.specs.Victims.{IsOldest}
-use Rattle.desc_admits.specs.desc_parents.specs.Seen.{seen}
-use Rattle.desc_admits.specs.desc_groups.specs.Moves.{HasPlaces}
+use Rattle.desc_groups.specs.desc_stores.specs.declared.items.Item.{Item}
+use Rattle.desc_groups.specs.desc_stores.specs.declared.items.Item.TheVariants as item
+use Rattle.desc_groups.specs.desc_stores.specs.Changes.{with_named, HasContent}
+use Rattle.desc_groups.specs.desc_stores.specs.Contents.{content_of, residents_of, IsFullOf, Contents}
+use Rattle.desc_groups.specs.desc_stores.specs.Items.{name_of}
+use Rattle.desc_groups.specs.shown_state.specs.Shown.{shown}
+use Rattle.desc_groups.specs.shown_state.specs.Edits.{with_changed}
+use Rattle.desc_groups.specs.store_residents.specs.Victims.{IsOldest}
+use Rattle.desc_groups.specs.desc_parents.specs.Seen.{seen}
+use Rattle.desc_groups.specs.Moves.{HasPlaces}
 
 -- ---- what is loaded
 
@@ -75,10 +73,3 @@ OwnsNew c (item.Mapping row) who = owner (seen c) (name.Space row.space) ≡ Som
 -- the state, with other rights of a kernel on a group
 abbrev pub with_rights : FlatState → KernelNo → ℕ → Bool × Bool → FlatState
 with_rights s kernel group bits = declared s (decls.Right kernel group bits.0 bits.1)
-
--- A name can come at once: it stands on the shelf, a slot of its kind is free, it is fit, and what it depends on is loaded.
-pub record IsReady (c : Contents) (loading : Name) : Type 0 where
-  pub shelved : IsShelved c loading
-  pub place : IsFullOf c (kind_of loading) → ⊥
-  pub fit : is_fit_name (seen c) loading ≡ true
-  pub has : HasParents (seen c) (residents_of c) loading

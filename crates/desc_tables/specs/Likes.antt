@@ -1,9 +1,9 @@
 -- Which thread a content is.
 use Rattle.std.specs.Prelude.{◌≡◌, ℕ, Some}
 use Rattle.cache_ident.specs.declared.idents.Ident.{Ident}
-use Rattle.desc_admits.specs.desc_stores.specs.declared.items.Item.{Item}
-use Rattle.desc_admits.specs.desc_stores.specs.declared.items.Item.TheVariants as item
-use Rattle.desc_admits.specs.desc_stores.specs.Contents.{item_as, Contents}
+use Rattle.desc_groups.specs.desc_stores.specs.declared.items.Item.{Item}
+use Rattle.desc_groups.specs.desc_stores.specs.declared.items.Item.TheVariants as item
+use Rattle.desc_groups.specs.desc_stores.specs.Contents.{item_as, Contents}
 
 -- a thread of that number, of a space of that number
 abbrev pub IsThreadOf : Item → ℕ → ℕ → Type 0

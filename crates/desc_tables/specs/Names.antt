@@ -3,7 +3,7 @@ use Rattle.std.specs.Prelude.{ℕ, ◌-◌, List, map}
 use Rattle.std.specs.List.{range_with_len}
 use Rattle.std.specs.declared.ops.Range.{Range}
 use Rattle.cache_ident.specs.declared.names.Name.{Name}
-use Rattle.desc_admits.specs.desc_stores.specs.Sound.{kernel_named, space_named, thread_named}
+use Rattle.desc_groups.specs.desc_stores.specs.Sound.{kernel_named, space_named, thread_named}
 use Rattle.desc_tables.specs.declared.names.Left.{Left}
 use Rattle.desc_tables.specs.declared.names.Left.TheVariants as left
 

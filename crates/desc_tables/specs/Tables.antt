@@ -11,18 +11,20 @@ use Rattle.phys_groups.specs.declared.rows.Row.{Row}
 use Rattle.flat_state.specs.Declaration.{locks_granted}
 use Rattle.flat_state.specs.State.{FlatState}
 use Rattle.kernel_cache.specs.declared.KernelRec.{KernelRec}
-use Rattle.desc_admits.specs.desc_stores.specs.declared.items.Item.TheVariants as item
-use Rattle.desc_admits.specs.desc_stores.specs.Contents.{content_of, Contents}
-use Rattle.desc_admits.specs.desc_parents.specs.Seen.{seen}
-use Rattle.desc_admits.specs.desc_groups.specs.declared.departures.Gone.{Gone}
-use Rattle.desc_admits.specs.desc_groups.specs.Whole.{AreWhole}
-use Rattle.desc_admits.specs.May.{wanted_of}
+use Rattle.desc_groups.specs.desc_stores.specs.declared.items.Item.TheVariants as item
+use Rattle.desc_groups.specs.desc_stores.specs.Contents.{content_of, Contents}
+use Rattle.desc_groups.specs.desc_parents.specs.Seen.{seen}
+use Rattle.desc_groups.specs.declared.departures.Gone.{Gone}
+use Rattle.desc_groups.specs.Whole.{AreWhole}
+use Rattle.desc_tables.specs.May.{wanted_of}
 
--- the capacities, where each descriptor stands and with which content, and what left at the last load or unload
+-- the capacities, where each descriptor stands and with which content, and what left at the last load or unload, with the name
+-- of each
 pub record Held : Type 0 where
   pub caps : Caps
   pub contents : Contents
   pub gone : List Gone
+  pub left : List Name
 
 -- beside all that kernels may lock, each cache has room for what is wanted
 abbrev pub LeavesRoom : Caps → Contents → Type 0

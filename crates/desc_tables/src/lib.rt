@@ -6,7 +6,6 @@
 mod names;
 mod tables;
 
-pub use desc_admits::groups::Gone;
-pub use desc_admits::{Item, ItemRef, Parents, Stores, is_fit, kernel_of, parents_of};
+pub use desc_groups::{FoundItem, Gone, Item, ItemRef, Parents};
 pub use names::Names;
 pub use tables::Tables;

@@ -4,7 +4,7 @@ ghost use Rattle.std.specs.Prelude.{◌≡◌, length, map, Some, IfSome};
 ghost use Rattle.std.specs.List.{range_with_len};
 ghost use Rattle.std.specs.Iterator.{UpTo, YieldsFirst, item_count};
 ghost use Rattle.std.specs.Iterator.SizeHint.{IsWithinCount};
-ghost use Rattle.desc_admits.specs.desc_stores.specs.Sound.{kernel_named, space_named, thread_named};
+ghost use Rattle.desc_groups.specs.desc_stores.specs.Sound.{kernel_named, space_named, thread_named};
 ghost use Rattle.desc_tables.specs.Names.{kernels_left, spaces_left, threads_left};
 
 use cache_ident::{KernelNo, Name, SpaceNo, ThreadNo};

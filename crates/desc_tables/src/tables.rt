@@ -25,33 +25,34 @@ ghost use Rattle.phys_groups.specs.declared.rows.Row.{Row};
 ghost use Rattle.slot_cache.specs.Cells.{loaded_in, HasExactlyLoaded, IsInOrderOfSlot};
 ghost use Rattle.thread_cache.specs.declared.ThreadRec.{ThreadRec};
 ghost use Rattle.kernel_cache.specs.declared.KernelRec.{KernelRec};
-ghost use Rattle.desc_admits.specs.desc_stores.specs.Items as items;
-ghost use Rattle.desc_admits.specs.desc_stores.specs.Contents.{content_of, residents_of, item_as, names_of, IsShelved, IsFullOf, LockIs};
-ghost use Rattle.desc_admits.specs.desc_stores.specs.Items as items;
-ghost use Rattle.desc_admits.specs.desc_stores.specs.Changes.{HasContent, HasNoContent, room_of, OnlyMakesRoom, IsNothing, with_item};
-ghost use Rattle.desc_admits.specs.desc_stores.specs.Sound.{AreOwned, IsExactlyOne};
-ghost use Rattle.desc_admits.specs.shown_state.specs.Shown.{shown};
-ghost use Rattle.desc_admits.specs.shown_state.specs.Edits.{with_new, with_changed};
-ghost use Rattle.desc_admits.specs.store_residents.specs.Frames.{IsResidentOn};
-ghost use Rattle.desc_admits.specs.store_residents.specs.Victims.{IsOldest};
-ghost use Rattle.desc_admits.specs.group_laws.specs.Leaving.{without_all};
-ghost use Rattle.desc_admits.specs.desc_parents.specs.Seen.{seen};
-ghost use Rattle.desc_admits.specs.resident_pairs.specs.Among.{AreParents};
-ghost use Rattle.desc_admits.specs.desc_groups.specs.Moves.{HasPlaces, but_for_counts, KeepsButCounts, MayBeLocked, gone_as, departed_all, idents_of};
-ghost use Rattle.desc_admits.specs.May.{MayBeDeclared, MayBeLoaded};
-ghost use Rattle.desc_tables.specs.Calls.{HasPlacesFor, IsReady, IsLike, IsUpdated, with_right, with_rights, IsOfWhatStands, OwnsNew};
+ghost use Rattle.desc_groups.specs.desc_stores.specs.Contents.{content_of, residents_of, item_as, names_of, IsShelved, IsFullOf, LockIs};
+ghost use Rattle.desc_groups.specs.desc_stores.specs.Items as items;
+ghost use Rattle.desc_groups.specs.desc_stores.specs.Changes.{HasContent, HasNoContent, room_of, OnlyMakesRoom, IsNothing, with_item};
+ghost use Rattle.desc_groups.specs.desc_stores.specs.Sound.{AreOwned};
+ghost use Rattle.desc_groups.specs.shown_state.specs.Shown.{shown};
+ghost use Rattle.desc_groups.specs.shown_state.specs.Edits.{with_new, with_changed};
+ghost use Rattle.desc_groups.specs.store_residents.specs.Frames.{IsResidentOn};
+ghost use Rattle.desc_groups.specs.store_residents.specs.Victims.{IsOldest};
+ghost use Rattle.desc_groups.specs.group_laws.specs.Leaving.{without_all};
+ghost use Rattle.desc_groups.specs.desc_parents.specs.Seen.{seen};
+ghost use Rattle.desc_groups.specs.resident_pairs.specs.Among.{AreParents};
+ghost use Rattle.desc_groups.specs.Moves.{AreNamed, HasPlaces, but_for_counts, KeepsButCounts, MayBeLocked, MayEnter, gone_as, departed_all, idents_of};
+ghost use Rattle.desc_tables.specs.May.{MayBeDeclared, MayBeLoaded};
+ghost use Rattle.desc_tables.specs.Calls.{HasPlacesFor, IsLike, IsUpdated, with_right, with_rights, IsOfWhatStands, OwnsNew};
 ghost use Rattle.row_store.specs.Kept.{signal_names};
 ghost use Rattle.kind_store.specs.Changes.{is_name};
 
 use crate::names::Names;
 use cache_ident::{Caps, Cause, Frame, Ident, KernelNo, Kind, Name, NoMemory, SpaceNo, Standing};
 use depend_lists::most_loaded;
-use desc_admits::groups::{Gone, enter, leave, lock, unlock};
-use desc_admits::{Item, ItemRef, Parents, ResidentPairs, Stores, kernel_of, parents_of};
+use desc_groups::{
+    FoundItem, Gone, Item, ItemRef, Parents, ResidentPairs, Stores, enter, kernel_of, leave, lock,
+    parents_of, unlock,
+};
 use growing_list::Values;
 use kernel_cache::KernelRec;
 use phys_groups::Row;
-use row_store::SignalRows;
+use row_store::{RowsOf, SignalRows};
 use slot_cache::Iter;
 use sorted_list::Run;
 use std::alloc::Global;
@@ -72,8 +73,9 @@ pub struct Tables {
     caps: Caps,
     stores: Stores,
     pairs: ResidentPairs,
-    // There is room for all that the capacities allow.
+    // In both there is room for all that the capacities allow.
     gone: Vec<Gone>,
+    left: Vec<Name>,
 }
 
 impl Model for Tables {
@@ -83,9 +85,9 @@ impl Model for Tables {
 
     ghost Value = { Held };
 
-    ghost view = { λ t. record { caps = t.pairs.caps; contents = t.stores; gone = t.gone.items } };
+    ghost view = { λ t. record { caps = t.pairs.caps; contents = t.stores; gone = t.gone.items; left = t.left.items } };
 
-    ghost invariant = { λ t. AreSound (record { caps = t.pairs.caps; contents = t.stores; gone = t.gone.items }) t.pairs.pairs × (count_of t.pairs.caps ≤ vec_capacity t.gone) × (t.caps ≡ t.pairs.caps) };
+    ghost invariant = { λ t. AreSound (record { caps = t.pairs.caps; contents = t.stores; gone = t.gone.items; left = t.left.items }) t.pairs.pairs × (count_of t.pairs.caps ≤ vec_capacity t.gone) × (count_of t.pairs.caps ≤ vec_capacity t.left) × (t.caps ≡ t.pairs.caps) };
 }
 
 impl Tables {
@@ -94,16 +96,19 @@ impl Tables {
         ensures caps { IfOk result (λ tables. tables.caps ≡ caps) }
         ensures nothing { IfOk result (λ tables. IsNothing caps tables.contents) }
         ensures gone { IfOk result (λ tables. tables.gone ≡ []) }
+        ensures left { IfOk result (λ tables. tables.left ≡ []) }
     {
-        let gone = room_for_gone(alloc, caps)?;
+        let gone = room_for_all(alloc, caps)?;
+        let left = room_for_all(alloc, caps)?;
         let pairs = ResidentPairs::new(alloc, caps)?;
         let stores = Stores::new(alloc, caps)?;
-        each_is_one(&stores);
+        stores.each_is_one();
         Ok(Tables {
             caps,
             stores,
             pairs,
             gone,
+            left,
         })
     }
 
@@ -120,20 +125,27 @@ impl Tables {
             return Ok(());
         }
         let made = self.stores.make_room();
-        each_is_one(&self.stores);
+        self.stores.each_is_one();
         made
     }
 
     /// How many more descriptors can be declared without memory, whatever their kinds. Constant time.
     pub fn room(&self) -> usize
-        ensures room { result ≡ room_of self.now.contents }
-        ensures sound { (pairs : List (Ident × Node)) × AreSound self.now pairs }
-        ensures places { (root : Ident) (at : ℕ) → at + count_of self.now.caps ≤ 2 ^ 64 → HasPlaces self.now.contents root at }
+        ensures { result ≡ room_of self.now.contents }
     {
         self.stores.room()
     }
 
-    /// Puts a new descriptor on its owner's shelf, after `make_room`.
+    /// What holds of the tables whenever a caller sees them: for some pairs of what depends on what they are sound, and there
+    /// are places in the journal for each group that can leave. It does nothing.
+    pub fn are_sound(&self)
+        ensures sound { (pairs : List (Ident × Node)) × AreSound self.now pairs }
+        ensures places { (root : Ident) (at : ℕ) → at + count_of self.now.caps ≤ 2 ^ 64 → HasPlaces self.now.contents root at }
+    {
+        let _ = &self.pairs;
+    }
+
+    /// Puts a new descriptor on its owner's shelf, after `make_room`. It takes the room of one.
     pub fn declare(&mut self, item: Item) -> Result<(), NoMemory>
         requires { MayBeDeclared self.old.caps self.old.contents item }
         ensures rest { self.new ≡ record self.old { contents = self.new.contents } }
@@ -143,6 +155,7 @@ impl Tables {
         ensures spare { self.new.contents.spare ≡ self.old.contents.spare }
         ensures shows { OnOk result ((machine : Option Machine) (memory : List ℕ) → shown machine memory self.new.contents ≡ with_new (shown machine memory self.old.contents) item) }
         ensures enough { 0 < room_of self.old.contents → IsOk result }
+        ensures room { room_of self.old.contents ≤ room_of self.new.contents + 1 }
         ensures err { OnErr result (OnlyMakesRoom self.old.contents self.new.contents) }
     {
         self.make_room()?;
@@ -159,11 +172,12 @@ impl Tables {
         ensures residents { residents_of self.new.contents ≡ residents_of self.old.contents }
         ensures issued { self.new.contents.issued ≡ self.old.contents.issued }
         ensures spare { self.new.contents.spare ≡ self.old.contents.spare }
+        ensures room { room_of self.old.contents ≤ room_of self.new.contents + 1 }
         ensures shows { (machine : Option Machine) (memory : List ℕ) → shown machine memory self.new.contents ≡ with_new (shown machine memory self.old.contents) item }
     {
         let owner = owner_of_new(&self.stores, &item);
         self.stores.declare(owner, item);
-        each_is_one(&self.stores);
+        self.stores.each_is_one();
     }
 
     /// Makes `spare` at least `n`. Where memory is wanted nothing changes.
@@ -175,7 +189,7 @@ impl Tables {
         ensures err { OnErr result (self.new ≡ self.old) }
     {
         let reserved = self.stores.reserve(n);
-        each_is_one(&self.stores);
+        self.stores.each_is_one();
         reserved
     }
 
@@ -207,6 +221,7 @@ impl Tables {
         ensures displaced { IsFullOf self.old.contents (kind_of name) → (r : Resident) × IsOldest (residents_of self.old.contents) (kind_of name) keep.now r × IsGroup (seen self.old.contents) (residents_of self.old.contents) r (idents_of self.new.gone) }
         ensures nothing { (IsFullOf self.old.contents (kind_of name) → ⊥) → self.new.gone ≡ [] }
         ensures causes { self.new.gone ≡ gone_as Displaced (idents_of self.new.gone) }
+        ensures named { AreNamed (residents_of self.old.contents) (idents_of self.new.gone) self.new.left }
         ensures ident { result ≡ record { kind = kind_of name; slot = result.slot; serial = length self.old.contents.issued } }
         ensures free { IsTaken (without_all (idents_of self.new.gone) (residents_of self.old.contents)) (kind_of name) result.slot → ⊥ }
         ensures lowest { (slot : ℕ) → slot < result.slot → IsTaken (without_all (idents_of self.new.gone) (residents_of self.old.contents)) (kind_of name) slot }
@@ -219,8 +234,7 @@ impl Tables {
         ensures spare { self.old.contents.spare ≡ self.new.contents.spare + 1 }
     {
         self.make_place(name, keep, at);
-        let parents = parents_of(&self.stores, name);
-        enter(&mut self.stores, &mut self.pairs, name, &parents)
+        enter(&mut self.stores, &mut self.pairs, name)
     }
 
     // Sees to a free slot. Where each slot of the kind is taken, the victim leaves, with all that depends on it.
@@ -231,13 +245,17 @@ impl Tables {
         ensures displaced { IsFullOf self.old.contents (kind_of name) → (r : Resident) × IsOldest (residents_of self.old.contents) (kind_of name) keep.now r × IsGroup (seen self.old.contents) (residents_of self.old.contents) r (idents_of self.new.gone) }
         ensures nothing { (IsFullOf self.old.contents (kind_of name) → ⊥) → self.new.gone ≡ [] }
         ensures causes { self.new.gone ≡ gone_as Displaced (idents_of self.new.gone) }
+        ensures named { AreNamed (residents_of self.old.contents) (idents_of self.new.gone) self.new.left }
         ensures residents { residents_of self.new.contents ≡ without_all (idents_of self.new.gone) (residents_of self.old.contents) }
         ensures issued { self.new.contents.issued ≡ departed_all self.old.contents.issued (idents_of self.new.gone) at }
         ensures contents { KeepsButCounts self.old.contents self.new.contents }
-        ensures ready { IsReady self.new.contents name }
+        ensures ready { MayEnter self.new.contents name }
     {
         match self.stores.free(name.kind()) {
-            Some(_) => self.gone.clear(),
+            Some(_) => {
+                self.gone.clear();
+                self.left.clear();
+            }
             None => self.displace(name, keep, at),
         }
     }
@@ -250,10 +268,11 @@ impl Tables {
         ensures caps { self.new.caps ≡ self.old.caps }
         ensures victim { (r : Resident) × IsOldest (residents_of self.old.contents) (kind_of name) keep.now r × IsGroup (seen self.old.contents) (residents_of self.old.contents) r (idents_of self.new.gone) }
         ensures causes { self.new.gone ≡ gone_as Displaced (idents_of self.new.gone) }
+        ensures named { AreNamed (residents_of self.old.contents) (idents_of self.new.gone) self.new.left }
         ensures residents { residents_of self.new.contents ≡ without_all (idents_of self.new.gone) (residents_of self.old.contents) }
         ensures issued { self.new.contents.issued ≡ departed_all self.old.contents.issued (idents_of self.new.gone) at }
         ensures contents { KeepsButCounts self.old.contents self.new.contents }
-        ensures ready { IsReady self.new.contents name }
+        ensures ready { MayEnter self.new.contents name }
     {
         let Some(victim) = self.stores.victim(name.kind(), keep) else {
             unreachable!()
@@ -265,6 +284,7 @@ impl Tables {
             Cause::Displaced,
             at,
             &mut self.gone,
+            &mut self.left,
         );
     }
 
@@ -276,6 +296,7 @@ impl Tables {
         ensures caps { self.new.caps ≡ self.old.caps }
         ensures group { (r : Resident) → Contains (residents_of self.old.contents) r → r.ident ≡ ident → IsGroup (seen self.old.contents) (residents_of self.old.contents) r (idents_of self.new.gone) }
         ensures causes { self.new.gone ≡ gone_as Unloaded (idents_of self.new.gone) }
+        ensures named { AreNamed (residents_of self.old.contents) (idents_of self.new.gone) self.new.left }
         ensures residents { residents_of self.new.contents ≡ without_all (idents_of self.new.gone) (residents_of self.old.contents) }
         ensures issued { self.new.contents.issued ≡ departed_all self.old.contents.issued (idents_of self.new.gone) at }
         ensures contents { KeepsButCounts self.old.contents self.new.contents }
@@ -287,6 +308,7 @@ impl Tables {
             Cause::Unloaded,
             at,
             &mut self.gone,
+            &mut self.left,
         );
     }
 
@@ -318,6 +340,13 @@ impl Tables {
         ensures { result.now ≡ self.now.gone }
     {
         &self.gone
+    }
+
+    /// The name of each that left at the last load or unload, in the order of `gone`. Constant time.
+    pub fn left_names(&self) -> &[Name]
+        ensures { result.now ≡ self.now.left }
+    {
+        &self.left
     }
 
     /// Where an identifier stands. Constant time.
@@ -359,6 +388,16 @@ impl Tables {
         self.stores.item(name)
     }
 
+    /// The content of a name with the identifier with which it is loaded, if it is; `None` where there is no such content. One
+    /// search where it is loaded, and two where it isn't.
+    pub fn found(&self, name: Name) -> Option<FoundItem<'_>>
+        ensures content { option_map (λ found. items.shown found.item) result ≡ content_of self.now.contents name }
+        ensures loaded { IfSome result (λ found. IfSome found.ident (λ ident. IsResident (residents_of self.now.contents) ident name)) }
+        ensures shelved { IfSome result (λ found. IfNone found.ident (IsNameResident (residents_of self.now.contents) name → ⊥)) }
+    {
+        self.stores.found(name)
+    }
+
     /// As `item`. Where the name is loaded with the identifier `near`, that takes constant time.
     pub fn item_near(&self, name: Name, near: Option<Ident>) -> Option<ItemRef<'_>>
         ensures { option_map items.shown result ≡ content_of self.now.contents name }
@@ -379,7 +418,11 @@ impl Tables {
         ensures parents { AreParents (seen self.now.contents) (residents_of self.now.contents) name result.items }
         ensures apart { AllPairs ◌≢◌ result.items }
     {
-        parents_of(&self.stores, name)
+        self.stores.each_is_one();
+        match self.stores.item(name) {
+            Some(item) => parents_of(&self.stores, item),
+            None => Parents::new(),
+        }
     }
 
     /// Puts a content in the place of the one that is loaded with an identifier, and gives the old one back. The two may
@@ -396,7 +439,7 @@ impl Tables {
         ensures only { self.new.contents ≡ with_item self.old.contents ident item }
     {
         let was = self.stores.change(ident, item);
-        each_is_one(&self.stores);
+        self.stores.each_is_one();
         was
     }
 
@@ -421,7 +464,7 @@ impl Tables {
         ensures spare { self.new.contents.spare ≡ self.old.contents.spare }
     {
         let result = self.stores.update_thread_named(name, near, change);
-        each_is_one(&self.stores);
+        self.stores.each_is_one();
         result
     }
 
@@ -445,7 +488,7 @@ impl Tables {
         ensures spare { self.new.contents.spare ≡ self.old.contents.spare }
     {
         let result = self.stores.update_row_named(name, near, change);
-        each_is_one(&self.stores);
+        self.stores.each_is_one();
         result
     }
 
@@ -464,7 +507,7 @@ impl Tables {
         ensures shows { (machine : Option Machine) (memory : List ℕ) → shown machine memory self.new.contents ≡ with_rights (shown machine memory self.old.contents) kernel group (read, write) }
     {
         grant(&mut self.stores, kernel, group, (read, write));
-        each_is_one(&self.stores);
+        self.stores.each_is_one();
     }
 
     /// Takes a row that isn't loaded off its shelf for good, with its name.
@@ -480,7 +523,7 @@ impl Tables {
         ensures only { self.new.contents ≡ record self.old.contents { rows = self.new.contents.rows } }
     {
         let row = self.stores.retract(name);
-        each_is_one(&self.stores);
+        self.stores.each_is_one();
         row
     }
 
@@ -549,13 +592,21 @@ impl Tables {
         self.stores.has_signal_rows()
     }
 
-    /// The identifiers of the loaded rows of a frame, each once, in no order that a caller may rest on. Two searches in
+    /// The identifiers of the loaded message rows of a frame, each once, in no order that a caller may rest on. Two searches in
     /// what is loaded, and one for each that it gives.
-    pub fn rows_of_frame(&self, frame: Frame) -> Run<'_, Frame, Ident>
-        ensures rows { (ident : Ident) → Contains result ident ↔ IsResidentOn self.now.contents frame ident }
+    pub fn message_rows(&self, frame: Frame) -> Run<'_, RowsOf, Ident>
+        ensures rows { (ident : Ident) → Contains result ident ↔ IsResidentOn self.now.contents frame true ident }
         ensures once { AllPairs (λ a b. a ≢ b) result }
     {
-        self.stores.rows_of_frame(frame)
+        self.stores.message_rows(frame)
+    }
+
+    /// The same of the loaded rows of a frame that are no message rows.
+    pub fn other_rows(&self, frame: Frame) -> Run<'_, RowsOf, Ident>
+        ensures rows { (ident : Ident) → Contains result ident ↔ IsResidentOn self.now.contents frame false ident }
+        ensures once { AllPairs (λ a b. a ≢ b) result }
+    {
+        self.stores.other_rows(frame)
     }
 }
 
@@ -577,40 +628,11 @@ fn kernel_of_space(stores: &Stores, space: SpaceNo) -> KernelNo
     requires { IsSome (content_of stores.now (Name.Space space)) }
     ensures { owner (seen stores.now) (Name.Space space) ≡ Some result }
 {
-    each_is_one(stores);
+    stores.each_is_one();
     let Some(kernel) = kernel_of(stores, space) else {
         unreachable!()
     };
     kernel
-}
-
-// Whether a call may be made.
-impl Tables {
-    /// Whether an item may be declared. The tables' time for a kernel grows with the kernels; for a row it is that of its
-    /// frame's rows that are loaded.
-    pub fn may_declare(&self, item: &Item) -> bool
-        ensures { IsTrue result ↔ MayBeDeclared self.now.caps self.now.contents item.now }
-    {
-        desc_admits::may_declare(&self.stores, self.caps, item)
-    }
-
-    /// Whether a name may be loaded while these identifiers are kept: it stands on the shelf and is fit, all that it depends
-    /// on is loaded and kept, what is kept depends on nothing else that is loaded, and few enough of each kind are kept. It
-    /// takes a look at what each kept one depends on.
-    pub fn may_load(&self, name: Name, keep: &[Ident]) -> bool
-        ensures { IsTrue result ↔ MayBeLoaded self.now.contents name keep.now }
-    {
-        desc_admits::may_load(&self.stores, name, keep)
-    }
-
-    /// Whether what is loaded with an identifier may be locked: it is locked already, or its owner has fewer of its kind
-    /// locked than it may have.
-    pub fn may_lock(&self, ident: Ident) -> bool
-        requires { standing_in self.now.contents.issued ident ≡ Live }
-        ensures { IsTrue result ↔ MayBeLocked self.now.contents ident }
-    {
-        desc_admits::may_lock(&self.stores, ident)
-    }
 }
 
 // Sets the two rights on a group in the record of a kernel.
@@ -631,17 +653,10 @@ fn grant(stores: &mut Stores, kernel: KernelNo, group: u32, right: (bool, bool))
     }
 }
 
-// Whoever asks the stores for their room learns that each name is in one place. It is asked here for that alone.
-fn each_is_one(stores: &Stores)
-    ensures { IsExactlyOne stores.now }
-{
-    let _ = stores.room();
-}
-
 // An empty list, with room for all that can be loaded.
-fn room_for_gone(alloc: Global, caps: Caps) -> Result<Vec<Gone>, NoMemory>
-    ensures empty { IfOk result (λ gone. gone.items ≡ []) }
-    ensures room { IfOk result (λ gone. count_of caps ≤ vec_capacity gone) }
+fn room_for_all<T>(alloc: Global, caps: Caps) -> Result<Vec<T>, NoMemory>
+    ensures empty { IfOk result (λ all. all.items ≡ []) }
+    ensures room { IfOk result (λ all. count_of caps ≤ vec_capacity all) }
 {
     Ok(Vec::with_capacity(alloc, most_loaded(caps))?)
 }

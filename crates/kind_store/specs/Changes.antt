@@ -7,7 +7,7 @@ use Rattle.cache_ident.specs.declared.names.Name.{Name}
 use Rattle.cache_ident.specs.contracts.names.NamePartialEq.TheImpl as names
 use Rattle.sorted_list.specs.Sorted.{IsAdded}
 use Rattle.slot_cache.specs.declared.loaded.Loaded.{Loaded}
-use Rattle.slot_cache.specs.Cells.{changed, filled, just_loaded, with_value, IsContent}
+use Rattle.slot_cache.specs.Cells.{filled, just_loaded, with_value, IsContent}
 use Rattle.owner_shelf.specs.Rows.{content_under, row_under, rows_with, rows_without}
 use Rattle.kind_store.specs.Kept.{content_of, is_called, Kept}
 
@@ -43,15 +43,6 @@ module _ {T : Type 0} (called : T → Name) where
     pub cells : new.cells ≡ filled old.cells (just_loaded ident value)
     pub rows : new.rows ≡ rows_without called old.rows name
     pub room : new.room ≡ old.room
-
-  -- a call with a loaded content gave that result, and what it left of the content stands in its place
-  pub record IsUpdating {R : Type 0} (call : T → R → T → Type 0) (old new : Kept T) (ident : Ident) (result : R) : Type 0 where
-    pub value : T
-    pub was : IsContent old.cells ident value
-    pub left : T
-    pub called_with : call value result left
-    pub is : new ≡ record old { cells = changed old.cells ident.slot (with_value left) }
-    pub contents : HasContent old new (called value) left
 
   -- what is loaded, with that content if it has the name
   abbrev pub loaded_with : Name → T → Loaded T → Loaded T

@@ -3,4 +3,4 @@
 
 mod store;
 
-pub use store::KindStore;
+pub use store::{Found, KindStore};

@@ -8,11 +8,11 @@ ghost use Rattle.cache_ident.specs.Rolls.{departed, just_issued};
 ghost use Rattle.cache_ident.specs.declared.names.KernelNo.{KernelNo};
 ghost use Rattle.cache_ident.specs.declared.names.Name.{Name};
 ghost use Rattle.sorted_list.specs.Sorted.{IsAdded};
-ghost use Rattle.slot_cache.specs.Cells.{changed, just_loaded, loaded_in, with_lock, with_value, HasExactlyLoaded, HasNoName, IsContent, IsFoundAs, IsFull, IsInOrderOfSlot, IsLoaded, IsLowestFree, IsVictim, KeepsName, LockIs, NameIs, NoneMayGo};
+ghost use Rattle.slot_cache.specs.Cells.{changed, just_loaded, loaded_in, with_lock, with_value, HasExactlyLoaded, HasNoName, IsContent, IsFoundAs, IsFull, IsInOrderOfSlot, IsLoaded, IsLowestFree, IsVictim, LockIs, NameIs, NoneMayGo};
 ghost use Rattle.owner_shelf.specs.Rows.{content_under, row_under, rows_without, LeavesName};
 ghost use Rattle.kind_store.specs.Kept.{content_of, AreOwned, IsExactlyOne};
 ghost use Rattle.kind_store.specs.Rolls.{all_but, in_order, AreEnrolled, ChangesOne, StaysEnrolled};
-ghost use Rattle.kind_store.specs.Changes.{HasContent, HasNoContent, IsExchanging, IsLeaving, IsLoading, IsUpdating, IsUpdatingNamed, KeepsContents};
+ghost use Rattle.kind_store.specs.Changes.{HasContent, HasNoContent, IsExchanging, IsLeaving, IsLoading, IsUpdatingNamed, KeepsContents};
 
 use cache_ident::{Ident, KernelNo, Name, NoMemory, Roll};
 use owner_shelf::Shelf;
@@ -30,6 +30,14 @@ pub struct KindStore<T: Descriptor> {
     cache: Cache<T>,
     // It has room for what is loaded too, so that whatever leaves the cache finds its place.
     shelf: Shelf<T>,
+}
+
+/// The content of a name, where it stands.
+#[derive(Clone, Copy)]
+pub struct Found<'a, T> {
+    pub value: &'a T,
+    /// The identifier with which the name is loaded; `None` where the content is on the shelf.
+    pub ident: Option<Ident>,
 }
 
 impl<T: Descriptor> Model for KindStore<T> {
@@ -93,15 +101,34 @@ impl<T: Descriptor + Drop> KindStore<T> {
         self.shelf.put_back(owner, value);
     }
 
+    /// The content of a name, wherever it is, and the identifier with which the name is loaded, if it is; `None` where it has
+    /// no content. One search where it is loaded.
+    pub fn found(&self, name: Name) -> Option<Found<'_, T>>
+        ensures content { option_map (λ found. found.value.now) result ≡ content_of T.called self.now name }
+        ensures loaded { IfSome result (λ found. IfSome found.ident (IsFoundAs T.called self.now.cells name)) }
+        ensures shelved { IfSome result (λ found. IfNone found.ident (HasNoName T.called self.now.cells name)) }
+        ensures one { IsExactlyOne T.called T.KIND self.now }
+    {
+        match self.cache.find(name) {
+            Some(ident) => {
+                let value = self.cache.get(ident)?;
+                let ident = Some(ident);
+                Some(Found { value, ident })
+            }
+            None => {
+                let value = self.shelf.lookup(name)?;
+                let ident = None;
+                Some(Found { value, ident })
+            }
+        }
+    }
+
     /// The content of a name, wherever it is; `None` where there is none. One search where it is loaded.
     pub fn item(&self, name: Name) -> Option<&T>
         ensures content { option_copied result ≡ content_of T.called self.now name }
         ensures one { IsExactlyOne T.called T.KIND self.now }
     {
-        match self.cache.find(name) {
-            Some(ident) => self.cache.get(ident),
-            None => self.shelf.lookup(name),
-        }
+        self.item_near(name, None)
     }
 
     /// As `item`. Where the name is loaded with the identifier `near`, that takes constant time.
@@ -128,7 +155,7 @@ impl<T: Descriptor + Drop> KindStore<T> {
         ensures absent { IfNone result (HasNoName T.called self.now.cells name) }
         ensures one { IsExactlyOne T.called T.KIND self.now }
     {
-        self.cache.find(name)
+        self.resident_near(name, None)
     }
 
     /// As `resident`. Where the name is loaded with the identifier `near`, that takes constant time.
@@ -232,7 +259,7 @@ impl<T: Descriptor + Drop> KindStore<T> {
         roll.depart(ident, at);
     }
 
-    /// Locks a loaded descriptor, so that it is no victim. Its time is logarithmic in what is loaded and not locked.
+    /// Locks a loaded descriptor, so that it is no victim.
     pub fn lock(&mut self, ident: Ident)
         requires { IsLoaded self.old.cells ident }
         ensures cells { self.new ≡ record self.old { cells = changed self.old.cells ident.slot (with_lock true) } }
@@ -243,7 +270,7 @@ impl<T: Descriptor + Drop> KindStore<T> {
         self.cache.set_lock(ident, true);
     }
 
-    /// Ends the lock of a loaded descriptor. Its time is logarithmic in what is loaded and not locked.
+    /// Ends the lock of a loaded descriptor.
     pub fn unlock(&mut self, ident: Ident)
         requires { IsLoaded self.old.cells ident }
         ensures cells { self.new ≡ record self.old { cells = changed self.old.cells ident.slot (with_lock false) } }
@@ -266,18 +293,6 @@ impl<T: Descriptor + Drop> KindStore<T> {
         ensures enrolled { StaysEnrolled T.KIND self.old.cells self.new.cells }
     {
         self.cache.replace(ident, value)
-    }
-
-    /// Changes a loaded content where it stands, but for its name, and gives what the change gives. The record isn't
-    /// moved. Constant time.
-    pub fn update<R, F: FnOnce(&mut T) -> R>(&mut self, ident: Ident, change: F) -> R
-        requires loaded { IsLoaded self.old.cells ident }
-        requires callable { F.IsAlwaysCallable change }
-        requires name { KeepsName T.called (FnOnceReturnsAtMut F.FnOnce change) self.old.cells ident.slot }
-        ensures updated { IsUpdating T.called (FnOnceReturnsAtMut F.FnOnce change) self.old self.new ident result }
-        ensures enrolled { StaysEnrolled T.KIND self.old.cells self.new.cells }
-    {
-        self.cache.update(ident, change)
     }
 
     /// Changes the content of a name where it stands, in its slot or on the shelf, but for its name, and gives what the

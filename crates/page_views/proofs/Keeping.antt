@@ -16,38 +16,38 @@ use Rattle.phys_groups.specs.declared.rows.Flags.{Flags}
 use Rattle.page_views.specs.Views.{all_dated, dated, filled, if_since, is_touched_of, kept_since, next_kept, nothing_kept, present_in, table_of, with_filled, Dated, Table, View}
 
 -- what is kept in slots that were never used
-abbrev pub unused : List View → List (Option Dated)
-unused slots = replicate (8 - length slots) None
+abbrev pub unused : ℕ → List View → List (Option Dated)
+unused most slots = replicate (most - length slots) None
 
 -- what the slots keep, once none of them is a view
-pub all_slots : (count : ℕ) (slots : List View) → map dated slots ++ unused slots ≡ all_dated (table_of count slots).views (table_of count slots).kept
-all_slots count slots =
-    ap (λ (ks : List (Option Dated)). ks ++ unused slots) (sym (ap (map dated) (take-append-drop count slots)) ∙ map-append dated (take count slots) (drop count slots))
-    ∙ append_assoc (map dated (take count slots)) (map dated (drop count slots)) (unused slots)
+pub all_slots : (most count : ℕ) (slots : List View) → map dated slots ++ unused most slots ≡ all_dated (table_of most count slots).views (table_of most count slots).kept
+all_slots most count slots =
+    ap (λ (ks : List (Option Dated)). ks ++ unused most slots) (sym (ap (map dated) (take-append-drop count slots)) ∙ map-append dated (take count slots) (drop count slots))
+    ∙ append_assoc (map dated (take count slots)) (map dated (drop count slots)) (unused most slots)
 
 behind_next : (slots : List View) (ks : List (Option Dated)) → 0 < length slots → map dated (drop 1 slots) ++ ks ≡ drop 1 (map dated slots ++ ks)
 behind_next [] ks some = absurd (omega (arith, some))
 behind_next (v ∷ slots) ks some = refl
 
 -- with a view more
-pub table_with : (count : ℕ) (slots : List View) (v : View) → count < length slots → table_of (count + 1) (set slots count v) ≡ with_filled (table_of count slots) v
-table_with count slots v below =
+pub table_with : (most count : ℕ) (slots : List View) (v : View) → count < length slots → table_of most (count + 1) (set slots count v) ≡ with_filled (table_of most count slots) v
+table_with most count slots v below =
     let some : 0 < length (drop count slots) = omega (arith, below, length-drop count slots) in
-    ap₂ (λ (vs : List View) (ks : List (Option Dated)). let t : Table = record { views = vs; kept = ks } in t) (take_more_set slots count v below)
-    (ap₂ (λ (ws : List View) (n : ℕ). map dated ws ++ replicate (8 - n) None) (drop-set-lt (count + 1) slots count v (omega arith) ∙ sym (drop-drop 1 count slots)) (length-set slots count v)
-    ∙ behind_next (drop count slots) (unused slots) some)
+    ap₂ (λ (vs : List View) (ks : List (Option Dated)). let t : Table = record { most = most; views = vs; kept = ks } in t) (take_more_set slots count v below)
+    (ap₂ (λ (ws : List View) (n : ℕ). map dated ws ++ replicate (most - n) None) (drop-set-lt (count + 1) slots count v (omega arith) ∙ sym (drop-drop 1 count slots)) (length-set slots count v)
+    ∙ behind_next (drop count slots) (unused most slots) some)
 
 -- a slot more behind those that are all views
-pub table_reaching : (slots : List View) (v : View) → v.taken ≡ None → length slots < 8 → table_of (length slots) (slots ++ v ∷ []) ≡ table_of (length slots) slots
-table_reaching slots v none few =
+pub table_reaching : (most : ℕ) (slots : List View) (v : View) → v.taken ≡ None → length slots < most → table_of most (length slots) (slots ++ v ∷ []) ≡ table_of most (length slots) slots
+table_reaching most slots v none few =
     let count = length slots in
     let longer : length (slots ++ v ∷ []) ≡ count + 1 = length_push slots v in
     let one : dated v ≡ None = ap (option_map (λ place. record { frame = v.frame; bytes = v.first; place = place })) none in
-    let left : 8 - count ≡ suc (8 - length (slots ++ v ∷ [])) = omega (arith, few, longer) in
-    ap₂ (λ (vs : List View) (ks : List (Option Dated)). let t : Table = record { views = vs; kept = ks } in t)
+    let left : most - count ≡ suc (most - length (slots ++ v ∷ [])) = omega (arith, few, longer) in
+    ap₂ (λ (vs : List View) (ks : List (Option Dated)). let t : Table = record { most = most; views = vs; kept = ks } in t)
     (take-append-le count slots (v ∷ []) (omega arith))
-    (ap (λ (ws : List View). map dated ws ++ replicate (8 - length (slots ++ v ∷ [])) None) (drop-append_seam slots (v ∷ []))
-    ∙ ap (λ (o : Option Dated). o ∷ replicate (8 - length (slots ++ v ∷ [])) None) one
+    (ap (λ (ws : List View). map dated ws ++ replicate (most - length (slots ++ v ∷ [])) None) (drop-append_seam slots (v ∷ []))
+    ∙ ap (λ (o : Option Dated). o ∷ replicate (most - length (slots ++ v ∷ [])) None) one
     ∙ sym (ap₂ (λ (ws : List View) (n : ℕ). map dated ws ++ replicate n None) (drop_all count slots (omega arith)) left))
 
 -- one slot more that keeps nothing
@@ -58,10 +58,10 @@ none_kept slots i v below none before =
     ∙ sym (replicate_next i None)
 
 -- where no slot keeps anything, nothing is kept
-pub none_of : (slots : List View) → map dated slots ≡ replicate (length slots) None → length slots ≤ 8 → map dated slots ++ unused slots ≡ nothing_kept
-none_of slots none few =
-    let whole : length slots + (8 - length slots) ≡ 8 = omega (arith, few) in
-    ap (λ (ks : List (Option Dated)). ks ++ unused slots) none ∙ replicate-append-replicate (length slots) (8 - length slots) None
+pub none_of : (most : ℕ) (slots : List View) → map dated slots ≡ replicate (length slots) None → length slots ≤ most → map dated slots ++ unused most slots ≡ nothing_kept most
+none_of most slots none few =
+    let whole : length slots + (most - length slots) ≡ most = omega (arith, few) in
+    ap (λ (ks : List (Option Dated)). ks ++ unused most slots) none ∙ replicate-append-replicate (length slots) (most - length slots) None
     ∙ ap (λ (n : ℕ). replicate n None) whole
 
 next_unused : (n : ℕ) → next_kept (replicate n None) ≡ None
@@ -78,6 +78,15 @@ next_is zero [] n = next_unused n
 next_is zero (v ∷ slots) n = refl
 next_is (suc count) [] n = next_unused n
 next_is (suc count) (v ∷ slots) n = next_is count slots n
+
+-- without a slot there nothing is
+pub nothing_since : (vs slots : List View) (count n : ℕ) (frame : Frame) (since : ℕ) → slice_get slots count ≡ None
+    → None ≡ option_map (λ (d : Dated). d.place) (kept_since vs (map dated (drop count slots) ++ replicate n None) frame since)
+nothing_since vs slots count n frame since none = by (is_some (find (is_touched_of frame) vs))
+  where
+    by : (b : Bool) → None ≡ option_map (λ (d : Dated). d.place) (if b then None else if_since frame since (next_kept (map dated (drop count slots) ++ replicate n None)))
+    by true = refl
+    by false = ap (λ (o : Option Dated). option_map (λ (d : Dated). d.place) (if_since frame since o)) (sym (next_is count slots n ∙ ap dated_at none))
 
 -- ---- a slot that becomes a view again
 

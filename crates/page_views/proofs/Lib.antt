@@ -1,3 +1,3 @@
-pub mod Leading
 pub mod Tables
+pub mod Indexing
 pub mod Keeping

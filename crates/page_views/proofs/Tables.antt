@@ -1,12 +1,14 @@
 -- What a change of each view is for their pages, and what it leaves.
 use Rattle.std.proofs.Common.{◌≡◌, ◌≢◌, ℕ, zero, suc, ◌+◌, ◌<◌, ◌≤◌, ◌/◌, ◌%◌, Bool, true, false, cond, List, [], ◌∷◌, ◌++◌, map, length, take, drop, set, get_or, Option, Some, None, refl, ap, ap₂, sym, ◌∙◌, subst, arith, eq-eqb, length-append, length-drop}
-use Rattle.std.specs.Prelude.{◌==◌, not, ◌&&◌, ◌||◌, is_some, if◌then◌else◌}
-use Rattle.std.specs.List.{find}
+use Rattle.std.specs.Prelude.{◌==◌, not, ◌&&◌, ◌||◌, ◌-◌, is_some, replicate, slice_get, if◌then◌else◌}
+use Rattle.std.specs.List.{find, AllPairs}
 use Rattle.std.specs.Option.{option_map}
 use Rattle.std.proofs.lemmas.List.{get_or-map, get_or-take, take_all, take_more_set, length-take-le, take-append-le}
 use Rattle.std.proofs.Math.ListN.{length-set}
 use Rattle.std.proofs.lemmas.Bool.{eqb-true, ltb-true}
 use Rattle.std.proofs.lemmas.List.Quantifiers.{all_pairs_push}
+use Rattle.std.proofs.lemmas.Option.{get_or_from_slice_get, slice_get-get_or, slice_get_within}
+use Rattle.std.proofs.Math.Seq.{drop-append_seam}
 use Rattle.cache_ident.specs.declared.names.Vpn.{Vpn}
 use Rattle.cache_ident.specs.declared.names.Frame.{Frame}
 use Rattle.rv32_exec.specs.declared.statuses.Access.{Access}
@@ -15,7 +17,8 @@ use Rattle.rv32_exec.specs.declared.spaces.Width.{Width}
 use Rattle.rv32_exec.specs.declared.spaces.Width.TheVariants.{Byte, Half, Word}
 use Rattle.rv32_exec.specs.Pages.{Page, allows, where_allowed, translation, translates, read_through, number_at, stored_through, stored, touched_at, put_bytes, put_in_frame, mark, mark_page, size_of}
 use Rattle.flat_state.specs.Translation.{wants}
-use Rattle.page_views.specs.Views.{View, page_of, pages_of_views, Copied, copied, copies_of, has_message, is_of_page, can_fill, put_in_view, mark_view, mark_view_of, where_flagged, view_through, HaveOneViewAPage, IsReached, IsTable, Table}
+use Rattle.flat_state.proofs.Finding.{find-passes}
+use Rattle.page_views.specs.Views.{View, page_of, pages_of_views, Copied, copied, copies_of, has_message, is_of_page, can_fill, put_in_view, mark_view, mark_view_of, where_flagged, view_through, table_of, dated, Dated, HaveOneViewAFrame, HaveOneViewAPage, IsReached, IsTable, Table}
 
 pub pages_mapped : (f : View → View) (g : Page → Page) → ((v : View) → page_of (f v) ≡ g (page_of v)) → (vs : List View) → pages_of_views (map f vs) ≡ map g (pages_of_views vs)
 pages_mapped f g same [] = refl
@@ -25,7 +28,7 @@ pub copies_mapped : (f : View → View) → ((v : View) → copied (f v) ≡ cop
 copies_mapped f same [] = refl
 copies_mapped f same (v ∷ vs) = ap₂ (λ (p : Copied) (ps : List Copied). p ∷ ps) (same v) (copies_mapped f same vs)
 
-length-map : (f : View → View) (vs : List View) → length (map f vs) ≡ length vs
+pub length-map : (f : View → View) (vs : List View) → length (map f vs) ≡ length vs
 length-map f [] = refl
 length-map f (v ∷ vs) = omega (arith, length-map f vs)
 
@@ -41,12 +44,12 @@ one_mapped f same vs one = λ i j d below within.
     ∙ ap (λ (v : View). v.vpn.0) (get_or-map f vs j d d last) ∙ ap (λ (c : Copied). c.vpn.0) (same (get_or vs j d))))
 
 -- what is kept of each view keeps the message flags
-messages_mapped : (f : View → View) → ((v : View) → copied (f v) ≡ copied v) → (vs : List View) → has_message (map f vs) ≡ has_message vs
+pub messages_mapped : (f : View → View) → ((v : View) → copied (f v) ≡ copied v) → (vs : List View) → has_message (map f vs) ≡ has_message vs
 messages_mapped f same [] = refl
 messages_mapped f same (v ∷ vs) = ap₂ (λ (a b : Bool). a || b) (ap (λ (c : Copied). c.flags.m) (same v)) (messages_mapped f same vs)
 
 -- a view more
-messages_more : (vs : List View) (v : View) → has_message (vs ++ v ∷ []) ≡ (has_message vs || v.flags.m)
+pub messages_more : (vs : List View) (v : View) → has_message (vs ++ v ∷ []) ≡ (has_message vs || v.flags.m)
 messages_more [] v = or_false v.flags.m
   where
     or_false : (b : Bool) → (b || false) ≡ b
@@ -119,20 +122,18 @@ pub length-mapped : (f : View → View) (count : ℕ) (xs : List View) → count
 length-mapped f count xs within =
     omega (arith, length-append (map f (take count xs)) (drop count xs), length-map f (take count xs), length-take-le count xs within, length-drop count xs)
 
-pub table_mapped : (f : View → View) → ((v : View) → copied (f v) ≡ copied v) → (n count : ℕ) (messages : Bool) (xs ys : List View) → n ≡ length xs → IsTable xs count messages → ys ≡ map f (take count xs) ++ drop count xs
-    → IsTable (take n (ys ++ drop (length ys) xs)) count messages
-table_mapped f same n count messages xs ys whole table became =
-    let within = table.within in
-    let size : length ys ≡ length xs = ap length became ∙ length-mapped f count xs within in
-    rw (written_over n xs ys whole size) (record {
+pub table_changed : (f : View → View) → ((v : View) → copied (f v) ≡ copied v) → (most count : ℕ) (xs ys : List View) → IsTable most xs count → ys ≡ map f (take count xs) ++ drop count xs → IsTable most ys count
+table_changed f same most count xs ys table became =
+    let size : length ys ≡ length xs = ap length became ∙ length-mapped f count xs table.within in
+    record {
+      bounded = table.bounded;
       few = omega (arith, size, table.few);
-      within = omega (arith, size, within);
-      one_a_page = subst HaveOneViewAPage (sym (ap (take count) became ∙ first_mapped f count xs within)) (one_mapped f same (take count xs) table.one_a_page);
-      flagged = table.flagged ∙ sym (ap has_message (ap (take count) became ∙ first_mapped f count xs within) ∙ messages_mapped f same (take count xs));
-    })
+      within = omega (arith, size, table.within);
+      one_a_page = subst HaveOneViewAPage (sym (ap (take count) became ∙ first_mapped f count xs table.within)) (one_mapped f same (take count xs) table.one_a_page);
+    }
 
 -- no view is that of a page where none is found
-not_found : (vpn : Vpn) (vs : List View) → find (is_of_page vpn) vs ≡ None → (k : ℕ) (d : View) → k < length vs → (get_or vs k d).vpn.0 ≢ vpn.0
+pub not_found : (vpn : Vpn) (vs : List View) → find (is_of_page vpn) vs ≡ None → (k : ℕ) (d : View) → k < length vs → (get_or vs k d).vpn.0 ≢ vpn.0
 not_found vpn [] none k d within = λ e. absurd (omega (arith, within))
 not_found vpn (v ∷ vs) none k d within = by (v.vpn.0 == vpn.0) refl none (λ absent j below. not_found vpn vs absent j d below) k within
   where
@@ -149,7 +150,7 @@ not_found vpn (v ∷ vs) none k d within = by (v.vpn.0 == vpn.0) refl none (λ a
 pub same_page : (v : View) (vpn seen : Vpn) (b : Bool) → seen ≡ v.vpn → b ≡ (seen.0 == vpn.0) → b ≡ true → v.vpn.0 ≡ vpn.0
 same_page v vpn seen b is equal told = sym (ap (λ (n : Vpn). n.0) is) ∙ eqb-true seen.0 vpn.0 (sym equal ∙ told)
 
-neq-eqb : (a b : ℕ) → a ≢ b → (a == b) ≡ false
+pub neq-eqb : (a b : ℕ) → a ≢ b → (a == b) ≡ false
 neq-eqb a b other = by (a == b) refl
   where
     by : (c : Bool) → (a == b) ≡ c → (a == b) ≡ false
@@ -170,27 +171,78 @@ found_at vpn (suc i) (v ∷ vs) d one within same =
     ap (λ (b : Bool). cond b (Some v) (find (is_of_page vpn) vs)) (neq-eqb v.vpn.0 vpn.0 (λ e. one zero (suc i) d (omega arith) (omega (arith, within)) (e ∙ sym same)))
     ∙ found_at vpn i vs d (λ j k e below last. one (suc j) (suc k) e (omega (arith, below)) (omega (arith, last))) (omega (arith, within)) same
 
--- views of other pages aren't marked
-unmarked : (vpn : Vpn) (access : Access) (n : ℕ) (vs : List View) → ((k : ℕ) (d : View) → k < length (take n vs) → (get_or (take n vs) k d).vpn.0 ≢ vpn.0) → map (mark_view_of vpn access) (take n vs) ++ drop n vs ≡ vs
-unmarked vpn access zero vs others = refl
-unmarked vpn access (suc n) [] others = refl
-unmarked vpn access (suc n) (v ∷ vs) others =
-    ap₂ (λ (w : View) (ws : List View). w ∷ ws) (ap (λ (b : Bool). if b then mark_view access v else v) (neq-eqb v.vpn.0 vpn.0 (others zero v (omega arith))))
-    (unmarked vpn access n vs (λ k d within. others (suc k) d (omega (arith, within))))
+-- a change of those views alone that have a number, of which there is one
+module _ (number : View → ℕ) (m : ℕ) (f : View → View) (others : (v : View) → number v ≢ m → f v ≡ v) where
+  unchanged : (n : ℕ) (vs : List View) → ((k : ℕ) (d : View) → k < length (take n vs) → number (get_or (take n vs) k d) ≢ m) → map f (take n vs) ++ drop n vs ≡ vs
+  unchanged zero vs other = refl
+  unchanged (suc n) [] other = refl
+  unchanged (suc n) (v ∷ vs) other =
+      ap₂ (λ (w : View) (ws : List View). w ∷ ws) (others v (other zero v (omega arith))) (unchanged n vs (λ k d within. other (suc k) d (omega (arith, within))))
 
--- the mark of the one view of a page
-pub marked_at : (vpn : Vpn) (access : Access) (i n : ℕ) (vs : List View) (d : View) → HaveOneViewAPage (take n vs) → i < n → n ≤ length vs → (get_or vs i d).vpn.0 ≡ vpn.0
-    → set vs i (mark_view access (get_or vs i d)) ≡ map (mark_view_of vpn access) (take n vs) ++ drop n vs
-marked_at vpn access i zero vs d one here within same = absurd (omega (arith, here))
-marked_at vpn access i (suc n) [] d one here within same = absurd (omega (arith, within))
-marked_at vpn access zero (suc n) (v ∷ vs) d one here within same =
-    ap₂ (λ (w : View) (ws : List View). w ∷ ws) (sym (ap (λ (b : Bool). if b then mark_view access v else v) (eq-eqb v.vpn.0 vpn.0 same)))
-    (sym (unmarked vpn access n vs (λ k e last. λ other. one zero (suc k) e (omega arith) (omega (arith, last)) (same ∙ sym other))))
-marked_at vpn access (suc i) (suc n) (v ∷ vs) d one here within same =
-    let size : length (take n vs) ≡ n = length-take-le n vs (omega (arith, within)) in
-    let there : get_or (take n vs) i d ≡ get_or vs i d = get_or-take n vs i d (omega (arith, here)) in
-    ap₂ (λ (w : View) (ws : List View). w ∷ ws) (sym (ap (λ (b : Bool). if b then mark_view access v else v) (neq-eqb v.vpn.0 vpn.0 (λ e. one zero (suc i) d (omega arith) (omega (arith, here, size)) (e ∙ (sym same ∙ ap (λ (w : View). w.vpn.0) (sym there)))))))
-    (marked_at vpn access i n vs d (λ j k e below last. one (suc j) (suc k) e (omega (arith, below)) (omega (arith, last))) (omega (arith, here)) (omega (arith, within)) same)
+  pub changed_at : (i n : ℕ) (vs : List View) (d : View) → AllPairs (λ a b. number a ≢ number b) (take n vs) → i < n → n ≤ length vs → number (get_or vs i d) ≡ m
+      → set vs i (f (get_or vs i d)) ≡ map f (take n vs) ++ drop n vs
+  changed_at i zero vs d one here within same = absurd (omega (arith, here))
+  changed_at i (suc n) [] d one here within same = absurd (omega (arith, within))
+  changed_at zero (suc n) (v ∷ vs) d one here within same =
+      ap (λ (ws : List View). f v ∷ ws) (sym (unchanged n vs (λ k e last. λ other. one zero (suc k) e (omega arith) (omega (arith, last)) (same ∙ sym other))))
+  changed_at (suc i) (suc n) (v ∷ vs) d one here within same =
+      let size : length (take n vs) ≡ n = length-take-le n vs (omega (arith, within)) in
+      let there : get_or (take n vs) i d ≡ get_or vs i d = get_or-take n vs i d (omega (arith, here)) in
+      ap₂ (λ (w : View) (ws : List View). w ∷ ws) (sym (others v (λ e. one zero (suc i) d (omega arith) (omega (arith, here, size)) (e ∙ (sym same ∙ ap number (sym there))))))
+      (changed_at i n vs d (λ j k e below last. one (suc j) (suc k) e (omega (arith, below)) (omega (arith, last))) (omega (arith, here)) (omega (arith, within)) same)
+
+-- what stands at a place of the views
+pub frame_there : (n i : ℕ) (xs : List View) (w v : View) → n ≤ length xs → w ≡ get_or xs i w → slice_get (take n xs) i ≡ Some v → w ≡ v
+frame_there n i xs w v most is at =
+    let within : i < length (take n xs) = slice_get_within (take n xs) i v at in
+    let below : i < n = omega (arith, within, length-take-le n xs most) in
+    is ∙ (sym (get_or-take n xs i w below) ∙ get_or_from_slice_get (take n xs) i v w at)
+
+-- the view at a place is that of its page
+pub place_found : (vpn : Vpn) (n i : ℕ) (xs : List View) (v : View) → HaveOneViewAPage (take n xs) → n ≤ length xs → i < n → v ≡ get_or xs i v → v.vpn.0 ≡ vpn.0 → slice_get (take n xs) i ≡ find (is_of_page vpn) (take n xs)
+place_found vpn n i xs v one most below is same =
+    let within : i < length (take n xs) = omega (arith, below, length-take-le n xs most) in
+    let there : v ≡ get_or (take n xs) i v = is ∙ sym (get_or-take n xs i v below) in
+    slice_get-get_or (take n xs) i v within ∙ sym (found_at vpn i (take n xs) v one within (ap (λ (w : View). w.vpn.0) (sym there) ∙ same))
+
+-- the mark of the view that is found at a place
+pub marked_there : (vpn : Vpn) (access : Access) (n i : ℕ) (xs : List View) (v new : View) → HaveOneViewAPage (take n xs) → n ≤ length xs → i < length (take n xs) → slice_get (take n xs) i ≡ find (is_of_page vpn) (take n xs)
+    → v ≡ get_or xs i v → new ≡ mark_view access v → set xs i new ≡ map (mark_view_of vpn access) (take n xs) ++ drop n xs
+marked_there vpn access n i xs v new one most within found is marked =
+    let below : i < n = omega (arith, within, length-take-le n xs most) in
+    let there : get_or (take n xs) i v ≡ v = get_or-take n xs i v below ∙ sym is in
+    let passes = find-passes (is_of_page vpn) (take n xs) v (sym found ∙ slice_get-get_or (take n xs) i v within ∙ ap (λ (w : View). Some w) there) in
+    ap (set xs i) (marked ∙ sym (ap (λ (b : Bool). if b then mark_view access v else v) passes) ∙ ap (mark_view_of vpn access) is)
+    ∙ changed_at (λ w. w.vpn.0) vpn.0 (mark_view_of vpn access) (λ w other. ap (λ (b : Bool). if b then mark_view access w else w) (neq-eqb w.vpn.0 vpn.0 other)) i n xs v one below most
+    (ap (λ (w : View). w.vpn.0) (sym is) ∙ eqb-true v.vpn.0 vpn.0 passes)
+
+-- where a page has no view, none is marked
+pub none_marked : (vpn : Vpn) (access : Access) (vs : List View) → find (is_of_page vpn) vs ≡ None → vs ≡ map (mark_view_of vpn access) vs
+none_marked vpn access [] none = refl
+none_marked vpn access (v ∷ vs) none = by (v.vpn.0 == vpn.0) none (none_marked vpn access vs)
+  where
+    by : (b : Bool) → cond b (Some v) (find (is_of_page vpn) vs) ≡ None → (find (is_of_page vpn) vs ≡ None → vs ≡ map (mark_view_of vpn access) vs) → v ∷ vs ≡ (if b then mark_view access v else v) ∷ map (mark_view_of vpn access) vs
+    by true none rest = absurd (cc)
+    by false none rest = ap (λ (ws : List View). v ∷ ws) (rest none)
+
+-- the bytes in the view at a place, where no other one is of its frame
+pub put_there : (count at value n i : ℕ) (xs : List View) (v new : View) → HaveOneViewAFrame (take n xs) → n ≤ length xs → i < length (take n xs) → v ≡ get_or xs i v → new ≡ record v { present = put_bytes count v.present at value }
+    → set xs i new ≡ map (put_in_view v.frame count at value) (take n xs) ++ drop n xs
+put_there count at value n i xs v new one most within is put =
+    let below : i < n = omega (arith, within, length-take-le n xs most) in
+    let f = put_in_view v.frame count at value in
+    ap (set xs i) (put ∙ sym (ap (λ (b : Bool). if b then record v { present = put_bytes count v.present at value } else v) (eq-eqb v.frame.0 v.frame.0 refl)) ∙ ap f is)
+    ∙ changed_at (λ w. w.frame.0) v.frame.0 f (λ w other. ap (λ (b : Bool). if b then record w { present = put_bytes count w.present at value } else w) (neq-eqb w.frame.0 v.frame.0 other)) i n xs v one below most
+    (ap (λ (w : View). w.frame.0) (sym is))
+
+-- the table, once its views were changed
+pub table_after : (f : View → View) (most count : ℕ) (xs ys : List View) → count ≤ length xs → ys ≡ map f (take count xs) ++ drop count xs → table_of most count ys ≡ record (table_of most count xs) { views = map f (take count xs) }
+table_after f most count xs ys within became =
+    let size : length ys ≡ length xs = ap length became ∙ length-mapped f count xs within in
+    let front : length (map f (take count xs)) ≡ count = omega (arith, length-map f (take count xs), length-take-le count xs within) in
+    let behind : drop count ys ≡ drop count xs = ap (drop count) became ∙ ap (λ (n : ℕ). drop n (map f (take count xs) ++ drop count xs)) (sym front) ∙ drop-append_seam (map f (take count xs)) (drop count xs) in
+    ap₂ (λ (vs : List View) (ks : List (Option Dated)). let t : Table = record { most = most; views = vs; kept = ks } in t) (ap (take count) became ∙ first_mapped f count xs within)
+    (ap₂ (λ (ws : List View) (n : ℕ). map dated ws ++ replicate (most - n) None) behind size)
 
 pub first_true : (a b : Bool) → (a && b) ≡ true → a ≡ true
 first_true true b e = refl
@@ -205,44 +257,44 @@ is_none_where None e = refl
 is_none_where (Some v) e = cc
 
 -- a page that can be filled has no view
-pub no_view : (vs : List View) (vpn : Vpn) → can_fill vs vpn ≡ true → find (is_of_page vpn) vs ≡ None
-no_view vs vpn room = is_none_where (find (is_of_page vpn) vs) (second_true _ _ room)
+pub no_view : (most : ℕ) (vs : List View) (vpn : Vpn) → can_fill most vs vpn ≡ true → find (is_of_page vpn) vs ≡ None
+no_view most vs vpn room = is_none_where (find (is_of_page vpn) vs) (second_true _ _ room)
 
 -- no page has two views, when a view of another page is added
-pub one_filled : (vs : List View) (v : View) → can_fill vs v.vpn ≡ true → HaveOneViewAPage vs → HaveOneViewAPage (vs ++ v ∷ [])
-one_filled vs v room one = all_pairs_push (λ (a b : View). a.vpn.0 ≢ b.vpn.0) vs v one (not_found v.vpn vs (no_view vs v.vpn room))
+pub one_filled : (most : ℕ) (vs : List View) (v : View) → can_fill most vs v.vpn ≡ true → HaveOneViewAPage vs → HaveOneViewAPage (vs ++ v ∷ [])
+one_filled most vs v room one = all_pairs_push (λ (a b : View). a.vpn.0 ≢ b.vpn.0) vs v one (not_found v.vpn vs (no_view most vs v.vpn room))
 
--- there are fewer than eight views where a page can be filled
-pub free_place : (count : ℕ) (messages : Bool) (xs : List View) (vpn : Vpn) → IsTable xs count messages → can_fill (take count xs) vpn ≡ true → count < 8
-free_place count messages xs vpn table room =
+-- there are fewer views than there may be where a page can be filled
+pub free_place : (most count : ℕ) (xs : List View) (vpn : Vpn) → IsTable most xs count → can_fill most (take count xs) vpn ≡ true → count < most
+free_place most count xs vpn table room =
     let taken : length (take count xs) ≡ count = length-take-le count xs table.within in
-    omega (arith, ltb-true (length (take count xs)) 8 (first_true _ _ room), taken)
+    omega (arith, ltb-true (length (take count xs)) most (first_true _ _ room), taken)
 
 -- without views the count is 0
 pub cleared_count : (count : ℕ) (slots : List View) → count ≤ length slots → take count slots ≡ [] → count ≡ 0
 cleared_count count slots within none = omega (arith, length-take-le count slots within, ap length none)
 
 -- a table is still one with a slot behind its views
-pub table_reached : (count : ℕ) (messages : Bool) (old new : List View) → IsReached count old new → IsTable old count messages → IsTable new count messages
-table_reached count messages old new reached table =
+pub table_reached : (most count : ℕ) (old new : List View) → IsReached most count old new → IsTable most old count → IsTable most new count
+table_reached most count old new reached table =
     let same : take count new ≡ take count old = ap (λ (t : Table). t.views) reached.same in
     record {
+      bounded = table.bounded;
       few = reached.few;
       within = omega (arith, reached.behind);
       one_a_page = subst HaveOneViewAPage (sym same) table.one_a_page;
-      flagged = table.flagged ∙ sym (ap has_message same);
     }
 
-pub table_filled : (n count : ℕ) (messages now : Bool) (xs ys : List View) (v : View) → n ≡ length xs → count < length xs → IsTable xs count messages → now ≡ (messages || v.flags.m) → can_fill (take count xs) v.vpn ≡ true → ys ≡ set xs count v
-    → IsTable (take n (ys ++ drop (length ys) xs)) (count + 1) now
-table_filled n count messages now xs ys v whole below table is room became =
+pub table_filled : (most n count : ℕ) (xs ys : List View) (v : View) → n ≡ length xs → count < length xs → IsTable most xs count → can_fill most (take count xs) v.vpn ≡ true → ys ≡ set xs count v
+    → IsTable most (take n (ys ++ drop (length ys) xs)) (count + 1)
+table_filled most n count xs ys v whole below table room became =
     let size : length ys ≡ length xs = ap length became ∙ length-set xs count v in
     rw (written_over n xs ys whole size) (record {
+      bounded = table.bounded;
       few = omega (arith, size, table.few);
       within = omega (arith, size, below);
       one_a_page = subst HaveOneViewAPage (sym (ap (take (count + 1)) became ∙ take_more_set xs count v below))
-          (one_filled (take count xs) v room table.one_a_page);
-      flagged = is ∙ (ap (λ (b : Bool). b || v.flags.m) table.flagged ∙ sym (ap has_message (ap (take (count + 1)) became ∙ take_more_set xs count v below) ∙ messages_more (take count xs) v));
+          (one_filled most (take count xs) v room table.one_a_page);
     })
 
 -- the part before a place and the rest with its first element replaced

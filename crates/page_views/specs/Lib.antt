@@ -1,3 +1,4 @@
 pub mod Views
 pub mod Origins
-pub mod Ways
+pub mod Lines
+pub mod Index

@@ -61,13 +61,16 @@ copies_of vs = map copied vs
 abbrev pub is_of_page : Vpn → View → Bool
 is_of_page vpn v = v.vpn.0 == vpn.0
 
+abbrev pub is_of_frame : Frame → View → Bool
+is_of_frame frame v = v.frame.0 == frame.0
+
 -- a touched view of a frame
 abbrev pub is_touched_of : Frame → View → Bool
 is_touched_of frame v = v.touched && (v.frame.0 == frame.0)
 
--- there is room for the view of a page that has none
-abbrev pub can_fill : List View → Vpn → Bool
-can_fill vs vpn = nat_lt (length vs) 8 && not (is_some (find (is_of_page vpn) vs))
+-- there is room for the view of a page that has none, where so many are the most
+abbrev pub can_fill : ℕ → List View → Vpn → Bool
+can_fill most vs vpn = nat_lt (length vs) most && not (is_some (find (is_of_page vpn) vs))
 
 -- what the first touched view of a frame holds; without one, the bytes as they were copied
 abbrev pub present_in : Option View → List ℕ → List ℕ
@@ -101,31 +104,32 @@ pub record Dated : Type 0 where
 abbrev pub dated : View → Option Dated
 dated v = option_map (λ place. record { frame = v.frame; bytes = v.first; place = place }) v.taken
 
--- The views, and for each place behind them what is kept there of an earlier view: the bytes that were copied, where they
--- carry a place.
+-- How many views there may be, the views, and for each place behind them what is kept there of an earlier view: the bytes that
+-- were copied, where they carry a place.
 pub record Table : Type 0 where
+  pub most : ℕ
   pub views : List View
   pub kept : List (Option Dated)
 
--- Of the slots that were ever used, so many are views. Up to eight, the others keep nothing.
-abbrev pub table_of : ℕ → List View → Table
-table_of count slots = record { views = take count slots; kept = map dated (drop count slots) ++ replicate (8 - length slots) None }
+-- Of the slots that were ever used, so many are views. Up to the most that there may be, the others keep nothing.
+abbrev pub table_of : ℕ → ℕ → List View → Table
+table_of most count slots = record { most = most; views = take count slots; kept = map dated (drop count slots) ++ replicate (most - length slots) None }
 
 -- what no access changes of a table
-abbrev pub rest_of : Table → List Copied × List (Option Dated)
-rest_of t = (copies_of t.views, t.kept)
+abbrev pub rest_of : Table → ℕ × List Copied × List (Option Dated)
+rest_of t = (t.most, copies_of t.views, t.kept)
 
 -- all the bytes that carry a place: those of views, and those that are kept
 abbrev pub all_dated : List View → List (Option Dated) → List (Option Dated)
 all_dated vs kept = map dated vs ++ kept
 
--- no view, and nothing kept
-abbrev pub nothing_kept : List (Option Dated)
-nothing_kept = replicate 8 None
+-- what is kept in so many places before the first view
+abbrev pub nothing_kept : ℕ → List (Option Dated)
+nothing_kept most = replicate most None
 
 -- with a view more, in the place behind the others. What was kept there is gone
 abbrev pub with_filled : Table → View → Table
-with_filled t v = record { views = t.views ++ v ∷ []; kept = drop 1 t.kept }
+with_filled t v = record t { views = t.views ++ v ∷ []; kept = drop 1 t.kept }
 
 abbrev pub next_kept : List (Option Dated) → Option Dated
 next_kept [] = None
@@ -168,18 +172,22 @@ abbrev pub has_message : List View → Bool
 has_message [] = false
 has_message (v ∷ vs) = v.flags.m || has_message vs
 
--- up to eight slots, of which the first so many are views, and whether some of these has the message flag
-pub record IsTable (slots : List View) (count : ℕ) (messages : Bool) : Type 0 where
-  pub few : length slots ≤ 8
+-- no two views are of one frame
+abbrev pub HaveOneViewAFrame : List View → Type 0
+HaveOneViewAFrame vs = AllPairs (λ a b. a.frame.0 ≢ b.frame.0) vs
+
+-- up to the most slots, of which the first so many are views
+pub record IsTable (most : ℕ) (slots : List View) (count : ℕ) : Type 0 where
+  pub bounded : most ≤ 64
+  pub few : length slots ≤ most
   pub within : count ≤ length slots
   pub one_a_page : HaveOneViewAPage (take count slots)
-  pub flagged : messages ≡ has_message (take count slots)
 
 -- there is a slot behind the first so many, and nothing else is new
-pub record IsReached (count : ℕ) (old new : List View) : Type 0 where
+pub record IsReached (most count : ℕ) (old new : List View) : Type 0 where
   pub behind : count < length new
-  pub few : length new ≤ 8
-  pub same : table_of count new ≡ table_of count old
+  pub few : length new ≤ most
+  pub same : table_of most count new ≡ table_of most count old
 
 abbrev pub where_flagged : Access → Option View → Option View
 where_flagged access None = None

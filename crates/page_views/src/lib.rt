@@ -1,10 +1,11 @@
 //! Copied pages, as a space in which a thread takes steps ahead of its machine.
 #![tactic(auto)]
 
+mod index;
+mod lines;
 mod page;
 mod space;
 mod table;
-mod ways;
 
 pub use page::PageView;
-pub use table::PageViews;
+pub use table::{MOST_VIEWS, PageViews};

@@ -6,7 +6,6 @@ ghost use Rattle.rv32_exec.specs.Pages.{number_at, put_bytes, size_of};
 ghost use Rattle.std.specs.Option.{option_copied};
 ghost use Rattle.page_views.specs.Views.{mark_view, present_in};
 ghost use Rattle.page_views.specs.Origins.{viewed};
-ghost use Rattle.page_views.specs.Ways.{is_marked};
 
 use cache_ident::{Frame, Ident, Vpn};
 use phys_groups::Flags;
@@ -189,16 +188,6 @@ impl PageView {
                 bytes[at + 2] = ((value >> 16) & 0xff) as u8;
                 bytes[at + 3] = ((value >> 24) & 0xff) as u8;
             }
-        }
-    }
-
-    // Whether it bears the mark of an access.
-    pub(crate) fn is_marked(&self, access: Access) -> bool
-        ensures { result ≡ is_marked access self.now }
-    {
-        match access {
-            Access::Fetch | Access::Read => self.touched,
-            Access::Write => self.touched && self.written,
         }
     }
 

@@ -1,6 +1,6 @@
 //! Copied pages as a space for steps.
 
-ghost use Rattle.std.specs.Prelude.{◌≡◌, ◌+◌, ◌%◌, ◌<◌, List, Option};
+ghost use Rattle.std.specs.Prelude.{◌≡◌, ℕ, ◌+◌, ◌%◌, ◌<◌, List, Option};
 ghost use Rattle.std.specs.Result.{result_ok};
 ghost use Rattle.rv32_exec.specs.Pages.{read_through, size_of};
 ghost use Rattle.page_views.specs.Views.{pages_of_views, rest_of, Copied, Dated};
@@ -10,11 +10,11 @@ use cache_ident::Vpn;
 use rv32_exec::{Access, Hole, Space, Width};
 use rv32_isa::Instr;
 
-// The place of an address in its page, with room for the width.
+// The offset of an address in its page, with room for the width.
 #[inline]
-fn place(va: u32, width: Width) -> usize
+fn offset(va: u32, width: Width) -> usize
     requires { va % size_of width ≡ 0 }
-    ensures place { result ≡ va % 4096 }
+    ensures offset { result ≡ va % 4096 }
     ensures within { result + size_of width < 4097 }
 {
     (va % 4_096) as usize
@@ -28,7 +28,7 @@ impl PageViews {
         ensures { result_ok result ≡ read_through access (pages_of_views self.now.views) va width }
     {
         match self.through(va, access) {
-            Some(view) => Ok(view.number(place(va, width), width)),
+            Some(view) => Ok(view.number(offset(va, width), width)),
             None => Err(Hole),
         }
     }
@@ -37,7 +37,7 @@ impl PageViews {
 impl Space for PageViews {
     ghost pages = { λ table. pages_of_views table.views };
 
-    ghost Kept = { List Copied × List (Option Dated) };
+    ghost Kept = { ℕ × List Copied × List (Option Dated) };
 
     ghost kept = { rest_of };
 
@@ -58,11 +58,10 @@ impl Space for PageViews {
 
     #[inline]
     fn store(&mut self, va: u32, width: Width, value: u32) -> Result<(), Hole> {
-        let frame = match self.through(va, Access::Write) {
-            Some(view) => view.frame(),
-            None => return Err(Hole),
+        let Some(place) = self.place_through(va, Access::Write) else {
+            return Err(Hole);
         };
-        self.put(frame, place(va, width), width, value);
+        self.put(place, offset(va, width), width, value);
         Ok(())
     }
 

@@ -1,14 +1,15 @@
-//! Up to eight copied pages.
+//! Copied pages.
 
 ghost use Rattle.std.specs.Prelude.{◌≡◌, ◌+◌, ◌<◌, ◌≤◌, [], ◌++◌, length, map, find, take, drop, replicate, slice_get, slice_set, vec_capacity, Some, None, is_some, IfOk, IfSome, IsTrue};
+ghost use Rattle.std.specs.List.{position};
 ghost use Rattle.std.specs.Option.{option_copied, option_map};
 ghost use Rattle.rv32_exec.specs.Pages.{size_of};
+ghost use Rattle.page_views.specs.Lines.{seen_at};
 ghost use Rattle.page_views.specs.Origins.{viewed, viewed_beside};
-ghost use Rattle.page_views.specs.Views.{all_dated, can_fill as can_fill_def, dated, filled, has_message as has_message_def, if_since, is_of_page, is_touched_of, kept_since as kept_since_def, mark_view_of, nothing_kept, put_in_view, refilled, view_through, with_filled, HaveOneViewAPage, IsReached, View};
-ghost use Rattle.page_views.specs.Ways.{LeadsTo};
+ghost use Rattle.page_views.specs.Views.{all_dated, can_fill as can_fill_def, dated, filled, has_message as has_message_def, if_since, is_of_frame, is_of_page, is_touched_of, kept_since as kept_since_def, mark_view_of, nothing_kept, put_in_view, refilled, view_through, with_filled, HaveOneViewAPage, IsReached, View};
 
+use crate::index::Index;
 use crate::page::{Origin, PageView};
-use crate::ways::Ways;
 use cache_ident::{Frame, Ident, NoMemory, Vpn};
 use flat_rules::wants;
 use phys_groups::Flags;
@@ -16,64 +17,63 @@ use rv32_exec::{Access, DecodedWords, Width};
 use std::alloc::Global;
 use std::marker::Model;
 
-const MOST: usize = 8;
+/// How many views there can be.
+pub const MOST_VIEWS: usize = 64;
 
-/// Up to eight copied pages, no two of one page. A contract sees the list of the views in the order of their filling, and behind
-/// them what is kept of views that were cleared: the bytes that were copied, where they carry a place of a journal as of which
-/// their frame had them.
+/// Copied pages, as many as it was made for, no two of one page. A contract sees that number, the list of the views in the order of
+/// their filling, and behind them what is kept of views that were cleared: the bytes that were copied, where they carry a place of a
+/// journal as of which their frame had them.
 ///
 /// It is a space for `step`. Two views of one frame see each other's stores, and a view is marked by the accesses that
-/// go through it. No call after `new` takes memory.
+/// go through it. No call after `new` takes memory. A view that is there is found in constant time, unless more pages have its
+/// number modulo 128: then each view may be looked at. So it is at a store once two views are of one frame.
 #[derive(Drop)]
 pub struct PageViews {
-    // Up to eight slots, of which the first `count` are views. The others keep what they were copied from. There is room for all
-    // eight, and a slot is written when it is first used.
+    // The slots that were ever used, of which the first ones are views. The others keep what they were copied from. There is room for
+    // the most that there may be, and a slot is written when it is first used.
     views: Vec<PageView>,
-    count: usize,
-    // Whether one of those has the message flag.
-    messages: bool,
-    ways: Ways,
+    most: usize,
+    index: Index,
     pub(crate) decoded: DecodedWords,
 }
 
 impl Model for PageViews {
     ghost use Rattle.std.specs.Prelude.{◌≤◌, take, vec_capacity};
     ghost use Rattle.page_views.specs.Views.{table_of, IsTable, Table};
-    ghost use Rattle.page_views.specs.Ways.{LeadRight};
+    ghost use Rattle.page_views.specs.Index.{IsIndex};
 
     ghost Value = { Table };
 
-    ghost view = { λ table. table_of table.count table.views.items };
+    ghost view = { λ table. table_of table.most table.index.count table.views.items };
 
-    ghost invariant = { λ table. IsTable table.views.items table.count table.messages × LeadRight (take table.count table.views.items) table.ways × (8 ≤ vec_capacity table.views) };
+    ghost invariant = { λ table. IsTable table.most table.views.items table.index.count × IsIndex (take table.index.count table.views.items) table.index × (table.most ≤ vec_capacity table.views) };
 }
 
 impl PageViews {
-    /// No view, and nothing kept. The one call that takes memory, some 100 KiB. None of it is written before it is used.
-    pub fn new(alloc: Global) -> Result<PageViews, NoMemory>
-        ensures { IfOk result (λ table. table ≡ record { views = []; kept = nothing_kept }) }
+    /// No view, with room for so many, and nothing kept. The one call that takes memory: some 8 KiB for each of them and 32 KiB
+    /// for words. None of it is written before it is used.
+    pub fn new(alloc: Global, most: usize) -> Result<PageViews, NoMemory>
+        requires { most ≤ MOST_VIEWS }
+        ensures { IfOk result (λ table. table ≡ record { most = most; views = []; kept = nothing_kept most }) }
     {
         Ok(PageViews {
-            views: Vec::with_capacity(alloc, MOST)?,
-            count: 0,
-            messages: false,
-            ways: Ways::none(),
+            views: Vec::with_capacity(alloc, most)?,
+            most,
+            index: Index::none(),
             decoded: DecodedWords::new(alloc)?,
         })
     }
 
     /// Gives up every view. What carries a place is kept.
     pub fn clear(&mut self)
-        ensures { self.new ≡ record { views = []; kept = all_dated self.old.views self.old.kept } }
+        ensures { self.new ≡ record self.old { views = []; kept = all_dated self.old.views self.old.kept } }
     {
-        self.count = 0;
-        self.messages = false;
-        self.ways = Ways::none();
+        self.index = Index::none();
     }
 
     /// Gives up every view, and all that is kept.
     pub fn forget(&mut self)
-        ensures { self.new ≡ record { views = []; kept = nothing_kept } }
+        ensures { self.new ≡ record self.old { views = []; kept = nothing_kept self.old.most } }
     {
         self.clear();
         forget_each(&mut self.views);
@@ -83,10 +83,10 @@ impl PageViews {
     #[inline]
     pub fn as_slice(&self) -> &[PageView]
         ensures views { result.now ≡ self.now.views }
-        ensures few { length self.now.views ≤ 8 }
+        ensures few { length self.now.views ≤ self.now.most }
         ensures one_a_page { HaveOneViewAPage self.now.views }
     {
-        &self.views[..self.count]
+        &self.views[..self.index.count]
     }
 
     /// Whether some view has the message flag. Constant time.
@@ -94,20 +94,20 @@ impl PageViews {
     pub fn has_message(&self) -> bool
         ensures { result ≡ has_message_def self.now.views }
     {
-        self.messages
+        self.index.messages
     }
 
     /// Whether there is room for the view of a page that has none.
     pub fn can_fill(&self, vpn: Vpn) -> bool
-        ensures { result ≡ can_fill_def self.now.views vpn }
+        ensures { result ≡ can_fill_def self.now.most self.now.views vpn }
     {
-        self.count < MOST && self.find(vpn).is_none()
+        self.index.count < self.most && self.place(vpn).is_none()
     }
 
     /// Adds an untouched view of a page, copied from `bytes`. Where a view of its frame was touched, it holds what the
     /// first of these holds now. The bytes carry no place, and what was kept in its place is gone.
     pub fn fill(&mut self, vpn: Vpn, frame: Frame, flags: Flags, row: Ident, bytes: &[u8])
-        requires room { IsTrue (can_fill_def self.old.views vpn) }
+        requires room { IsTrue (can_fill_def self.old.most self.old.views vpn) }
         requires whole_page { length bytes.now ≡ 4096 }
         ensures { self.new ≡ with_filled self.old (filled self.old.views vpn frame flags row bytes.now None) }
     {
@@ -131,7 +131,7 @@ impl PageViews {
         bytes: &[u8],
         place: u64,
     )
-        requires room { IsTrue (can_fill_def self.old.views vpn) }
+        requires room { IsTrue (can_fill_def self.old.most self.old.views vpn) }
         requires whole_page { length bytes.now ≡ 4096 }
         ensures { self.new ≡ with_filled self.old (filled self.old.views vpn frame flags row bytes.now (Some place)) }
     {
@@ -147,25 +147,26 @@ impl PageViews {
 
     // Adds a view.
     fn add(&mut self, origin: Origin, bytes: &[u8])
-        requires room { IsTrue (can_fill_def self.old.views origin.vpn) }
+        requires room { IsTrue (can_fill_def self.old.most self.old.views origin.vpn) }
         requires whole_page { length bytes.now ≡ 4096 }
         ensures { self.new ≡ with_filled self.old (viewed_beside self.old.views origin bytes.now) }
     {
-        reach(&mut self.views, self.count);
-        fill_at(&mut self.views, self.count, origin, bytes);
-        self.count += 1;
-        self.messages |= origin.flags.m;
+        let shared = self.has_frame(origin.frame);
+        reach(&mut self.views, self.index.count, self.most);
+        fill_at(&mut self.views, self.index.count, origin, bytes, shared);
+        self.index.add(&origin, shared);
     }
 
     /// Adds an untouched view of a page, where its place keeps the bytes of the frame as of the place `since` of a journal, or
     /// a later one, and no view of the frame was touched; and answers whether it did. Nothing is copied, unless a store went to
     /// what is kept.
     pub fn refill(&mut self, vpn: Vpn, frame: Frame, flags: Flags, row: Ident, since: u64) -> bool
-        requires room { IsTrue (can_fill_def self.old.views vpn) }
+        requires room { IsTrue (can_fill_def self.old.most self.old.views vpn) }
         ensures answer { result ≡ is_some (kept_since_def self.old.views self.old.kept frame since) }
         ensures table { self.new ≡ refilled self.old vpn frame flags row (kept_since_def self.old.views self.old.kept frame since) }
     {
-        let Some(place) = self.kept_since(frame, since) else {
+        let shared = self.has_frame(frame);
+        let Some(place) = self.kept_since(frame, since, shared) else {
             return false;
         };
         let origin = Origin {
@@ -175,21 +176,25 @@ impl PageViews {
             row,
             taken: Some(place),
         };
-        recall_at(&mut self.views, self.count, origin);
-        self.count += 1;
-        self.messages |= flags.m;
+        recall_at(&mut self.views, self.index.count, origin);
+        self.index.add(&origin, shared);
         true
     }
 
     // The place of what is kept of a frame behind the views, where it isn't before `since` and no view of the frame was touched.
-    fn kept_since(&self, frame: Frame, since: u64) -> Option<u64>
-        requires { length self.now.views < 8 }
+    // `shared` says whether a view is of it.
+    fn kept_since(&self, frame: Frame, since: u64, shared: bool) -> Option<u64>
+        requires shared { shared ≡ is_some (find (is_of_frame frame) self.now.views) }
+        requires room { length self.now.views < self.now.most }
         ensures { result ≡ option_map (λ d. d.place) (kept_since_def self.now.views self.now.kept frame since) }
     {
-        if find_touched(self.as_slice(), frame).is_some() {
+        if touched_of(self.as_slice(), frame, shared).is_some() {
             return None;
         }
-        place_since(self.views.get(self.count)?, frame, since)
+        let Some(slot) = self.views.get(self.index.count) else {
+            return None;
+        };
+        place_since(slot, frame, since)
     }
 
     /// The view that an access goes through: that of the page of `va`, where its flags let the access through.
@@ -197,38 +202,63 @@ impl PageViews {
     pub fn through(&self, va: u32, access: Access) -> Option<&PageView>
         ensures { option_copied result ≡ view_through self.now.views access va }
     {
-        match self.ways.place(access, Vpn(va / 4_096)) {
+        match self.place_through(va, access) {
             Some(place) => Some(&self.views[place]),
-            None => self.search(va, access),
+            None => None,
         }
     }
 
-    // As `through`, where no way to the view was noted.
-    #[cold]
-    #[inline(never)]
-    fn search(&self, va: u32, access: Access) -> Option<&PageView>
-        ensures { option_copied result ≡ view_through self.now.views access va }
+    // The place of the view that an access goes through.
+    #[inline]
+    pub(crate) fn place_through(&self, va: u32, access: Access) -> Option<usize>
+        ensures view { seen_at result self.now.views ≡ view_through self.now.views access va }
+        ensures within { IfSome result (λ place. place < length self.now.views) }
     {
-        match self.find(Vpn(va / 4_096)) {
-            Some(view) if wants(access, view.flags()) => Some(view),
+        match self.place(Vpn(va / 4_096)) {
+            Some(place) if wants(access, self.views[place].flags()) => Some(place),
             _ => None,
         }
     }
 
-    // The view of a page.
-    fn find(&self, vpn: Vpn) -> Option<&PageView>
-        ensures { option_copied result ≡ find (is_of_page vpn) self.now.views }
+    // The place of the view of a page.
+    #[inline]
+    fn place(&self, vpn: Vpn) -> Option<usize>
+        ensures view { seen_at result self.now.views ≡ find (is_of_page vpn) self.now.views }
+        ensures within { IfSome result (λ place. place < length self.now.views) }
     {
-        self.as_slice().iter().find(|view| view.vpn() == vpn)
+        let Some(noted) = self.index.pages.place(vpn.0) else {
+            return None;
+        };
+        let place = noted as usize;
+        if place < self.index.count && self.views[place].vpn() == vpn {
+            return Some(place);
+        }
+        place_in(self.as_slice(), vpn)
     }
 
-    // Puts the low bytes of a number into every view of a frame.
-    #[inline]
-    pub(crate) fn put(&mut self, frame: Frame, at: usize, width: Width, value: u32)
-        requires { at + size_of width < 4097 }
-        ensures { self.new ≡ record self.old { views = map (put_in_view frame (size_of width) at value) self.old.views } }
+    // Whether some view is of a frame.
+    fn has_frame(&self, frame: Frame) -> bool
+        ensures { result ≡ is_some (find (is_of_frame frame) self.now.views) }
     {
-        put_in(&mut self.views, self.count, frame, at, width, value);
+        match self.index.frames.place(frame.0) {
+            Some(_) => find_of(self.as_slice(), frame).is_some(),
+            None => false,
+        }
+    }
+
+    // Puts the low bytes of a number into every view of the frame of one.
+    #[inline]
+    pub(crate) fn put(&mut self, place: usize, at: usize, width: Width, value: u32)
+        requires there { place < length self.old.views }
+        requires within { at + size_of width < 4097 }
+        ensures { (v : View) → slice_get self.old.views place ≡ Some v → self.new ≡ record self.old { views = map (put_in_view v.frame (size_of width) at value) self.old.views } }
+    {
+        if self.index.paired {
+            let frame = self.views[place].frame();
+            put_in(&mut self.views, self.index.count, frame, at, width, value);
+        } else {
+            self.views[place].put(at, width, value);
+        }
     }
 
     // Leaves the mark of an access on the view of a page.
@@ -236,44 +266,36 @@ impl PageViews {
     pub(crate) fn mark(&mut self, vpn: Vpn, access: Access)
         ensures { self.new ≡ record self.old { views = map (mark_view_of vpn access) self.old.views } }
     {
-        if self.ways.place(access, vpn).is_none() {
-            self.mark_anew(vpn, access);
-        }
-    }
-
-    // As `mark`, and notes the way to the view.
-    #[cold]
-    #[inline(never)]
-    fn mark_anew(&mut self, vpn: Vpn, access: Access)
-        ensures { self.new ≡ record self.old { views = map (mark_view_of vpn access) self.old.views } }
-    {
-        mark_each(&mut self.views, self.count, vpn, access);
-        if let Some(place) = way_in(&self.views[..self.count], vpn, access) {
-            self.ways.note(access, vpn, place);
+        if let Some(place) = self.place(vpn) {
+            self.views[place].mark(access);
         }
     }
 }
 
-// The place of the view of a page, where it lets an access through and bears its mark.
-fn way_in(views: &[PageView], vpn: Vpn, access: Access) -> Option<usize>
-    ensures { IfSome result (λ place. LeadsTo access views.now (record { tag = vpn.0 + 1; place = place })) }
+// The place of the view of a page. It stays a call, so that an access is short.
+#[cold]
+#[inline(never)]
+fn place_in(views: &[PageView], vpn: Vpn) -> Option<usize>
+    ensures place { result ≡ position (is_of_page vpn) views.now }
+    ensures within { IfSome result (λ place. place < length views.now) }
 {
-    for place in 0..views.len() {
-        let view = &views[place];
-        if view.vpn() == vpn && wants(access, view.flags()) && view.is_marked(access) {
-            return Some(place);
-        }
-    }
-    None
+    views.iter().position(|view| view.vpn() == vpn)
+}
+
+// The first view of a frame.
+fn find_of(views: &[PageView], frame: Frame) -> Option<&PageView>
+    ensures { option_copied result ≡ find (is_of_frame frame) views.now }
+{
+    views.iter().find(|view| view.frame() == frame)
 }
 
 // Writes the slot behind the first `count`, where it was never used.
-fn reach(views: &mut Vec<PageView>, count: usize)
+fn reach(views: &mut Vec<PageView>, count: usize, most: usize)
     requires within { count ≤ length views.old.items }
-    requires few { count < 8 }
-    requires most { length views.old.items ≤ 8 }
-    requires room { 8 ≤ vec_capacity views.old }
-    ensures reached { IsReached count views.old.items views.new.items }
+    requires few { count < most }
+    requires most { length views.old.items ≤ most }
+    requires room { most ≤ vec_capacity views.old }
+    ensures reached { IsReached most count views.old.items views.new.items }
     ensures capacity { vec_capacity views.new ≡ vec_capacity views.old }
 {
     if count == views.len() {
@@ -281,14 +303,15 @@ fn reach(views: &mut Vec<PageView>, count: usize)
     }
 }
 
-// Copies a page into the view behind the first `count`.
-fn fill_at(views: &mut [PageView], count: usize, origin: Origin, bytes: &[u8])
+// Copies a page into the view behind the first `count`. `shared` says whether one of these is of its frame.
+fn fill_at(views: &mut [PageView], count: usize, origin: Origin, bytes: &[u8], shared: bool)
+    requires shared { shared ≡ is_some (find (is_of_frame origin.frame) (take count views.old)) }
     requires room { count < length views.old }
     requires whole_page { length bytes.now ≡ 4096 }
     ensures { views.new ≡ slice_set views.old count (viewed_beside (take count views.old) origin bytes.now) }
 {
     let (views, free) = views.split_at_mut(count);
-    let touched = find_touched(views, origin.frame);
+    let touched = touched_of(views, origin.frame, shared);
     free[0].copy(origin, bytes, touched);
 }
 
@@ -319,7 +342,18 @@ fn forget_each(views: &mut [PageView])
     }
 }
 
-// The first touched view of a frame.
+// The first touched view of a frame. `shared` says whether one is of it.
+fn touched_of(views: &[PageView], frame: Frame, shared: bool) -> Option<&PageView>
+    requires { shared ≡ is_some (find (is_of_frame frame) views.now) }
+    ensures { option_copied result ≡ find (is_touched_of frame) views.now }
+{
+    if shared {
+        find_touched(views, frame)
+    } else {
+        None
+    }
+}
+
 fn find_touched(views: &[PageView], frame: Frame) -> Option<&PageView>
     ensures { option_copied result ≡ find (is_touched_of frame) views.now }
 {
@@ -329,7 +363,6 @@ fn find_touched(views: &[PageView], frame: Frame) -> Option<&PageView>
 }
 
 // Puts the low bytes of a number into those of the first `count` views that are of a frame.
-#[inline]
 fn put_in(views: &mut [PageView], count: usize, frame: Frame, at: usize, width: Width, value: u32)
     requires count { count ≤ length views.old }
     requires within { at + size_of width < 4097 }
@@ -340,31 +373,11 @@ fn put_in(views: &mut [PageView], count: usize, frame: Frame, at: usize, width: 
     }
 }
 
-#[inline]
 fn put_if(view: &mut PageView, frame: Frame, at: usize, width: Width, value: u32)
     requires { at + size_of width < 4097 }
     ensures { view.new ≡ put_in_view frame (size_of width) at value view.old }
 {
     if view.frame() == frame {
         view.put(at, width, value);
-    }
-}
-
-// Leaves the mark of an access on those of the first `count` views that are of a page.
-fn mark_each(views: &mut [PageView], count: usize, vpn: Vpn, access: Access)
-    requires { count ≤ length views.old }
-    ensures { views.new ≡ map (mark_view_of vpn access) (take count views.old) ++ drop count views.old }
-{
-    for i in 0..count {
-        mark_if(&mut views[i], vpn, access);
-    }
-}
-
-#[inline]
-fn mark_if(view: &mut PageView, vpn: Vpn, access: Access)
-    ensures { view.new ≡ mark_view_of vpn access view.old }
-{
-    if view.vpn() == vpn {
-        view.mark(access);
     }
 }

@@ -8,3 +8,5 @@ pub mod Making
 pub mod Committing
 pub mod Going
 pub mod Looking
+pub mod Signalling
+pub mod Copies

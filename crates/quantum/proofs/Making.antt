@@ -52,8 +52,8 @@ set_same [] n t here = absurd (cc)
 set_same (u ∷ threads) zero t here = ap (λ (v : FlatThread). v ∷ threads) (sym (same_Some u t here))
 set_same (u ∷ threads) (suc n) t here = ap (λ (ts : List FlatThread). u ∷ ts) (set_same threads n t here)
 
-pub made_begun : (c : Context) (kept : List (Option Dated)) → c.pc % 4 ≡ 0 → IsMade (record { first = c; context = c; views = []; kept = kept; steps = 0; paused = None })
-made_begun c kept aligned = record {
+pub made_begun : (c : Context) (most : ℕ) (kept : List (Option Dated)) → c.pc % 4 ≡ 0 → IsMade (record { first = c; context = c; most = most; views = []; kept = kept; steps = 0; paused = None })
+made_begun c most kept aligned = record {
   aligned = aligned;
   one_a_page = λ i j d below within. absurd (omega (arith, within));
   changes = [];
@@ -122,12 +122,12 @@ none_found {X = X} p (y ∷ xs) none x there = by (p y) refl none (Contains-case
 pub true_false : {P : Type 0} → true ≡ false → P
 true_false e = absurd (cc)
 
-module _ (vs : List View) (cs : List Change) (of : AreOf vs cs) (views : (v : View) → Contains vs v → IsView vs cs v) (vpn : Vpn) (frame : Frame) (flags : Flags) (row : Ident) (bytes : List ℕ) (taken : Option ℕ) (room : can_fill vs vpn ≡ true) where
+module _ (vs : List View) (cs : List Change) (of : AreOf vs cs) (views : (v : View) → Contains vs v → IsView vs cs v) (vpn : Vpn) (frame : Frame) (flags : Flags) (row : Ident) (bytes : List ℕ) (taken : Option ℕ) (most : ℕ) (room : can_fill most vs vpn ≡ true) where
   abbrev new : View
   new = filled vs vpn frame flags row bytes taken
 
   other_page : (v : View) → Contains vs v → v.vpn.0 ≢ vpn.0
-  other_page v there = λ same. true_false (sym (eq-eqb v.vpn.0 vpn.0 same) ∙ none_found (is_of_page vpn) vs (no_view vs vpn room) v there)
+  other_page v there = λ same. true_false (sym (eq-eqb v.vpn.0 vpn.0 same) ∙ none_found (is_of_page vpn) vs (no_view most vs vpn room) v there)
 
   -- the contents are those that the others make it have
   new_present : ((u : View) → Contains (touched_views vs) u → u.frame.0 ≡ frame.0 → u.first ≡ bytes) → (o : Option View) → find (is_touched_of frame) vs ≡ o → present_in o bytes ≡ put_on cs frame.0 bytes
@@ -170,7 +170,7 @@ could_before a b s t first grows could = record {
   views = shows_before a.views b.views grows s t.space could.views;
 }
 
-pub made_filled : (a : Ahead) (vpn : Vpn) (frame : Frame) (flags : Flags) (row : Ident) (bytes : List ℕ) (taken : Option ℕ) → IsMade a → can_fill a.views vpn ≡ true
+pub made_filled : (a : Ahead) (vpn : Vpn) (frame : Frame) (flags : Flags) (row : Ident) (bytes : List ℕ) (taken : Option ℕ) → IsMade a → can_fill a.most a.views vpn ≡ true
     → IsMade (more_with (filled a.views vpn frame flags row bytes taken) a)
 made_filled a vpn frame flags row bytes taken made room =
     let new : View = filled a.views vpn frame flags row bytes taken in
@@ -178,23 +178,23 @@ made_filled a vpn frame flags row bytes taken made room =
     let b : Ahead = more_with new a in
     record {
       aligned = made.aligned;
-      one_a_page = one_filled a.views new room made.one_a_page;
+      one_a_page = one_filled a.most a.views new room made.one_a_page;
       changes = made.changes;
       of = of_later a.views (a.views ++ new ∷ []) grows made.changes made.of;
-      views = views_more a.views made.changes made.of made.views vpn frame flags row bytes taken room;
+      views = views_more a.views made.changes made.of made.views vpn frame flags row bytes taken a.most room;
       each = λ s n t formed here could k below.
           goes_later a.views (a.views ++ new ∷ []) grows (state_after s n k) n t.space (made.each s n t formed here (could_before a b s t refl grows could) k below);
       ahead = λ s n t formed here could. made.ahead s n t formed here (could_before a b s t refl grows could);
     }
 
 -- with a view more of what was kept, if it was
-pub made_again : (a : Ahead) (vpn : Vpn) (frame : Frame) (flags : Flags) (row : Ident) (o : Option Dated) → IsMade a → can_fill a.views vpn ≡ true → IsMade (again_with vpn frame flags row o a)
+pub made_again : (a : Ahead) (vpn : Vpn) (frame : Frame) (flags : Flags) (row : Ident) (o : Option Dated) → IsMade a → can_fill a.most a.views vpn ≡ true → IsMade (again_with vpn frame flags row o a)
 made_again a vpn frame flags row None made room = made
 made_again a vpn frame flags row (Some d) made room = made_filled a vpn frame flags row d.bytes (Some d.place) made room
 
 -- .. as the table has it
-pub again_so : (a : Ahead) (vpn : Vpn) (frame : Frame) (flags : Flags) (row : Ident) (o : Option Dated) → let t : Table = record { views = a.views; kept = a.kept } in
-    record a { views = (refilled t vpn frame flags row o).views; kept = (refilled t vpn frame flags row o).kept } ≡ again_with vpn frame flags row o a
+pub again_so : (a : Ahead) (vpn : Vpn) (frame : Frame) (flags : Flags) (row : Ident) (o : Option Dated) → let t : Table = record { most = a.most; views = a.views; kept = a.kept } in
+    record a { most = (refilled t vpn frame flags row o).most; views = (refilled t vpn frame flags row o).views; kept = (refilled t vpn frame flags row o).kept } ≡ again_with vpn frame flags row o a
 again_so a vpn frame flags row None = refl
 again_so a vpn frame flags row (Some d) = refl
 
@@ -370,18 +370,18 @@ not_a_miss (steps.Miss va access) other = absurd (other va access refl)
 pub made_so : (a : Ahead) → IsMade a → a.paused ≡ None → (us : List View) → us ≡ a.views → signals_next a ≡ false
     → (stepped : Stepped) → ((va : ℕ) (access : Access) → stepped ≡ steps.Miss va access → ⊥) → stepped ≡ (after_step a.context (pages_of_views us)).answer
     → (c : Context) → c ≡ (after_step a.context (pages_of_views us)).context
-    → (vs : List View) (kept : List (Option Dated)) → vs ≡ views_with us (after_step a.context (pages_of_views us)).pages → kept ≡ a.kept
+    → (most : ℕ) (vs : List View) (kept : List (Option Dated)) → most ≡ a.most → vs ≡ views_with us (after_step a.context (pages_of_views us)).pages → kept ≡ a.kept
     → (p : Option Paused) → p ≡ pause_after stepped
-    → IsMade (record { first = a.first; context = c; views = vs; kept = kept; steps = a.steps + 1; paused = p })
-made_so a made free us same quiet stepped other answer c same-context vs kept same-views same-kept p same-pause =
+    → IsMade (record { first = a.first; context = c; most = most; views = vs; kept = kept; steps = a.steps + 1; paused = p })
+made_so a made free us same quiet stepped other answer c same-context most vs kept same-most same-views same-kept p same-pause =
     let after = λ (ws : List View). after_step a.context (pages_of_views ws) in
     let is : stepped ≡ (outcome a).answer = answer ∙ ap (λ (ws : List View). (after ws).answer) same in
     let went : is_miss (outcome a).answer ≡ false = subst (λ (s : Stepped). is_miss s ≡ false) is (not_a_miss stepped other) in
     let context : c ≡ (outcome a).context = same-context ∙ ap (λ (ws : List View). (after ws).context) same in
     let views : vs ≡ views_with a.views (outcome a).pages = same-views ∙ ap (λ (ws : List View). views_with ws (after ws).pages) same in
     subst IsMade
-    (sym (ap₂ (λ (d : Context) (ws : List View). record { first = a.first; context = d; views = ws; kept = kept; steps = a.steps + 1; paused = p }) context views
-    ∙ ap (λ (ks : List (Option Dated)). record { first = a.first; context = (outcome a).context; views = views_with a.views (outcome a).pages; kept = ks; steps = a.steps + 1; paused = p }) same-kept
+    (sym (ap₂ (λ (d : Context) (ws : List View). record { first = a.first; context = d; most = most; views = ws; kept = kept; steps = a.steps + 1; paused = p }) context views
+    ∙ ap₂ (λ (m : ℕ) (ks : List (Option Dated)). record { first = a.first; context = (outcome a).context; most = m; views = views_with a.views (outcome a).pages; kept = ks; steps = a.steps + 1; paused = p }) same-most same-kept
     ∙ ap (λ (o : Option Paused). record (one_ahead a) { paused = o }) (same-pause ∙ ap pause_after is)))
     (made_ahead a made (ap standing free) quiet went)
 

@@ -35,13 +35,13 @@ same_views vs ws copies pages = sym (views_from vs ws copies) ∙ (ap (views_wit
 -- .. and so is a table of them
 pub table_from : (t u : Table) → rest_of u ≡ rest_of t → record t { views = views_with t.views (pages_of_views u.views) } ≡ u
 table_from t u same =
-    ap₂ (λ (vs : List View) (ks : List (Option Dated)). let x : Table = record { views = vs; kept = ks } in x) (views_from t.views u.views (ap (λ (p : List Copied × List (Option Dated)). p.0) same))
-    (sym (ap (λ (p : List Copied × List (Option Dated)). p.1) same))
+    ap₂ (λ (rest : ℕ × List Copied × List (Option Dated)) (vs : List View). let x : Table = record { most = rest.0; views = vs; kept = rest.2 } in x) (sym same)
+    (views_from t.views u.views (ap (λ (rest : ℕ × List Copied × List (Option Dated)). rest.1) same))
 
 pub same_table : (t u : Table) → rest_of u ≡ rest_of t → pages_of_views u.views ≡ pages_of_views t.views → u ≡ t
 same_table t u copies pages =
-    ap₂ (λ (vs : List View) (ks : List (Option Dated)). let x : Table = record { views = vs; kept = ks } in x) (same_views t.views u.views (ap (λ (p : List Copied × List (Option Dated)). p.0) copies) pages)
-    (ap (λ (p : List Copied × List (Option Dated)). p.1) copies)
+    ap₂ (λ (rest : ℕ × List Copied × List (Option Dated)) (vs : List View). let x : Table = record { most = rest.0; views = vs; kept = rest.2 } in x) copies
+    (same_views t.views u.views (ap (λ (rest : ℕ × List Copied × List (Option Dated)). rest.1) copies) pages)
 
 -- a page, and a view, after changes
 abbrev pub page_after : List Change → Page → Page

@@ -1,5 +1,5 @@
 -- A run ahead: what it has come to, what a step makes of it, and where it pauses.
-use Rattle.std.specs.Prelude.{◌≡◌, ℕ, zero, suc, ◌+◌, ◌%◌, ◌<◌, ◌&&◌, Bool, false, if◌then◌else◌, nat_le, List, [], ◌∷◌, ◌++◌, drop, replicate, Option, Some, None}
+use Rattle.std.specs.Prelude.{◌≡◌, ℕ, zero, suc, ◌+◌, ◌*◌, ◌/◌, ◌%◌, ◌<◌, ◌&&◌, Bool, true, false, if◌then◌else◌, nat_le, List, [], ◌∷◌, ◌++◌, drop, replicate, Option, Some, None}
 use Rattle.std.specs.Option.{option_or}
 use Rattle.cache_ident.specs.declared.idents.Ident.{Ident}
 use Rattle.cache_ident.specs.declared.names.Frame.{Frame}
@@ -7,44 +7,48 @@ use Rattle.cache_ident.specs.declared.names.Vpn.{Vpn}
 use Rattle.phys_groups.specs.declared.rows.Flags.{Flags}
 use Rattle.signal_pages.specs.Signals.{is_signalling}
 use Rattle.rv32_exec.specs.declared.contexts.Context.{Context}
-use Rattle.rv32_exec.specs.declared.statuses.Access.TheVariants.{Write}
+use Rattle.rv32_exec.specs.declared.statuses.Access.TheVariants.{Fetch, Write}
 use Rattle.rv32_exec.specs.declared.spaces.Width.TheVariants.{Word}
 use Rattle.rv32_exec.specs.declared.actions.Action.{Action}
 use Rattle.rv32_exec.specs.declared.actions.Action.TheVariants.{Store}
 use Rattle.rv32_exec.specs.declared.steps.Stepped.{Stepped}
 use Rattle.rv32_exec.specs.declared.steps.Stepped.TheVariants as steps
-use Rattle.rv32_exec.specs.Pages.{Page}
+use Rattle.rv32_exec.specs.Pages.{Page, stored, touched_at}
+use Rattle.rv32_exec.specs.Registers.{next_of}
 use Rattle.rv32_exec.specs.Steps.{After, after_step}
 use Rattle.flat_state.specs.Signals.{next_action}
-use Rattle.page_views.specs.Views.{all_dated, filled, nothing_kept, pages_of_views, view_through, Dated, View}
+use Rattle.page_views.specs.Views.{all_dated, copies_of, filled, nothing_kept, pages_of_views, view_through, Dated, View}
 use Rattle.quantum.specs.declared.paused.Paused.{Paused}
+use Rattle.quantum.specs.declared.paused.SignalStore.{SignalStore}
 use Rattle.quantum.specs.declared.paused.Paused.TheVariants.{Limit, Call, Stopped, Miss, Signal}
 
--- what a contract sees of a run ahead: the context that it began with and the one now, the views, what is kept for each place
--- behind them, how many steps it took, and the last answer
+-- what a contract sees of a run ahead: the context that it began with and the one now, how many views there may be, the views,
+-- what is kept for each place behind them, how many steps it took, and the last answer
 pub record Ahead : Type 0 where
   pub first : Context
   pub context : Context
+  pub most : ℕ
   pub views : List View
   pub kept : List (Option Dated)
   pub steps : ℕ
   pub paused : Option Paused
 
--- nothing was begun yet: all registers are 0, and so is pc, and nothing is kept
-abbrev pub unbegun : Ahead
-unbegun =
+-- nothing was begun yet, with room for so many views: all registers are 0, and so is pc, and nothing is kept
+abbrev pub unbegun : ℕ → Ahead
+unbegun most =
     record {
       first = record { regs = replicate 32 0; pc = 0 };
       context = record { regs = replicate 32 0; pc = 0 };
+      most = most;
       views = [];
-      kept = nothing_kept;
+      kept = nothing_kept most;
       steps = 0;
       paused = None;
     }
 
 -- a run ahead that begins with a context. What carried a place is kept
 abbrev pub begun : Context → Ahead → Ahead
-begun context a = record { first = context; context = context; views = []; kept = all_dated a.views a.kept; steps = 0; paused = None }
+begun context a = record a { first = context; context = context; views = []; kept = all_dated a.views a.kept; steps = 0; paused = None }
 
 -- with a view more. What was kept in its place is gone
 abbrev pub more_with : View → Ahead → Ahead
@@ -54,6 +58,11 @@ more_with v a = record a { views = a.views ++ v ∷ []; kept = drop 1 a.kept }
 abbrev pub again_with : Vpn → Frame → Flags → Ident → Option Dated → Ahead → Ahead
 again_with vpn frame flags row None a = a
 again_with vpn frame flags row (Some d) a = more_with (filled a.views vpn frame flags row d.bytes (Some d.place)) a
+
+-- nothing of what was copied changed: not what the views were copied from, and not what is kept
+pub record HasSameCopies (before after : Ahead) : Type 0 where
+  pub views : copies_of after.views ≡ copies_of before.views
+  pub kept : after.kept ≡ before.kept
 
 -- the views, when their pages are these
 abbrev pub views_with : List View → List Page → List View
@@ -103,6 +112,31 @@ signals_next a = signals_by a.views (next_action a.context (pages_of_views a.vie
 abbrev pub pause_if_missed : Stepped → Option Paused
 pause_if_missed (steps.Miss va access) = Some (Miss va access)
 pause_if_missed _ = None
+
+-- what a store of a word would do, if it signals
+abbrev pub store_if : Context → ℕ → ℕ → Bool → Option SignalStore
+store_if c va value true = Some (record { vpn = record { 0 = va / 4096 }; offset = va % 4096; word = value; context = record c { pc = next_of c } })
+store_if c va value false = None
+
+abbrev pub store_by : Context → List View → Option Action → Option SignalStore
+store_by c vs (Some (Store va Word value)) = store_if c va value (signals_through va (view_through vs Write va))
+store_by c vs _ = None
+
+abbrev pub is_signal : Option Paused → Bool
+is_signal (Some Signal) = true
+is_signal _ = false
+
+-- what the store that signals would do before which the run pauses, if it pauses before one
+abbrev pub signal_store : Ahead → Option SignalStore
+signal_store a = if is_signal a.paused then store_by a.context a.views (next_action a.context (pages_of_views a.views)) else None
+
+-- The store is the next step, as a step over the views' pages: its word comes to the offset in the page, in every view of the
+-- frame; the fetch and the store leave their marks, and the context is the one behind it.
+pub record IsStoreAhead (a : Ahead) (store : SignalStore) : Type 0 where
+  pub signals : signals_next a ≡ true
+  pub goes_on : (outcome a).answer ≡ steps.Next
+  pub context : (outcome a).context ≡ store.context
+  pub pages : (outcome a).pages ≡ (let va = 4096 * store.vpn.0 + store.offset in touched_at (touched_at (stored (pages_of_views a.views) va Word store.word) a.context.pc Fetch) va Write)
 
 -- a step that can't be taken ahead
 abbrev pub pause_before : Ahead → Option Paused

@@ -1,22 +1,23 @@
 //! Steps of one thread, taken on copied pages.
 
-ghost use Rattle.std.specs.Prelude.{◌≡◌, ◌+◌, ◌%◌, ◌^◌, ◌<◌, None, Some, is_some, length, IfOk, IsTrue};
+ghost use Rattle.std.specs.Prelude.{◌≡◌, ◌+◌, ◌%◌, ◌^◌, ◌<◌, ◌≤◌, None, Some, is_some, length, IfOk, IfSome, IsTrue};
 ghost use Rattle.page_views.specs.Views.{can_fill, filled, kept_since, pages_of_views, HaveOneViewAPage};
 ghost use Rattle.rv32_exec.specs.Steps.{after_step, OnMiss};
 ghost use Rattle.flat_state.specs.Signals.{next_action};
-ghost use Rattle.quantum.specs.Ahead.{advanced, again_with, answer_of, begun, more_with, pause_after as pause_after_def, pause_before, signals_by, standing as standing_def, unbegun, views_with, HasGone, IsRun};
+ghost use Rattle.quantum.specs.Ahead.{advanced, again_with, answer_of, begun, more_with, pause_after as pause_after_def, pause_before, is_signal as is_signal_def, signal_store as signal_store_def, signals_by, standing as standing_def, store_by, unbegun, views_with, HasGone, HasSameCopies, IsRun, IsStoreAhead};
 ghost use Rattle.quantum.specs.LocalRun.{HaveOneContents, IsLocalRun};
 
-use crate::paused::Paused;
+use crate::paused::{Paused, SignalStore};
 use cache_ident::{Frame, Ident, NoMemory, Vpn};
-use page_views::{PageView, PageViews};
+use page_views::{MOST_VIEWS, PageView, PageViews};
 use phys_groups::Flags;
 use rv32_exec::{Access, Action, Context, Space, Stepped, Width, action_for, step};
+use rv32_isa::decode;
 use std::alloc::Global;
 use std::marker::Model;
 
-/// Steps of one thread ahead of its machine, on copies of up to eight pages. A contract sees the context that it began
-/// with, the one now, the views, what is kept of earlier views, how many steps there are, and the last answer of `run`.
+/// Steps of one thread ahead of its machine, on copies of as many pages as it was made for. A contract sees the context that it
+/// began with, the one now, how many views there may be, the views, what is kept of earlier views, how many steps there are, and the last answer of `run`.
 ///
 /// Whatever pages were copied at whatever moments, the steps are those that the thread takes in every state in which it
 /// has the first context and finds the first contents of each view that was touched. No call after `new` takes memory.
@@ -35,21 +36,23 @@ impl Model for Quantum {
 
     ghost Value = { Ahead };
 
-    ghost view = { λ q. record { first = q.first; context = q.context; views = q.views.views; kept = q.views.kept; steps = q.steps; paused = q.paused } };
+    ghost view = { λ q. record { first = q.first; context = q.context; most = q.views.most; views = q.views.views; kept = q.views.kept; steps = q.steps; paused = q.paused } };
 
-    ghost invariant = { λ q. IsMade (record { first = q.first; context = q.context; views = q.views.views; kept = q.views.kept; steps = q.steps; paused = q.paused }) };
+    ghost invariant = { λ q. IsMade (record { first = q.first; context = q.context; most = q.views.most; views = q.views.views; kept = q.views.kept; steps = q.steps; paused = q.paused }) };
 }
 
 impl Quantum {
-    /// Begun with registers and pc of 0, without views and steps, and nothing kept. The one call that takes memory, some 100 KiB.
-    pub fn new(alloc: Global) -> Result<Quantum, NoMemory>
-        ensures { IfOk result (λ quantum. quantum ≡ unbegun) }
+    /// Begun with registers and pc of 0, with room for so many views, without views and steps, and nothing kept. The one call that
+    /// takes memory: some 8 KiB for each view and 32 KiB for words, none of which is written before it is used.
+    pub fn new(alloc: Global, most: usize) -> Result<Quantum, NoMemory>
+        requires { most ≤ MOST_VIEWS }
+        ensures { IfOk result (λ quantum. quantum ≡ unbegun most) }
     {
         let context = no_context();
         Ok(Quantum {
             first: context,
             context,
-            views: PageViews::new(alloc)?,
+            views: PageViews::new(alloc, most)?,
             steps: 0,
             paused: None,
         })
@@ -69,7 +72,7 @@ impl Quantum {
 
     /// Gives up all that there is. It is as a new one, which may be used with another journal.
     pub fn forget(&mut self)
-        ensures { self.new ≡ unbegun }
+        ensures { self.new ≡ unbegun self.old.most }
     {
         let context = no_context();
         self.first = context;
@@ -81,7 +84,7 @@ impl Quantum {
 
     /// Whether there is room for the view of a page that has none.
     pub fn can_fill(&self, vpn: Vpn) -> bool
-        ensures { result ≡ can_fill self.now.views vpn }
+        ensures { result ≡ can_fill self.now.most self.now.views vpn }
     {
         self.views.can_fill(vpn)
     }
@@ -89,7 +92,7 @@ impl Quantum {
     /// Adds an untouched view of a page, copied from `bytes`. Where a view of its frame was touched, it holds what the
     /// first of these holds now. The bytes carry no place, and what was kept in the view's place is gone. All else stays.
     pub fn fill(&mut self, vpn: Vpn, frame: Frame, flags: Flags, row: Ident, bytes: &[u8])
-        requires room { IsTrue (can_fill self.old.views vpn) }
+        requires room { IsTrue (can_fill self.old.most self.old.views vpn) }
         requires whole_page { length bytes.now ≡ 4096 }
         ensures { self.new ≡ more_with (filled self.old.views vpn frame flags row bytes.now None) self.old }
     {
@@ -106,7 +109,7 @@ impl Quantum {
         bytes: &[u8],
         place: u64,
     )
-        requires room { IsTrue (can_fill self.old.views vpn) }
+        requires room { IsTrue (can_fill self.old.most self.old.views vpn) }
         requires whole_page { length bytes.now ≡ 4096 }
         ensures { self.new ≡ more_with (filled self.old.views vpn frame flags row bytes.now (Some place)) self.old }
     {
@@ -117,7 +120,7 @@ impl Quantum {
     /// a later one, and no view of the frame was touched; and answers whether it did. So the pages that are asked for in the
     /// same order each time aren't copied again.
     pub fn refill(&mut self, vpn: Vpn, frame: Frame, flags: Flags, row: Ident, since: u64) -> bool
-        requires room { IsTrue (can_fill self.old.views vpn) }
+        requires room { IsTrue (can_fill self.old.most self.old.views vpn) }
         ensures answer { result ≡ is_some (kept_since self.old.views self.old.kept frame since) }
         ensures views { self.new ≡ again_with vpn frame flags row (kept_since self.old.views self.old.kept frame since) self.old }
     {
@@ -162,11 +165,26 @@ impl Quantum {
         self.paused
     }
 
+    /// What the store that signals would do before which the run pauses, and `None` where it doesn't pause before one. The step
+    /// isn't taken, and all stays. It costs a fetch and a decoding.
+    pub fn signal_store(&self) -> Option<SignalStore>
+        ensures store { result ≡ signal_store_def self.now }
+        ensures effect { IfSome result (IsStoreAhead self.now) }
+    {
+        if is_signal(self.paused) {
+            next_store(&self.views, &self.context)
+        } else {
+            None
+        }
+    }
+
     /// Takes steps until there are `limit` of them, or something else is met: a call or the end of the thread, before the
     /// limit; and before a step that signals, or that needs a page that no view has. It waits for nobody.
     pub fn run(&mut self, limit: u32) -> Paused
         ensures run { IsRun limit self.old self.new result }
         ensures local_run { IsLocalRun self.new }
+        ensures copies { HasSameCopies self.old self.new }
+        ensures store { is_some (signal_store_def self.new) ≡ is_signal_def (Some result) }
     {
         if let Some(paused) = standing(self.paused) {
             return paused;
@@ -216,7 +234,7 @@ impl Quantum {
 }
 
 fn no_context() -> Context
-    ensures { result ≡ unbegun.context }
+    ensures { result ≡ (unbegun 0).context }
 {
     Context {
         regs: [0; 32],
@@ -293,5 +311,46 @@ fn signals(views: &PageViews, action: Action) -> bool
             None => false,
         },
         _ => false,
+    }
+}
+
+fn is_signal(paused: Option<Paused>) -> bool
+    ensures { result ≡ is_signal_def paused }
+{
+    match paused {
+        Some(Paused::Signal) => true,
+        _ => false,
+    }
+}
+
+// What the next step would do, if it is a store that signals.
+fn next_store(views: &PageViews, context: &Context) -> Option<SignalStore>
+    requires { context.now.pc % 4 ≡ 0 }
+    ensures { result ≡ store_by context.now views.now.views (next_action context.now (pages_of_views views.now.views)) }
+{
+    let Ok(word) = views.fetch(context.pc) else {
+        return None;
+    };
+    match decode(word) {
+        Some(instr) => store_of(views, context, action_for(context, instr)),
+        None => None,
+    }
+}
+
+// What an action would do, if it is a store that signals.
+fn store_of(views: &PageViews, context: &Context, action: Action) -> Option<SignalStore>
+    ensures { result ≡ store_by context.now views.now.views (Some action) }
+{
+    match action {
+        Action::Store { va, value, .. } if signals(views, action) => Some(SignalStore {
+            vpn: Vpn(va / 4_096),
+            offset: va % 4_096,
+            word: value,
+            context: Context {
+                pc: context.pc.wrapping_add(4),
+                ..*context
+            },
+        }),
+        _ => None,
     }
 }

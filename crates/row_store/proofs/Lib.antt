@@ -1,3 +1,4 @@
+pub mod FrameLemmas
 pub mod ListLemmas
 pub mod SignalLemmas
 pub mod ContentLemmas

@@ -24,17 +24,18 @@ use Rattle.sorted_list.proofs.RisingLemmas.{by_parts_total}
 use Rattle.sorted_list.proofs.UnderLemmas.{entry_of_value, value_of_entry}
 use Rattle.slot_cache.specs.Rows.{row_name}
 use Rattle.owner_shelf.proofs.NameLemmas.{eq_apart, eq_same}
-use Rattle.mapping_cache.specs.Frames.{IsIndexed}
-use Rattle.mapping_cache.proofs.FrameLemmas.{frame_itself, indexed-new, same_frame}
 use Rattle.kind_store.specs.Kept.{content_of, Kept}
 use Rattle.kind_store.specs.Changes.{HasContent, HasNoContent}
 use Rattle.kind_store.proofs.ContentLemmas.{cases_name}
 use Rattle.declared_names.specs.Order.{entries_without, is_of, names_in, AreInOrder, InOrder}
 use Rattle.declared_names.proofs.OrderLemmas.{less_first}
+use Rattle.row_store.specs.declared.frames.RowsOf.{RowsOf}
+use Rattle.row_store.specs.Frames.{IsIndexed}
 use Rattle.row_store.specs.Kept.{is_signal, is_signal_of, signal_names, AreNamed, KeptRows}
 use Rattle.row_store.specs.Layout.{IsSignalIndex, IsSound}
 use Rattle.row_store.specs.Signals.{stamped_cmp, IsListed, IsUnlisted}
 use Rattle.row_store.proofs.ContentLemmas.{content_else, content_here, no_some, nothing_here, some_there, something_else, AreAlike}
+use Rattle.row_store.proofs.FrameLemmas.{frame_itself, indexed-new, same_frame}
 use Rattle.row_store.proofs.ListLemmas.{filter_map_second, once_second, one_second, same_items, values_rise}
 
 abbrev pub name_of : ℕ × Name → Name
@@ -51,7 +52,7 @@ some_there_is [] some = absurd (omega arith)
 some_there_is (x ∷ xs) some = (x, Contains-first xs x)
 
 -- nothing is sound
-module _ (cap : ℕ) (kept : Kept Row) (order : InOrder) (signals : Sorted Frame (ℕ × Name)) (by_frame : Sorted Frame Ident) where
+module _ (cap : ℕ) (kept : Kept Row) (order : InOrder) (signals : Sorted Frame (ℕ × Name)) (by_frame : Sorted RowsOf Ident) where
   no_content : (name : Name) → kept ≡ record { cells = replicate cap None; rows = []; room = 0 } → content_of row_name kept name ≡ content_of row_name (record { cells = replicate cap None; rows = []; room = 0 }) name
   no_content name is = ap (λ (k : Kept Row). content_of row_name k name) is
 
@@ -71,7 +72,7 @@ module _ (cap : ℕ) (kept : Kept Row) (order : InOrder) (signals : Sorted Frame
         signals_room = omega (arith, no_signal, signals_room);
       }
 
-module _ (room : ℕ) (kept : Kept Row) (order : InOrder) (signals : Sorted Frame (ℕ × Name)) (by_frame : Sorted Frame Ident) (sound : IsSound room kept order signals by_frame) where
+module _ (room : ℕ) (kept : Kept Row) (order : InOrder) (signals : Sorted Frame (ℕ × Name)) (by_frame : Sorted RowsOf Ident) (sound : IsSound room kept order signals by_frame) where
   -- what a reader learns
   pub named_seen : (sees : KeptRows) → record { kept = kept; names = names_in order; room = room } ≡ sees → AreNamed sees
   named_seen sees is = subst AreNamed is (record { once = once_second order.entries sound.in_order.once; named = sound.named })
@@ -106,7 +107,7 @@ module _ (room : ℕ) (kept : Kept Row) (order : InOrder) (signals : Sorted Fram
   }
 
   -- with other cells, where names and signals are alike
-  pub sound-alike : (new_kept : Kept Row) (new_by_frame : Sorted Frame Ident) → AreAlike kept new_kept → new_kept.room ≡ kept.room → IsIndexed new_kept.cells new_by_frame → IsSound room new_kept order signals new_by_frame
+  pub sound-alike : (new_kept : Kept Row) (new_by_frame : Sorted RowsOf Ident) → AreAlike kept new_kept → new_kept.room ≡ kept.room → IsIndexed new_kept.cells new_by_frame → IsSound room new_kept order signals new_by_frame
   sound-alike new_kept new_by_frame alike same_room indexed = record {
     in_order = sound.in_order;
     named = λ name. (λ there. alike.known name ∙ (sound.named name).0 there, λ some. (sound.named name).1 (sym (alike.known name) ∙ some));

@@ -39,13 +39,13 @@ pub record AreNamed (all : KeptRows) : Type 0 where
 abbrev pub ReceiverIs : List (Option (Loaded Row)) → ℕ → Option ThreadNo → Type 0
 ReceiverIs cells slot receiver = (loaded : Loaded Row) → cell_at cells slot ≡ Some loaded → loaded.value.receiver ≡ receiver
 
--- a call with what stands at the slot leaves its receiver
-abbrev pub KeepsReceiver : {R : Type 0} → (Row → R → Row → Type 0) → List (Option (Loaded Row)) → ℕ → Type 0
-KeepsReceiver {R} call cells slot = (loaded : Loaded Row) (result : R) (left : Row) → cell_at cells slot ≡ Some loaded → call loaded.value result left → left.receiver ≡ loaded.value.receiver
-
 -- a call with that row, if there is one, leaves its frame
 abbrev pub LeavesFrame : {R : Type 0} → (Row → R → Row → Type 0) → Option Row → Type 0
 LeavesFrame {R} call row = (was : Row) (result : R) (left : Row) → row ≡ Some was → call was result left → left.frame ≡ was.frame
+
+-- and its flags
+abbrev pub LeavesFlags : {R : Type 0} → (Row → R → Row → Type 0) → Option Row → Type 0
+LeavesFlags {R} call row = (was : Row) (result : R) (left : Row) → row ≡ Some was → call was result left → left.flags ≡ was.flags
 
 -- and its receiver
 abbrev pub LeavesReceiver : {R : Type 0} → (Row → R → Row → Type 0) → Option Row → Type 0

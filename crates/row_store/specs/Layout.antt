@@ -8,9 +8,10 @@ use Rattle.phys_groups.specs.declared.rows.Row.{Row}
 use Rattle.sorted_list.specs.Sorted.{Sorted}
 use Rattle.sorted_list.specs.Sorted.{IsProper as IsProperList}
 use Rattle.slot_cache.specs.Rows.{row_name}
-use Rattle.mapping_cache.specs.Frames.{IsIndexed}
 use Rattle.kind_store.specs.Kept.{Kept, content_of}
 use Rattle.declared_names.specs.Order.{names_in, AreInOrder, InOrder}
+use Rattle.row_store.specs.declared.frames.RowsOf.{RowsOf}
+use Rattle.row_store.specs.Frames.{IsIndexed}
 use Rattle.row_store.specs.Kept.{is_signal_of}
 use Rattle.row_store.specs.Signals.{stamped_cmp}
 
@@ -19,7 +20,7 @@ abbrev pub IsSignalIndex : Kept Row → List (ℕ × Name) → List (Frame × (�
 IsSignalIndex kept entries index = (entry : Frame × (ℕ × Name)) → Contains index entry ↔ (Contains entries entry.1 × (is_signal_of kept entry.0 entry.1.1 ≡ true))
 
 -- the names are those of all contents, both indexes list what they are for, and each list has room for so many more
-pub record IsSound (room : ℕ) (kept : Kept Row) (order : InOrder) (signals : Sorted Frame (ℕ × Name)) (by_frame : Sorted Frame Ident) : Type 0 where
+pub record IsSound (room : ℕ) (kept : Kept Row) (order : InOrder) (signals : Sorted Frame (ℕ × Name)) (by_frame : Sorted RowsOf Ident) : Type 0 where
   pub in_order : AreInOrder order.entries
   pub named : (name : Name) → Contains (names_in order) name ↔ IsSome (content_of row_name kept name)
   pub signals_listed : IsSignalIndex kept order.entries signals.entries

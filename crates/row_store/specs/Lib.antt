@@ -1,3 +1,4 @@
+pub mod Frames
 pub mod Signals
 pub mod Kept
 pub mod Layout

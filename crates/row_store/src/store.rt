@@ -12,21 +12,22 @@ ghost use Rattle.cache_ident.specs.declared.names.KernelNo.{KernelNo};
 ghost use Rattle.cache_ident.specs.declared.names.Name.{Name};
 ghost use Rattle.phys_groups.specs.declared.rows.Row.{Row};
 ghost use Rattle.sorted_list.specs.Sorted.{IsAdded};
-ghost use Rattle.slot_cache.specs.Cells.{changed, just_loaded, loaded_in, with_lock, with_value, HasExactlyLoaded, HasNoName, IsContent, IsFoundAs, IsFull, IsInOrderOfSlot, IsLoaded, IsLowestFree, IsVictim, KeepsName, LockIs, NameIs, NoneMayGo};
+ghost use Rattle.slot_cache.specs.Cells.{changed, just_loaded, loaded_in, with_lock, with_value, HasExactlyLoaded, HasNoName, IsContent, IsFoundAs, IsFull, IsInOrderOfSlot, IsLoaded, IsLowestFree, IsVictim, LockIs, NameIs, NoneMayGo};
 ghost use Rattle.slot_cache.specs.Rows.{row_name};
-ghost use Rattle.mapping_cache.specs.Frames.{FrameIs, IsRowOf, KeepsFrame};
+ghost use Rattle.row_store.specs.Frames.{rows_of, FlagsAre, FrameIs, IsRowOf};
 ghost use Rattle.owner_shelf.specs.Rows.{content_under, row_under, rows_without, LeavesName};
 ghost use Rattle.kind_store.specs.Kept.{content_of, AreOwned, IsExactlyOne};
 ghost use Rattle.kind_store.specs.Rolls.{all_but, in_order, AreEnrolled, ChangesOne, StaysEnrolled};
-ghost use Rattle.kind_store.specs.Changes.{is_name, HasContent, HasNoContent, IsLeaving, IsLoading, IsUpdating, IsUpdatingNamed, KeepsContents};
-ghost use Rattle.row_store.specs.Kept.{signal_names, AreNamed, KeepsReceiver, LeavesFrame, LeavesReceiver, ReceiverIs};
+ghost use Rattle.kind_store.specs.Changes.{is_name, HasContent, HasNoContent, IsLeaving, IsLoading, IsUpdatingNamed, KeepsContents};
+ghost use Rattle.row_store.specs.Kept.{signal_names, AreNamed, LeavesFlags, LeavesFrame, LeavesReceiver, ReceiverIs};
 
+use super::frames::{RowsOf, rows_with};
 use super::iter::SignalRows;
 use super::signals::{self, Signals};
 use cache_ident::{Frame, Ident, KernelNo, Name, NoMemory, Roll};
 use declared_names::DeclaredNames;
 use growing_list::{GrowingList, Values};
-use kind_store::KindStore;
+use kind_store::{Found, KindStore};
 use phys_groups::Row;
 use slot_cache::{Descriptor, Iter};
 use sorted_list::{Run, SortedList};
@@ -34,7 +35,8 @@ use std::alloc::Global;
 use std::marker::Model;
 
 /// The rows that stand, each name in one place at most, as in any `KindStore`. Beside these it lists their names in
-/// declared order, the signal rows of each frame, loaded or not, and the loaded rows of each frame.
+/// declared order, the signal rows of each frame, loaded or not, and the loaded rows of each frame, its message rows apart from
+/// its others.
 ///
 /// A contract sees what `KindStore` shows, the `names` of all rows in declared order, and the `room`, which is how many
 /// more rows there can be without memory. Only `new` and `make_room` take memory. Unless it says otherwise, a call takes
@@ -46,8 +48,8 @@ pub struct RowStore {
     rows: KindStore<Row>,
     order: DeclaredNames,
     signals: Signals,
-    // The identifiers of all loaded rows under their frames.
-    by_frame: SortedList<Frame, Ident>,
+    // The identifiers of all loaded rows, the message rows of each frame apart from its others.
+    by_frame: SortedList<RowsOf, Ident>,
 }
 
 impl Model for RowStore {
@@ -100,9 +102,7 @@ impl RowStore {
         ensures one { IsExactlyOne row_name Mapping self.now.kept }
         ensures named { AreNamed self.now }
     {
-        // Whoever asks the store for its room learns that each name is in one place.
-        let room = self.rows.room();
-        prove!(self.room <= room);
+        self.rows.each_is_one();
         self.room
     }
 
@@ -122,6 +122,26 @@ impl RowStore {
         signals::list(&mut self.signals, &value, (stamp, name));
         self.rows.declare(owner, value);
         self.room -= 1;
+    }
+
+    /// What holds of any rows: each name is in one place, and is that of a row where it was declared. It does nothing.
+    pub fn each_is_one(&self)
+        ensures one { IsExactlyOne row_name Mapping self.now.kept }
+        ensures named { AreNamed self.now }
+    {
+        self.rows.each_is_one();
+    }
+
+    /// The row of a name, wherever it is, and the identifier with which the name is loaded, if it is; `None` where there is
+    /// no row. One search where it is loaded.
+    pub fn found(&self, name: Name) -> Option<Found<'_, Row>>
+        ensures content { option_map (λ found. found.value.now) result ≡ content_of row_name self.now.kept name }
+        ensures loaded { IfSome result (λ found. IfSome found.ident (IsFoundAs row_name self.now.kept.cells name)) }
+        ensures shelved { IfSome result (λ found. IfNone found.ident (HasNoName row_name self.now.kept.cells name)) }
+        ensures one { IsExactlyOne row_name Mapping self.now.kept }
+        ensures named { AreNamed self.now }
+    {
+        self.rows.found(name)
     }
 
     /// The row of a name, wherever it is; `None` where there is none.
@@ -239,13 +259,27 @@ impl RowStore {
         self.signals.len() > 0
     }
 
-    /// The identifiers of the loaded rows of a frame, each once, in no order that a caller may rest on. Two searches in
-    /// what is loaded, and one for each that it gives.
-    pub fn of_frame(&self, frame: Frame) -> Run<'_, Frame, Ident>
-        ensures rows { (ident : Ident) → Contains result ident ↔ IsRowOf self.now.kept.cells frame ident }
+    /// The identifiers of the loaded message rows of a frame, each once, in no order that a caller may rest on. Two searches
+    /// in what is loaded, and one for each that it gives.
+    pub fn message_rows(&self, frame: Frame) -> Run<'_, RowsOf, Ident>
+        ensures rows { (ident : Ident) → Contains result ident ↔ IsRowOf self.now.kept.cells frame true ident }
         ensures once { AllPairs (λ a b. a ≢ b) result }
     {
-        self.by_frame.run(&frame)
+        self.by_frame.run(&RowsOf {
+            frame,
+            message: true,
+        })
+    }
+
+    /// The identifiers of the loaded rows of a frame that are no message rows, as `message_rows` gives those that are.
+    pub fn other_rows(&self, frame: Frame) -> Run<'_, RowsOf, Ident>
+        ensures rows { (ident : Ident) → Contains result ident ↔ IsRowOf self.now.kept.cells frame false ident }
+        ensures once { AllPairs (λ a b. a ≢ b) result }
+    {
+        self.by_frame.run(&RowsOf {
+            frame,
+            message: false,
+        })
     }
 
     /// Loads a row from the shelf into the lowest free slot, with an identifier that the roll issues now. It isn't
@@ -273,7 +307,7 @@ impl RowStore {
         let Some(row) = self.rows.get(ident) else {
             unreachable!()
         };
-        self.by_frame.insert(row.frame, ident);
+        self.by_frame.insert(rows_with(row), ident);
         ident
     }
 
@@ -296,7 +330,7 @@ impl RowStore {
         let Some(row) = self.rows.get(ident) else {
             unreachable!()
         };
-        self.by_frame.remove(row.frame, ident);
+        self.by_frame.remove(rows_with(row), ident);
         self.rows.leave(ident, owner, roll, at);
     }
 
@@ -326,12 +360,13 @@ impl RowStore {
         self.rows.unlock(ident);
     }
 
-    /// Puts a row of the same name, frame and receiver in the place of the one that is loaded with an identifier, and
+    /// Puts a row of the same name, frame, flags and receiver in the place of the one that is loaded with an identifier, and
     /// gives the old one back. Constant time.
     pub fn change(&mut self, ident: Ident, value: Row) -> Row
         requires loaded { IsLoaded self.old.kept.cells ident }
         requires name { NameIs row_name self.old.kept.cells ident.slot (row_name value) }
         requires frame { FrameIs self.old.kept.cells ident.slot value.frame }
+        requires flags { FlagsAre self.old.kept.cells ident.slot value.flags }
         requires receiver { ReceiverIs self.old.kept.cells ident.slot value.receiver }
         ensures content { IsContent self.old.kept.cells ident result }
         ensures after { self.new.kept ≡ record self.old.kept { cells = changed self.old.kept.cells ident.slot (with_value value) } }
@@ -341,32 +376,13 @@ impl RowStore {
         ensures order { ChangesOne ident (with_value value) self.old.kept.cells self.new.kept.cells }
         ensures enrolled { StaysEnrolled Mapping self.old.kept.cells self.new.kept.cells }
     {
-        let room = self.rows.room();
-        prove!(self.room <= room);
+        self.rows.each_is_one();
         self.rows.change(ident, value)
     }
 
-    /// Changes a loaded row where it stands, but for its name, frame and receiver, and gives what the change gives. The
-    /// row isn't moved. Constant time.
-    pub fn update<R, F: FnOnce(&mut Row) -> R>(&mut self, ident: Ident, change: F) -> R
-        requires loaded { IsLoaded self.old.kept.cells ident }
-        requires callable { F.IsAlwaysCallable change }
-        requires name { KeepsName row_name (FnOnceReturnsAtMut F.FnOnce change) self.old.kept.cells ident.slot }
-        requires frame { KeepsFrame (FnOnceReturnsAtMut F.FnOnce change) self.old.kept.cells ident.slot }
-        requires receiver { KeepsReceiver (FnOnceReturnsAtMut F.FnOnce change) self.old.kept.cells ident.slot }
-        ensures updated { IsUpdating row_name (FnOnceReturnsAtMut F.FnOnce change) self.old.kept self.new.kept ident result }
-        ensures names { self.new.names ≡ self.old.names }
-        ensures room { self.new.room ≡ self.old.room }
-        ensures enrolled { StaysEnrolled Mapping self.old.kept.cells self.new.kept.cells }
-    {
-        let room = self.rows.room();
-        prove!(self.room <= room);
-        self.rows.update(ident, change)
-    }
-
-    /// Changes the row of a name where it stands, in its slot or on the shelf, but for its name, frame and receiver, and
-    /// gives what the change gives. The row isn't moved. Where the name is loaded with the
-    /// identifier `near`, that takes constant time.
+    /// Changes the row of a name where it stands, in its slot or on the shelf, but for its name, frame, flags and
+    /// receiver, and gives what the change gives. The row isn't moved. Where the name is loaded with the identifier `near`,
+    /// that takes constant time.
     pub fn update_named<R, F: FnOnce(&mut Row) -> R>(
         &mut self,
         name: Name,
@@ -377,6 +393,7 @@ impl RowStore {
         requires callable { F.IsAlwaysCallable change }
         requires named { LeavesName row_name (FnOnceReturnsAtMut F.FnOnce change) (content_of row_name self.old.kept name) }
         requires frame { LeavesFrame (FnOnceReturnsAtMut F.FnOnce change) (content_of row_name self.old.kept name) }
+        requires flags { LeavesFlags (FnOnceReturnsAtMut F.FnOnce change) (content_of row_name self.old.kept name) }
         requires receiver { LeavesReceiver (FnOnceReturnsAtMut F.FnOnce change) (content_of row_name self.old.kept name) }
         ensures updated { IsUpdatingNamed row_name (FnOnceReturnsAtMut F.FnOnce change) self.old.kept self.new.kept name result }
         ensures names { self.new.names ≡ self.old.names }
@@ -384,8 +401,7 @@ impl RowStore {
         ensures owned { (owner_of : Name → Option KernelNo) → AreOwned row_name owner_of self.old.kept.rows → AreOwned row_name owner_of self.new.kept.rows }
         ensures enrolled { StaysEnrolled Mapping self.old.kept.cells self.new.kept.cells }
     {
-        let room = self.rows.room();
-        prove!(self.room <= room);
+        self.rows.each_is_one();
         self.rows.update_named(name, near, change)
     }
 

@@ -1,5 +1,5 @@
 -- The loaded rows of a frame are residents.
-use Rattle.std.proofs.Common.{◌≡◌, ◌↔◌, Some, sym, ◌∙◌, ap, subst, refl}
+use Rattle.std.proofs.Common.{◌≡◌, ◌↔◌, Bool, Some, sym, ◌∙◌, ap, subst, refl}
 use Rattle.std.specs.Option.{option_map}
 use Rattle.cache_ident.specs.declared.idents.Ident.{Ident}
 use Rattle.cache_ident.specs.declared.idents.Kind.{Kind}
@@ -9,7 +9,7 @@ use Rattle.phys_groups.specs.declared.rows.Row.{Row}
 use Rattle.slot_cache.specs.Rows.{row_name}
 use Rattle.slot_cache.proofs.SlotLemmas.{some_same}
 use Rattle.kernel_cache.specs.Kernels as kernel_rec
-use Rattle.mapping_cache.specs.Frames.{IsRowOf}
+use Rattle.row_store.specs.Frames.{IsRowOf}
 use Rattle.space_cache.specs.Spaces as space_rec
 use Rattle.thread_cache.specs.Threads as thread_rec
 use Rattle.desc_stores.specs.declared.items.Item.{Item}
@@ -33,10 +33,10 @@ same_row : (a b : Row) → Some (item.Mapping a) ≡ Some (item.Mapping b) → a
 unfolding row_in
 same_row a b same = ap (row_in a) (some_same (item.Mapping a) (item.Mapping b) same)
 
-pub rows_on_frame : (c : Contents) → IsExactlyOne c → (frame : Frame) (ident : Ident) → IsRowOf c.rows.kept.cells frame ident ↔ IsResidentOn c frame ident
-rows_on_frame c one frame ident = (listed, back)
+pub rows_on_frame : (c : Contents) → IsExactlyOne c → (frame : Frame) (message : Bool) (ident : Ident) → IsRowOf c.rows.kept.cells frame message ident ↔ IsResidentOn c frame message ident
+rows_on_frame c one frame message ident = (listed, back)
   where
-    listed : IsRowOf c.rows.kept.cells frame ident → IsResidentOn c frame ident
+    listed : IsRowOf c.rows.kept.cells frame message ident → IsResidentOn c frame message ident
     listed is =
         let row = is.0.value in
         record {
@@ -46,12 +46,13 @@ rows_on_frame c one frame ident = (listed, back)
           row = row;
           content = ap (option_map item.Mapping) (loaded_content row_name kind.Mapping c.rows.kept one.rows ident.slot is.0 is.1 (row_name row) refl);
           on = is.3;
+          flag = is.4;
         }
 
-    back : IsResidentOn c frame ident → IsRowOf c.rows.kept.cells frame ident
-    back is = subst (IsRowOf c.rows.kept.cells frame) is.own (by is.resident.ident.kind (resident_loaded c is.resident is.there))
+    back : IsResidentOn c frame message ident → IsRowOf c.rows.kept.cells frame message ident
+    back is = subst (IsRowOf c.rows.kept.cells frame message) is.own (by is.resident.ident.kind (resident_loaded c is.resident is.there))
       where
-        by : (k : Kind) → resident_in c k is.resident.ident ≡ Some is.resident → IsRowOf c.rows.kept.cells frame is.resident.ident
+        by : (k : Kind) → resident_in c k is.resident.ident ≡ Some is.resident → IsRowOf c.rows.kept.cells frame message is.resident.ident
         by kind.Kernel held =
             let l = loaded_of c kernel_rec.name_of kind.Kernel c.kernels item.Kernel one.kernels (λ v. refl) is.resident.ident is.resident held in
             absurd (cc (sym l.3 ∙ is.content))
@@ -63,4 +64,5 @@ rows_on_frame c one frame ident = (listed, back)
             absurd (cc (sym l.3 ∙ is.content))
         by kind.Mapping held =
             let l = loaded_of c row_name kind.Mapping c.rows.kept item.Mapping one.rows (λ v. refl) is.resident.ident is.resident held in
-            (l.0, l.1, l.2, ap (λ (row : Row). row.frame) (same_row l.0.value is.row (sym l.3 ∙ is.content)) ∙ is.on)
+            let same = same_row l.0.value is.row (sym l.3 ∙ is.content) in
+            (l.0, l.1, l.2, ap (λ (row : Row). row.frame) same ∙ is.on, ap (λ (row : Row). row.flags.m) same ∙ is.flag)

@@ -15,7 +15,7 @@ ghost use Rattle.desc_stores.specs.Changes.{relocked, with_item, IsDeclaring, Is
 ghost use Rattle.desc_stores.specs.Contents.{content_of, item_as, resident_as, residents_of, Contents, HasNoResident, IsFullOf, IsLowestFreeOf, IsResidentAs, IsShelved, IsVictimOf, LockIs, NoneMayGoOf};
 ghost use Rattle.desc_stores.specs.Sound.{IsExactlyOne};
 ghost use Rattle.desc_stores.specs.declared.items.Item.{Item};
-ghost use Rattle.mapping_cache.specs.Frames.{IsRowOf};
+ghost use Rattle.row_store.specs.Frames.{IsRowOf};
 ghost use Rattle.run_journal.specs.Legal.{count_of, IsTaken};
 ghost use Rattle.journal_laws.specs.Leaving.{HaveOneEach};
 ghost use Rattle.resident_pairs.specs.Among.{AreFew, HasNoIdent};
@@ -64,9 +64,10 @@ pub fn a_resident_has_a_content()
     ensures shelved { (c : Contents) (name : Name) → IsExactlyOne c → IsShelved c name ↔ (IsSome (content_of c name) × (IsNameResident (residents_of c) name → ⊥)) }
 {}
 
-/// A row that is listed under a frame is a resident, whose content is a row of the frame, and each such resident is listed.
+/// A row that is listed under a frame, among its message rows or its others, is a resident, whose content is such a row of the
+/// frame, and each such resident is listed.
 pub fn rows_of_a_frame_are_residents()
-    ensures { (c : Contents) (frame : Frame) (ident : Ident) → IsExactlyOne c → IsRowOf c.rows.kept.cells frame ident ↔ IsResidentOn c frame ident }
+    ensures { (c : Contents) (frame : Frame) (message : Bool) (ident : Ident) → IsExactlyOne c → IsRowOf c.rows.kept.cells frame message ident ↔ IsResidentOn c frame message ident }
 {}
 
 /// Nothing that happens to the contents changes how many slots of a kind there are, which are at first those of the capacities.

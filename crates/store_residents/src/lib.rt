@@ -3,7 +3,7 @@
 
 mod laws;
 
-pub use desc_stores::{Item, ItemRef, Stores};
+pub use desc_stores::{FoundItem, Item, ItemRef, Stores};
 pub use laws::{
     a_resident_has_a_content, a_victim_is_a_resident, each_resident_is_one,
     residents_are_what_is_loaded, rows_of_a_frame_are_residents, slots_are_those_of_residents,

@@ -1,7 +1,5 @@
 -- What is due for an input, by what its lines made.
-use Rattle.std.proofs.Common.{◌≡◌, ℕ, ◌+◌, ◌<◌, ◌≤◌, List, length, take, drop, length-append, Option, Some, None, Result, Ok, Err, refl, sym, ap, subst, ◌∙◌, ◌⊎◌, inl, inr, arith}
-use Rattle.std.specs.Prelude.{IfSome}
-use Rattle.std.specs.Io.KnownBytes.{IsAtEnd}
+use Rattle.std.proofs.Common.{◌≡◌, ℕ, ◌+◌, ◌≤◌, List, length, take, drop, length-append, Option, Some, None, Result, Ok, Err, refl, sym, ap, subst, ◌∙◌, ◌⊎◌, inl, inr, arith}
 use Rattle.std.proofs.lemmas.List.{take-append-drop}
 use Rattle.text_fields.specs.Lines.{is_feed, pieces}
 use Rattle.flat_state.specs.declared.events.Decl.{Decl}
@@ -14,12 +12,11 @@ use Rattle.cache_board.specs.board_core.specs.Core.{Recorded}
 use Rattle.cache_board.specs.Desks.{Desktop, IsClear}
 use Rattle.v_drive.specs.declared.endings.Ending.{Ending}
 use Rattle.v_drive.specs.declared.endings.Ending.TheVariants.{Done, ReadFault, WriteFault, BadScenario, BadOperation, NoMemory, Usage, TooLong}
-use Rattle.v_drive.specs.declared.machine.NoText.{NoText}
-use Rattle.v_drive.specs.declared.machine.NoText.TheVariants as no_text
-use Rattle.v_drive.specs.Dues.{OnFailed}
-use Rattle.v_drive.specs.Openings.{IsBoardOf}
+use Rattle.due_text.specs.Inputs.{IsWhole, IsTooLong, most_bytes}
+use Rattle.due_text.proofs.Inputs.{not_too_long, same_input}
+use Rattle.board_opening.specs.Openings.{IsBoardOf}
 use Rattle.v_drive.specs.Lines.{IsTaken}
-use Rattle.v_drive.specs.Endings.{ComesFrom, ComesOut, ComesOutOrNoMemory, IsAnswer, IsDriven, IsDue, IsDueBy, IsEnded, IsRefusal, first_number, most_bytes}
+use Rattle.v_drive.specs.Endings.{ComesOut, ComesOutOrNoMemory, IsAnswer, IsDriven, IsDue, IsDueBy, IsEnded, IsRefusal, first_number}
 
 -- ---- the answer
 
@@ -53,7 +50,7 @@ first_fault input e line rule is (inr meant) = meant ∙ ap (λ (x : ScenarioFau
 
 -- ---- what is due
 
-pub by_input : (limit : ℕ) (bytes left : Option (List ℕ)) (input : List ℕ) (ending : Ending) (text : List ℕ) → ComesFrom bytes left input → IsAnswer limit input ending text → IsDueBy limit bytes left ending text
+pub by_input : (limit : ℕ) (bytes left : Option (List ℕ)) (input : List ℕ) (ending : Ending) (text : List ℕ) → IsWhole bytes left input → IsAnswer limit input ending text → IsDueBy limit bytes left ending text
 by_input limit bytes left input Done text from answer = (input, from, answer)
 by_input limit bytes left input ReadFault text from answer = absurd answer
 by_input limit bytes left input WriteFault text from answer = absurd answer
@@ -62,9 +59,6 @@ by_input limit bytes left input (BadOperation line) text from answer = (input, f
 by_input limit bytes left input NoMemory text from answer = absurd answer
 by_input limit bytes left input Usage text from answer = absurd answer
 by_input limit bytes left input TooLong text from answer = absurd answer
-
-pub from_read : (bytes left : Option (List ℕ)) (items input : List ℕ) → input ≡ items → IfSome bytes (λ told. items ≡ told) → IsAtEnd left → length items ≤ most_bytes → ComesFrom bytes left input
-from_read bytes left items input is told at_end few = subst (λ (x : List ℕ). ComesFrom bytes left x) (sym is) (told, at_end, few)
 
 pub by_words : (words : List (List ℕ)) (limit : ℕ) (bytes left : Option (List ℕ)) (ending : Ending) (text : List ℕ) → steps_allowed words ≡ Some limit → IsDueBy limit bytes left ending text → IsDue words bytes left ending text
 by_words words limit bytes left Done text taken due = (limit, taken, due)
@@ -109,17 +103,8 @@ comes_out limit input NoMemory text answer = absurd answer
 comes_out limit input Usage text answer = absurd answer
 comes_out limit input TooLong text answer = absurd answer
 
--- an input that is told, of bytes that the source had
-same_input : (bytes left : Option (List ℕ)) (input told : List ℕ) → bytes ≡ Some told → ComesFrom bytes left input → input ≡ told
-same_input bytes left input told is from = subst (λ (b : Option (List ℕ)). IfSome b (λ t. input ≡ t)) is from.0
-
-not_too_long : (bytes : Option (List ℕ)) (told : List ℕ) → bytes ≡ Some told → length told ≤ most_bytes → IfSome bytes (λ bs. most_bytes < length bs) → ⊥
-not_too_long bytes told is few long =
-    let more : most_bytes < length told = subst (λ (b : Option (List ℕ)). IfSome b (λ bs. most_bytes < length bs)) is long in
-    omega (arith, few, more)
-
 answer_parts : (limit : ℕ) (bytes left : Option (List ℕ)) (ending : Ending) (text : List ℕ) → IsDueBy limit bytes left ending text
-    → IfSome bytes (λ bs. most_bytes < length bs) ⊎ ((input : List ℕ) × ComesFrom bytes left input × IsAnswer limit input ending text)
+    → IsTooLong bytes left ⊎ ((input : List ℕ) × IsWhole bytes left input × IsAnswer limit input ending text)
 answer_parts limit bytes left Done text due = inr due
 answer_parts limit bytes left ReadFault text due = inr due
 answer_parts limit bytes left WriteFault text due = inr due
@@ -157,16 +142,10 @@ completes words limit bytes left ending text told taken is few due =
     elim (words_parts words bytes left ending text due) [
       | inl none ↦ taken_or_not words limit _ none taken
       | inr h ↦ elim (answer_parts h.0 bytes left ending text h.2) [
-        | inl long ↦ absurd (not_too_long bytes told is few long)
+        | inl long ↦ absurd (not_too_long bytes left told is few long)
         | inr a ↦ or_no_memory (opening (scenario_part told)) ending (subst (λ (x : List ℕ). ComesOut (opening (scenario_part x)) ending) (same_input bytes left a.0 told is a.1) (comes_out h.0 a.0 ending text a.2))
       ]
     ]
-
--- what is known of a fault of the source
-pub failed_by : {X : Type 0} (r : Result X NoText) (P Q : Type 0) → (P → Q) → OnFailed r P → OnFailed r Q
-failed_by (Ok x) P Q more h = h
-failed_by (Err no_text.ReadFault) P Q more h = more h
-failed_by (Err no_text.NoMemory) P Q more h = h
 
 -- the two parts of an input have no more bytes than it has
 pub parts_fit : (input first behind : List ℕ) → first ≡ scenario_part input → behind ≡ journal_part input → length first + length behind ≡ length input

@@ -1,3 +1,2 @@
-mod Declaring
 mod Taking
 mod Answering

@@ -1,8 +1,9 @@
 -- What is due to be written, and what each ending of the whole run says.
-use Rattle.std.specs.Prelude.{◌≡◌, ℕ, ◌+◌, ◌<◌, ◌≤◌, List, ◌++◌, length, codes, count_by, Option, Some, None, IfSome, Result, Ok, Err}
+use Rattle.std.specs.Prelude.{◌≡◌, ℕ, ◌+◌, List, ◌++◌, codes, count_by, Option, Some, None, Result, Ok, Err}
 use Rattle.std.specs.Fmt.{decimal}
-use Rattle.std.specs.Io.KnownBytes.{IsAtEnd, Keeps}
-use Rattle.byte_ports.specs.Whole.{TakesMore}
+use Rattle.std.specs.Io.KnownBytes.{Keeps}
+use Rattle.due_text.specs.Inputs.{IsWhole, IsTooLong}
+use Rattle.due_text.specs.Lines.{scenario_fault_line, too_long_line}
 use Rattle.flat_state.specs.declared.events.Decl.{Decl}
 use Rattle.text_fields.specs.Lines.{is_feed}
 use Rattle.scenario_reader.specs.declared.fault.ScenarioFault.{ScenarioFault}
@@ -14,21 +15,11 @@ use Rattle.cache_board.specs.board_core.specs.Core.{Recorded}
 use Rattle.cache_board.specs.Desks.{Desktop, IsClear}
 use Rattle.v_drive.specs.declared.endings.Ending.{Ending}
 use Rattle.v_drive.specs.declared.endings.Ending.TheVariants.{Done, ReadFault, WriteFault, BadScenario, BadOperation, NoMemory, Usage, TooLong}
-use Rattle.v_drive.specs.Openings.{IsBoardOf}
+use Rattle.board_opening.specs.Openings.{IsBoardOf}
 use Rattle.v_drive.specs.Lines.{IsTaken}
-
--- how many bytes an input may have
-abbrev pub most_bytes : ℕ
-most_bytes = 4194304
 
 abbrev pub usage_line : List ℕ
 usage_line = codes "usage: v_drive [--steps N]\n"
-
-abbrev pub too_long_line : List ℕ
-too_long_line = codes "too long\n"
-
-abbrev pub scenario_fault_line : ℕ → ℕ → List ℕ
-scenario_fault_line line rule = codes "scenario fault line " ++ (decimal line ++ (codes " rule " ++ (decimal rule ++ codes "\n")))
 
 abbrev pub operation_fault_line : ℕ → List ℕ
 operation_fault_line line = codes "operation fault line " ++ (decimal line ++ codes "\n")
@@ -75,14 +66,10 @@ abbrev pub IsEnded : Option ℕ → List ℕ → Ending → List ℕ → Type 0
 IsEnded None done ending text = (ending ≡ Done) × (text ≡ done)
 IsEnded (Some line) done ending text = (ending ≡ BadOperation line) × (text ≡ done ++ operation_fault_line line)
 
--- the input is what the source has told, which it empties, and not more than an input may have
-abbrev pub ComesFrom : Option (List ℕ) → Option (List ℕ) → List ℕ → Type 0
-ComesFrom bytes left input = IfSome bytes (λ told. input ≡ told) × IsAtEnd left × (length input ≤ most_bytes)
-
 -- This text is due with this ending at a limit of steps, where the source had these bytes and has those left.
 abbrev pub IsDueBy : ℕ → Option (List ℕ) → Option (List ℕ) → Ending → List ℕ → Type 0
-IsDueBy limit bytes left TooLong text = IfSome bytes (λ told. most_bytes < length told) × TakesMore bytes left most_bytes × (text ≡ too_long_line)
-IsDueBy limit bytes left ending text = (input : List ℕ) × ComesFrom bytes left input × IsAnswer limit input ending text
+IsDueBy limit bytes left TooLong text = IsTooLong bytes left × (text ≡ too_long_line)
+IsDueBy limit bytes left ending text = (input : List ℕ) × IsWhole bytes left input × IsAnswer limit input ending text
 
 -- The same by words. Those that aren't taken are answered with the usage line.
 abbrev pub IsDue : List (List ℕ) → Option (List ℕ) → Option (List ℕ) → Ending → List ℕ → Type 0

@@ -1,4 +1,2 @@
-pub mod Openings
 pub mod Lines
 pub mod Endings
-pub mod Dues

@@ -15,23 +15,21 @@ ghost use Rattle.scenario_reader.specs.Openings.{opening};
 ghost use Rattle.check_mode.specs.Parts.{journal_part, scenario_part};
 ghost use Rattle.run_words.specs.Options.{steps_allowed};
 ghost use Rattle.v_drive.specs.declared.endings.Ending.{Ending};
-ghost use Rattle.v_drive.specs.declared.machine.NoText.TheVariants as no_text;
-ghost use Rattle.v_drive.specs.Dues.{OnFailed, UnlessFailed};
-ghost use Rattle.v_drive.specs.Endings.{ComesOutOrNoMemory, IsAnswer, IsDue, IsDueBy, IsEnded, IsRefusal, OnNothingDue, OnReadFault, OnWriteFault, OnWritten, UnlessReadFault, UnlessWriteFault, first_number, most_bytes, operation_fault_line, scenario_fault_line};
+ghost use Rattle.due_text.specs.Inputs.{OnFailed, UnlessFailed, most_bytes};
+ghost use Rattle.due_text.specs.Lines.{scenario_fault_line};
+ghost use Rattle.v_drive.specs.Endings.{ComesOutOrNoMemory, IsAnswer, IsDue, IsDueBy, IsEnded, IsRefusal, OnNothingDue, OnReadFault, OnWriteFault, OnWritten, UnlessReadFault, UnlessWriteFault, first_number, operation_fault_line};
 
 use crate::endings::Ending;
 use crate::hand::Hand;
-use crate::opening::board_of;
-use byte_ports::{ReadError, Sink, Source, read_to_end, write_all};
+use board_opening::board_of;
+use byte_ports::{Sink, Source, write_all};
 use cache_board::Desk;
 use check_mode::parts;
+use due_text::{Input, NoText, read_input, scenario_fault_line, too_long_line};
 use flat_state::Decl;
 use run_words::{Words, WordsFault, read_steps};
 use scenario_reader::{ScenarioFault, read_opening};
 use std::alloc::{AllocError, Global};
-
-/// How many bytes the input may have.
-const MOST_BYTES: usize = 4_194_304;
 
 const USAGE: &[u8] = b"usage: v_drive [--steps N]\n";
 
@@ -42,21 +40,6 @@ struct DueText {
     text: Vec<u8>,
 }
 
-// Why no text is due.
-#[derive(Clone, Copy)]
-enum NoText {
-    ReadFault,
-    NoMemory,
-}
-
-impl From<AllocError> for NoText {
-    ghost from_gives = { λ _ e. e ≡ no_text.NoMemory };
-
-    fn from(_e: AllocError) -> NoText {
-        NoText::NoMemory
-    }
-}
-
 // A line that is due alone.
 fn line(alloc: Global, ending: Ending, text: &[u8]) -> Result<DueText, AllocError>
     ensures ending { IfOk result (λ d. d.ending ≡ ending) }
@@ -64,12 +47,6 @@ fn line(alloc: Global, ending: Ending, text: &[u8]) -> Result<DueText, AllocErro
 {
     let text = Vec::from_slice(alloc, text)?;
     Ok(DueText { ending, text })
-}
-
-fn scenario_fault_line(alloc: Global, number: u64, rule: u32) -> Result<String, AllocError>
-    ensures { IfOk result (λ line. string_bytes line ≡ scenario_fault_line number rule) }
-{
-    format!(in alloc; "scenario fault line {number} rule {rule}\n")
 }
 
 fn operation_fault_line(alloc: Global, number: u64) -> Result<String, AllocError>
@@ -182,11 +159,9 @@ fn due_of<S: Source>(alloc: Global, steps: u32, source: &mut S) -> Result<DueTex
     ensures fault { OnFailed result (HasRisen (S.faults source.old) (S.faults source.new)) }
     ensures faultless { UnlessFailed result (S.faults source.new ≡ S.faults source.old) }
 {
-    match read_to_end(alloc, source, MOST_BYTES) {
-        Ok(bytes) => due_for(alloc, steps, &bytes),
-        Err(ReadError::TooLong) => Ok(line(alloc, Ending::TooLong, b"too long\n")?),
-        Err(ReadError::Failed) => Err(NoText::ReadFault),
-        Err(ReadError::NoMemory) => Err(NoText::NoMemory),
+    match read_input(alloc, source)? {
+        Input::Whole(bytes) => due_for(alloc, steps, &bytes),
+        Input::TooLong => Ok(line(alloc, Ending::TooLong, too_long_line())?),
     }
 }
 

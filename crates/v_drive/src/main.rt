@@ -5,7 +5,6 @@
 mod endings;
 mod hand;
 mod machine;
-mod opening;
 
 use byte_ports::{FromRead, ToWrite};
 use endings::Ending;

@@ -3,7 +3,7 @@
 ghost use Rattle.std.specs.Prelude.{◌<◌};
 
 use crate::machines::*;
-use cache_board::{Board, Quantum, Refused, Ticket};
+use cache_board::{Board, DESK_VIEWS, Quantum, Refused, Ticket};
 use std::alloc::Global;
 use std::mem;
 use std::process::Abort;
@@ -59,7 +59,7 @@ fn leave_late(rt: &impl Abort, board: &mut Board, quantum: &mut Quantum) -> Resu
 }
 
 fn with_quantum(rt: &impl Abort, alloc: Global, board: &mut Board) -> Result<(), Refused> {
-    let mut quantum = Quantum::new(alloc)?;
+    let mut quantum = Quantum::new(alloc, DESK_VIEWS)?;
     let refused = commit_late(rt, board, &mut quantum);
     let late = leave_late(rt, board, &mut quantum);
     mem::forget(quantum);

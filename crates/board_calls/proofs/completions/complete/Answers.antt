@@ -8,7 +8,7 @@ use Rattle.board_core.specs.desc_stores.specs.Changes.{room_of}
 use Rattle.board_core.specs.thread_sets.specs.Sets.{Sets}
 use Rattle.board_core.specs.cached_machine.specs.Cached.{state_of}
 use Rattle.board_core.specs.Core.{contents_of, Recorded}
-use Rattle.board_core.specs.Growth.{OnlyMakesRoom}
+use Rattle.board_core.specs.Growth.{IsRoomMade}
 use Rattle.board_core.proofs.RoomLaws.{rooms_more}
 use Rattle.board_calls.specs.Calls.{IsPlanned}
 use Rattle.board_calls.proofs.CompletionLaws.{asks_for_some, completion, good_then, nothing_left, room_left, since, thread_left}
@@ -72,7 +72,7 @@ returns-in_err-complete-clause-refused c =
     let one : 0 < room_of (contents_of d) = omega (arith, room.0) in
     let two : 0 < d.machine.sets.room = omega (arith, room.1) in
     false≢true (c.in_err-complete.ensures.enough asks one two) in
-    let only : OnlyMakesRoom a c.complete.new.self = nothing_left a c.make_declarable.new.self d c.complete.new.self idents made c.unload_each.ensures.none c.in_err-complete.ensures.err never in
+    let only : IsRoomMade a c.complete.new.self = nothing_left a c.make_declarable.new.self d c.complete.new.self idents made c.unload_each.ensures.none c.in_err-complete.ensures.err never in
     search rules
 
 pub returns-clause-completed : goal.returns-clause-completed

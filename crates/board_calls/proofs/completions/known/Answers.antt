@@ -11,7 +11,7 @@ use Rattle.board_calls.proofs.completions.known.Goals as goal
 pub returns-clause-whole : goal.returns-clause-whole
 returns-clause-whole c =
     let m = c.machine-2.result.now in
-    let whole : IsWhole m.held.contents = (m.held.caps, c.room.ensures.sound.0, c.room.ensures.sound.1.whole) in
+    let whole : IsWhole m.held.contents = (m.held.caps, c.tables_are_sound.ensures.sound.0, c.tables_are_sound.ensures.sound.1.whole) in
     subst (λ (x : Cached). IsWhole x.held.contents) c.machine-2.ensures whole
 
 pub returns-clause-formed : goal.returns-clause-formed
@@ -20,7 +20,7 @@ returns-clause-formed c = subst (λ (x : Cached). IsWellFormed (state_of x)) c.m
 pub returns-clause-good : goal.returns-clause-good
 returns-clause-good c =
     let m = c.machine-2.result.now in
-    subst (λ (x : Cached). AreGood (state_of x) (residents_of x.held.contents)) c.machine-2.ensures (good_shown (Some m.machine) m.memory m.held.contents c.room.ensures.sound.1.whole.good)
+    subst (λ (x : Cached). AreGood (state_of x) (residents_of x.held.contents)) c.machine-2.ensures (good_shown (Some m.machine) m.memory m.held.contents c.tables_are_sound.ensures.sound.1.whole.good)
 
 pub returns-clause-sealed : goal.returns-clause-sealed
 returns-clause-sealed c = sealed_where_loaded c.args.core.now c.holds.ensures

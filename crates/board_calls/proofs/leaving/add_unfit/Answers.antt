@@ -8,8 +8,8 @@ loop-number-init c = group_first c.args.machine.now c.args.grant.now c.args.iden
 
 pub loop-number-preserved : goal.loop-number-preserved
 loop-number-preserved c =
-    group_more c.args.machine.now c.args.grant.now c.loop-number.number c.lacks_rows-lacks.result c.args.idents.now.items c.loop-number.idents.items c.add_unfit_of.new.idents.items
-    c.lacks_rows-lacks.ensures c.loop-number.invariant c.in_ok-add_unfit_of.ensures
+    group_more c.args.machine.now c.args.grant.now c.loop-number.number c.args.idents.now.items c.loop-number.idents.items c.add_going.new.idents.items
+    c.loop-number.invariant c.in_ok-add_going.ensures
 
 pub returns : goal.returns
 returns c =

@@ -2,7 +2,7 @@ use Rattle.std.proofs.Common.{◌≡◌, ◌++◌, List, length, take, sym, ◌�
 use Rattle.std.proofs.lemmas.List.{length-take-le, take_all}
 use Rattle.cache_ident.specs.declared.names.Name.{Name}
 use Rattle.cached_machine.specs.Cached.{state_of}
-use Rattle.board_chains.specs.Lists.{AreApart}
+use Rattle.board_chains.specs.Lists.{AreAllOnce}
 use Rattle.board_chains.proofs.WholeLemmas.{begins_so, known_thread, whole_so, IsWhole}
 use Rattle.board_chains.proofs.chains.chain_of.Goals as goal
 
@@ -19,7 +19,7 @@ numbered_among-chain-requires-clause-apart c =
     let next = c.args.next.now in
     let t = known_thread s c.args.no.0 next c.requires.next in
     let begins = begins_so s c.holds.ensures c.args.no t.0 t.1 next c.requires.next (c.requires.ready t.0 t.1) c.rows_in_order-all.result.items c.push.new.self.items c.rows_in_order-all.ensures.rows c.push.ensures.items in
-    subst AreApart (sym c.deref.ensures.0) (c.add_all_above.ensures.part c.args.no.0 begins).apart
+    subst AreAllOnce (sym c.deref.ensures.0) (c.add_all_above.ensures.part c.args.no.0 begins).apart
 
 pub push-requires-in-loop-row : goal.push-requires-in-loop-row
 push-requires-in-loop-row c =

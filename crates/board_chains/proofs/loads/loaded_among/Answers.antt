@@ -11,7 +11,7 @@ use Rattle.board_chains.proofs.loads.loaded_among.Goals as goal
 pub loop-name-preserved : goal.loop-name-preserved
 loop-name-preserved c =
     let contents = c.args.machine.now.held.contents in
-    let have = one_each contents c.is_sound.ensures in
+    let have = one_each contents c.tables_are_sound.ensures.sound.1.whole.one in
     let names = c.args.names.now in
     let loop = c.loop-name in
     elim c.match-resident.branch [

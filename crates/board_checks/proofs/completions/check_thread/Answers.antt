@@ -8,10 +8,14 @@ use Rattle.board_ops.specs.declared.refusals.Refused.{Refused}
 use Rattle.board_checks.specs.Identifiers.{not_a}
 use Rattle.board_checks.specs.Refusals.{not_owned_as}
 use Rattle.board_checks.proofs.FirstLemmas.{err_shown, first_passes}
+use Rattle.board_checks.proofs.GivenLemmas.{loaded_content}
 use Rattle.board_checks.proofs.HoldLemmas.{owned_tested}
 use Rattle.board_checks.proofs.IdentifierLemmas.{name_is}
 use Rattle.board_checks.proofs.OwnerLemmas.{owner_tested}
 use Rattle.board_checks.proofs.completions.check_thread.Goals as goal
+
+pub check_owner-requires : goal.check_owner-requires
+check_owner-requires c = record { there = loaded_content c.args.tables.now.contents c.are_sound.ensures.sound.1.whole.one c.args.thread (item.Thread c.in_ok-found.found.now) c.in_ok-found.ensures.found }
 
 pub returns-in_err-check_owner-clause-exact : goal.returns-in_err-check_owner-clause-exact
 returns-in_err-check_owner-clause-exact c =

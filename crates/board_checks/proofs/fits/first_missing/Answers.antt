@@ -9,7 +9,7 @@ returns-then-is_missing c =
     let contents = c.args.tables.now.contents in
     let loop = c.loop-name in
     sym (found_here (signal_names contents.rows c.args.frame) c.into_iter-name-iterator.result (cc) loop.yielded _ loop.yielded_by _ _ c.next.ensures.steps (is_missing contents) loop.invariant c.in-Some.name c.in-Some.is (sym c.if-is_missing.ensures))
-    ∙ missing_row contents c.is_sound.ensures.1.whole.one c.args.frame
+    ∙ missing_row contents c.are_sound.ensures.sound.1.whole.one c.args.frame
 
 pub loop-name-preserved : goal.loop-name-preserved
 loop-name-preserved c = find_none_more (is_missing c.args.tables.now.contents) c.loop-name.yielded c.in-Some.name c.loop-name.invariant (sym c.if-is_missing.ensures)
@@ -19,4 +19,4 @@ returns c =
     let contents = c.args.tables.now.contents in
     let loop = c.loop-name in
     sym (none_found (signal_names contents.rows c.args.frame) c.into_iter-name-iterator.result (cc) loop.yielded _ loop.yielded_by _ _ c.next.ensures.steps (is_missing contents) loop.invariant c.in-None.is)
-    ∙ missing_row contents c.is_sound.ensures.1.whole.one c.args.frame
+    ∙ missing_row contents c.are_sound.ensures.sound.1.whole.one c.args.frame

@@ -4,13 +4,13 @@ use Rattle.board_checks.proofs.holds.check_locks_left.Goals as goal
 
 pub unreachable-requires : goal.unreachable-requires
 unreachable-requires c =
-    let there = kernel_there c.args.tables.now.contents c.is_sound.ensures.1.whole.one c.args.kernel c.requires in
+    let there = kernel_there c.args.tables.now.contents c.are_sound.ensures.sound.1.whole.one c.args.kernel c.requires in
     let some = there.1 in
     let none = c.in_default.ensures.absent in
     cc
 
 pub returns-then-of-limit : goal.returns-then-of-limit
-returns-then-of-limit c = left_tested c.args.tables.now c.is_sound.ensures.0 c.is_sound.ensures.1 c.args.kernel c.in-Some.found.now c.in-Some.ensures.found c.args.kind c.of.result c.of-limit.result c.of.ensures c.of-limit.ensures c.if-of-limit.true
+returns-then-of-limit c = left_tested c.args.tables.now c.are_sound.ensures.sound.0 c.are_sound.ensures.sound.1 c.args.kernel c.in-Some.found.now c.in-Some.ensures.found c.args.kind c.of.result c.of-limit.result c.of.ensures c.of-limit.ensures c.if-of-limit.true
 
 pub returns : goal.returns
-returns c = full_tested c.args.tables.now c.is_sound.ensures.0 c.is_sound.ensures.1 c.args.kernel c.in-Some.found.now c.in-Some.ensures.found c.args.kind c.of.result c.of-limit.result c.of.ensures c.of-limit.ensures c.if-of-limit.false
+returns c = full_tested c.args.tables.now c.are_sound.ensures.sound.0 c.are_sound.ensures.sound.1 c.args.kernel c.in-Some.found.now c.in-Some.ensures.found c.args.kind c.of.result c.of-limit.result c.of.ensures c.of-limit.ensures c.if-of-limit.false

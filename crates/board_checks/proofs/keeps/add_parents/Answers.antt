@@ -9,7 +9,7 @@ use Rattle.board_checks.proofs.keeps.add_parents.Goals as goal
 pub add-requires : goal.add-requires
 add-requires c =
     let some = c.requires.above in
-    record { room = room_for_one c.args.tables.now.contents c.is_sound.ensures.1.whole.one c.requires.formed some.0 some.1 c.loop-parent.keep.items (c.loop-parent.invariant.kept some.0 some.2 some.3) }
+    record { room = room_for_one c.args.tables.now.contents c.are_sound.ensures.sound.1.whole.one c.requires.formed some.0 some.1 c.loop-parent.keep.items (c.loop-parent.invariant.kept some.0 some.2 some.3) }
 
 pub loop-parent-preserved : goal.loop-parent-preserved
 loop-parent-preserved c =

@@ -10,16 +10,16 @@ add_parents-requires c =
     let some = c.requires.kept in
     record {
       formed = c.requires.formed;
-      above = (some.0, some.1, some.2, subst (IsOrIsAbove contents some.0) (sym c.name.ensures) (item_above contents c.is_sound.ensures.1.whole.one c.args.ident (shown c.in-Some.item) (sym c.in-Some.ensures) some.0 c.args.keep.now.items some.2 c.requires.its));
+      above = (some.0, some.1, some.2, subst (IsOrIsAbove contents some.0) (sym c.name.ensures) (item_above contents c.are_sound.ensures.sound.1.whole.one c.args.ident (shown c.in-Some.item) (sym c.in-Some.ensures) some.0 c.args.keep.now.items some.2 c.requires.its));
     }
 
 pub returns-in-Some-clause-kept : goal.returns-in-Some-clause-kept
 returns-in-Some-clause-kept c =
     let contents = c.args.tables.now.contents in
-    λ root kept. c.add_parents.ensures.kept root kept (subst (IsOrIsAbove contents root) (sym c.name.ensures) (item_above contents c.is_sound.ensures.1.whole.one c.args.ident (shown c.in-Some.item) (sym c.in-Some.ensures) root c.args.keep.now.items kept c.requires.its))
+    λ root kept. c.add_parents.ensures.kept root kept (subst (IsOrIsAbove contents root) (sym c.name.ensures) (item_above contents c.are_sound.ensures.sound.1.whole.one c.args.ident (shown c.in-Some.item) (sym c.in-Some.ensures) root c.args.keep.now.items kept c.requires.its))
 
 pub returns-in-Some-clause-has : goal.returns-in-Some-clause-has
-returns-in-Some-clause-has c = item_keeps c.args.tables.now.contents c.is_sound.ensures.1.whole.one c.args.ident (shown c.in-Some.item) (sym c.in-Some.ensures) c.add_parents.new.keep.items c.name.result c.name.ensures c.add_parents.ensures.has
+returns-in-Some-clause-has c = item_keeps c.args.tables.now.contents c.are_sound.ensures.sound.1.whole.one c.args.ident (shown c.in-Some.item) (sym c.in-Some.ensures) c.add_parents.new.keep.items c.name.result c.name.ensures c.add_parents.ensures.has
 
 pub returns-in_default-clause-has : goal.returns-in_default-clause-has
-returns-in_default-clause-has c = nothing_keeps c.args.tables.now.contents c.is_sound.ensures.1.whole.one c.args.ident c.args.keep.now.items c.in_default.ensures
+returns-in_default-clause-has c = nothing_keeps c.args.tables.now.contents c.are_sound.ensures.sound.1.whole.one c.args.ident c.args.keep.now.items c.in_default.ensures

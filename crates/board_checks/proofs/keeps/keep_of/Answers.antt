@@ -8,7 +8,7 @@ use Rattle.board_checks.proofs.keeps.keep_of.Goals as goal
 
 pub add_parents-requires-clause-above : goal.add_parents-requires-clause-above
 add_parents-requires-clause-above c =
-    let absent = ((shelved_iff c.args.tables.now.contents c.is_sound.ensures.1.whole.one c.args.name).0 c.requires.may.shelved).1 in
+    let absent = ((shelved_iff c.args.tables.now.contents c.are_sound.ensures.sound.1.whole.one c.args.name).0 c.requires.may.shelved).1 in
     (c.args.name, absent, none_kept c.args.tables.now.contents c.args.name c.new-keep.result.items c.new-keep.ensures, inl refl)
 
 pub loop-at-init : goal.loop-at-init
@@ -20,7 +20,7 @@ loop-at-init c = record {
 
 pub add_parents_as-requires-clause-kept : goal.add_parents_as-requires-clause-kept
 add_parents_as-requires-clause-kept c =
-    let absent = ((shelved_iff c.args.tables.now.contents c.is_sound.ensures.1.whole.one c.args.name).0 c.requires.may.shelved).1 in
+    let absent = ((shelved_iff c.args.tables.now.contents c.are_sound.ensures.sound.1.whole.one c.args.name).0 c.requires.may.shelved).1 in
     (c.args.name, absent, c.loop-at.invariant.kept)
 
 pub add_parents_as-requires-clause-its : goal.add_parents_as-requires-clause-its
@@ -41,8 +41,8 @@ loop-at-preserved c =
       closed = one_further c.args.tables.now.contents loop.keep.items c.add_parents_as.new.keep.items starts loop.at ident (slice_get_within loop.keep.items loop.at ident at) is loop.invariant.closed c.add_parents_as.ensures.has;
     }
 
-pub returns-clause-may : goal.returns-clause-may
-returns-clause-may c = all_kept c.args.tables.now.contents c.is_sound.ensures.1.whole.one c.requires.formed c.args.name c.requires.may c.loop-at.keep.items c.loop-at.invariant.kept c.loop-at.invariant.has c.loop-at.at (omega (arith, c.loop-at-test.false, c.len.ensures.value)) c.loop-at.invariant.closed
-
-pub returns-clause-only : goal.returns-clause-only
-returns-clause-only c = c.loop-at.invariant.kept.above
+pub returns : goal.returns
+returns c = record {
+  may = all_kept c.args.tables.now.contents c.are_sound.ensures.sound.1.whole.one c.requires.formed c.args.name c.requires.may c.loop-at.keep.items c.loop-at.invariant.kept c.loop-at.invariant.has c.loop-at.at (omega (arith, c.loop-at-test.false, c.len.ensures.value)) c.loop-at.invariant.closed;
+  only = c.loop-at.invariant.kept.above;
+}

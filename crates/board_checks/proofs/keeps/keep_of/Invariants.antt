@@ -1,6 +1,6 @@
 use Rattle.std.proofs.Common.{ℕ, ◌<◌, ◌-◌, get_or}
 use Rattle.cache_ident.specs.declared.idents.Ident.{Ident}
-use Rattle.desc_tables.specs.desc_admits.specs.Admits.{KeepsParentsAs, KeepsParentsOf}
+use Rattle.desc_tables.specs.Keeps.{KeepsParentsAs, KeepsParentsOf}
 use Rattle.board_checks.specs.Keeps.{IsKept}
 use Rattle.board_checks.proofs.keeps.keep_of.Given as goal
 

@@ -1,4 +1,4 @@
-use Rattle.std.proofs.Common.{Option, Some, None, ◌∙◌}
+use Rattle.std.proofs.Common.{◌≡◌, Option, Some, None, ◌∙◌}
 use Rattle.std.specs.Option.{option_or}
 use Rattle.std.proofs.lemmas.Result.{err_from_is_err_and}
 use Rattle.cache_ident.specs.declared.idents.Kind.TheVariants as kind
@@ -7,9 +7,13 @@ use Rattle.board_ops.specs.declared.refusals.Refused.{Refused}
 use Rattle.board_checks.specs.Identifiers.{not_a}
 use Rattle.board_checks.specs.Refusals.{already_loaded, not_declared, not_owned}
 use Rattle.board_checks.proofs.FirstLemmas.{err_shown, first_fails, first_passes}
-use Rattle.board_checks.proofs.LoadLemmas.{kernel_loadable}
-use Rattle.board_checks.proofs.OwnerLemmas.{owner_tested}
+use Rattle.desc_tables.specs.desc_stores.specs.Items.{shown}
+use Rattle.board_checks.proofs.GivenLemmas.{kernel_beside, named_content, owner_tested_of}
+use Rattle.board_checks.proofs.LoadLemmas.{absent_tested, kernel_loadable}
 use Rattle.board_checks.proofs.loads.check_load_kernel.Goals as goal
+
+pub check_owner-requires : goal.check_owner-requires
+check_owner-requires c = record { there = named_content c.args.tables.now.contents (name.Kernel c.args.kernel) (shown c.in_ok-declared.declared.item) c.in_ok-declared.ensures.its }
 
 pub returns-in_err-check_owner-clause-exact : goal.returns-in_err-check_owner-clause-exact
 returns-in_err-check_owner-clause-exact c =
@@ -20,7 +24,7 @@ returns-in_err-check_owner-clause-exact c =
     let p = err_from_is_err_and c.from_residual-in_err-check_owner.result c.from_residual-in_err-check_owner.ensures.1 in
     let x : Refused = c.in_err-check_owner.field-0.0 in
     let e : Option Refused = Some x in
-    err_shown _ _ p ∙ first_passes one (option_or two (option_or three (four))) e (c.in_ok-given.ensures.exact) (first_passes two (option_or three (four)) e (c.in_ok-check_declared.ensures) (first_fails three (four) x (c.in_err-check_owner.ensures ∙ owner_tested c.args.tables.now.contents c.args.caller c.in_ok-given.field-0.now c.in_ok-given.ensures.found (name.Kernel c.args.kernel))))
+    err_shown _ _ p ∙ first_passes one (option_or two (option_or three (four))) e (c.in_ok-given.ensures.exact) (first_passes two (option_or three (four)) e (c.in_ok-declared.ensures.exact) (first_fails three (four) x (c.in_err-check_owner.ensures ∙ owner_tested_of c.args.tables.now.contents c.args.caller c.in_ok-given.field-0.now c.in_ok-given.ensures.found (name.Kernel c.args.kernel) (shown c.in_ok-declared.declared.item) c.in_ok-declared.ensures.its)))
 
 pub returns-in_err-check_absent-clause-exact : goal.returns-in_err-check_absent-clause-exact
 returns-in_err-check_absent-clause-exact c =
@@ -31,7 +35,7 @@ returns-in_err-check_absent-clause-exact c =
     let p = err_from_is_err_and c.from_residual-in_err-check_absent.result c.from_residual-in_err-check_absent.ensures.1 in
     let x : Refused = c.in_err-check_absent.field-0.0 in
     let e : Option Refused = Some x in
-    err_shown _ _ p ∙ first_passes one (option_or two (option_or three (four))) e (c.in_ok-given.ensures.exact) (first_passes two (option_or three (four)) e (c.in_ok-check_declared.ensures) (first_passes three (four) e (c.in_ok-check_owner.ensures ∙ owner_tested c.args.tables.now.contents c.args.caller c.in_ok-given.field-0.now c.in_ok-given.ensures.found (name.Kernel c.args.kernel)) (c.in_err-check_absent.ensures)))
+    err_shown _ _ p ∙ first_passes one (option_or two (option_or three (four))) e (c.in_ok-given.ensures.exact) (first_passes two (option_or three (four)) e (c.in_ok-declared.ensures.exact) (first_passes three (four) e (c.in_ok-check_owner.ensures ∙ owner_tested_of c.args.tables.now.contents c.args.caller c.in_ok-given.field-0.now c.in_ok-given.ensures.found (name.Kernel c.args.kernel) (shown c.in_ok-declared.declared.item) c.in_ok-declared.ensures.its) (c.in_err-check_absent.ensures ∙ absent_tested c.args.tables.now.contents c.are_sound.ensures.sound.1.whole.one (name.Kernel c.args.kernel) c.in_ok-declared.declared.ident c.in_ok-declared.ensures.resident c.in_ok-declared.ensures.absent)))
 
 pub returns-clause-exact : goal.returns-clause-exact
 returns-clause-exact c =
@@ -39,7 +43,9 @@ returns-clause-exact c =
     let two : Option Refused = not_declared c.args.tables.now.contents (name.Kernel c.args.kernel) in
     let three : Option Refused = not_owned c.args.tables.now.contents c.args.caller (name.Kernel c.args.kernel) in
     let four : Option Refused = already_loaded c.args.tables.now.contents (name.Kernel c.args.kernel) in
-    first_passes one (option_or two (option_or three (four))) None (c.in_ok-given.ensures.exact) (first_passes two (option_or three (four)) None (c.in_ok-check_declared.ensures) (first_passes three (four) None (c.in_ok-check_owner.ensures ∙ owner_tested c.args.tables.now.contents c.args.caller c.in_ok-given.field-0.now c.in_ok-given.ensures.found (name.Kernel c.args.kernel)) (c.in_ok-check_absent.ensures)))
+    first_passes one (option_or two (option_or three (four))) None (c.in_ok-given.ensures.exact) (first_passes two (option_or three (four)) None (c.in_ok-declared.ensures.exact) (first_passes three (four) None (c.in_ok-check_owner.ensures ∙ owner_tested_of c.args.tables.now.contents c.args.caller c.in_ok-given.field-0.now c.in_ok-given.ensures.found (name.Kernel c.args.kernel) (shown c.in_ok-declared.declared.item) c.in_ok-declared.ensures.its) (c.in_ok-check_absent.ensures ∙ absent_tested c.args.tables.now.contents c.are_sound.ensures.sound.1.whole.one (name.Kernel c.args.kernel) c.in_ok-declared.declared.ident c.in_ok-declared.ensures.resident c.in_ok-declared.ensures.absent)))
 
 pub returns-clause-may : goal.returns-clause-may
-returns-clause-may c = kernel_loadable c.args.tables.now.contents c.is_sound.ensures.1.whole.one c.args.kernel c.in_ok-check_declared.ensures c.in_ok-check_absent.ensures
+returns-clause-may c =
+    let absent : None ≡ already_loaded c.args.tables.now.contents (name.Kernel c.args.kernel) = c.in_ok-check_absent.ensures ∙ absent_tested c.args.tables.now.contents c.are_sound.ensures.sound.1.whole.one (name.Kernel c.args.kernel) c.in_ok-declared.declared.ident c.in_ok-declared.ensures.resident c.in_ok-declared.ensures.absent in
+    rw c.new.ensures (kernel_beside c.args.tables.now.contents c.are_sound.ensures.sound.1.whole.one c.args.kernel c.requires.formed (kernel_loadable c.args.tables.now.contents c.are_sound.ensures.sound.1.whole.one c.args.kernel c.in_ok-declared.ensures.exact absent))

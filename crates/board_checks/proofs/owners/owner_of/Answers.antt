@@ -1,30 +1,15 @@
-use Rattle.std.proofs.Common.{◌≡◌, ◌∙◌, ap, sym, Option, Some, None}
-use Rattle.flat_state.specs.Dependence.{owner, owner_of_row, owner_of_thread}
-use Rattle.cache_ident.specs.declared.names.Name.TheVariants as name
-use Rattle.desc_tables.specs.desc_stores.specs.declared.items.Item.{Item}
-use Rattle.desc_tables.specs.desc_stores.specs.declared.items.Item.TheVariants as item
-use Rattle.desc_tables.specs.desc_stores.specs.declared.items.ItemRef.{ItemRef}
-use Rattle.desc_tables.specs.desc_stores.specs.Contents.{content_of}
-use Rattle.desc_tables.specs.desc_stores.specs.Items.{shown}
-use Rattle.desc_tables.specs.shown_state.specs.Shown.{row_of_item, thread_of}
-use Rattle.desc_tables.specs.desc_parents.specs.Seen.{seen}
-use Rattle.desc_tables.specs.desc_groups.proofs.OwnerLemmas.{owner_of_its_space, owner_of_page, owner_row, owner_thread}
+use Rattle.std.proofs.Common.{◌∙◌}
+use Rattle.board_checks.proofs.OwnerLemmas.{kernel_owned, row_owned, space_owned, thread_owned}
 use Rattle.board_checks.proofs.owners.owner_of.Goals as goal
 
-pub returns-in_err-thread-in-Thread : goal.returns-in_err-thread-in-Thread
-returns-in_err-thread-in-Thread c =
-    c.from_residual.ensures ∙ ap (λ (o : Option Item). owner_of_thread (seen c.args.tables.now.contents) (thread_of o)) c.in_err-thread-in-Thread.ensures ∙ owner_thread c.args.tables.now.contents c.is_sound.ensures.1.whole.one c.args.name c.in-Thread.field-0 c.in-Thread.is
+pub returns-in-Kernel : goal.returns-in-Kernel
+returns-in-Kernel c = kernel_owned c.args.tables.now.contents c.are_sound.ensures.sound.1.whole.one c.args.item c.requires.there c.in-Kernel.field-0 c.in-Kernel.is
 
-pub returns-in-Thread-2 : goal.returns-in-Thread-2
-returns-in-Thread-2 c =
-    let there : Some (item.Thread c.in-Thread-2.thread.now) ≡ content_of c.args.tables.now.contents c.args.name = ap (λ (r : ItemRef). Some (shown r)) (sym c.in-Thread-2.is) ∙ c.in_ok-thread-in-Thread.ensures in
-    c.kernel_of-in-Thread-2.ensures ∙ owner_of_its_space c.args.tables.now.contents c.is_sound.ensures.1.whole.one c.args.name c.in-Thread.field-0 c.in-Thread-2.thread.now c.in-Thread.is there
+pub returns-in-Space : goal.returns-in-Space
+returns-in-Space c = space_owned c.args.tables.now.contents c.are_sound.ensures.sound.1.whole.one c.args.item c.requires.there c.in-Space.space c.in-Space.is
 
-pub returns-in_err-item-in-Mapping : goal.returns-in_err-item-in-Mapping
-returns-in_err-item-in-Mapping c =
-    let at : None ≡ content_of c.args.tables.now.contents (name.Mapping c.in-Mapping.space c.in-Mapping.field-1) = c.in_err-item-in-Mapping.ensures in
-    c.from_residual-in_err-item-in-Mapping.ensures ∙ ap (λ (o : Option Item). owner_of_row (seen c.args.tables.now.contents) (row_of_item o)) (at ∙ ap (content_of c.args.tables.now.contents) (sym c.in-Mapping.is)) ∙ owner_row c.args.tables.now.contents c.is_sound.ensures.1.whole.one c.args.name c.in-Mapping.space c.in-Mapping.field-1 c.in-Mapping.is
+pub returns-in-Thread : goal.returns-in-Thread
+returns-in-Thread c = c.kernel_of.ensures ∙ thread_owned c.args.tables.now.contents c.are_sound.ensures.sound.1.whole.one c.args.item c.requires.there c.in-Thread.thread c.in-Thread.is
 
-pub returns-in_ok-item-in-Mapping : goal.returns-in_ok-item-in-Mapping
-returns-in_ok-item-in-Mapping c =
-    c.kernel_of-in-Mapping.ensures ∙ owner_of_page c.args.tables.now.contents c.is_sound.ensures.1.whole.one c.in-Mapping.space c.in-Mapping.field-1 (shown c.in_ok-item-in-Mapping.field-0) c.in_ok-item-in-Mapping.ensures ∙ ap (owner (seen c.args.tables.now.contents)) (sym c.in-Mapping.is)
+pub returns-in-Mapping : goal.returns-in-Mapping
+returns-in-Mapping c = c.kernel_of-2.ensures ∙ row_owned c.args.tables.now.contents c.are_sound.ensures.sound.1.whole.one c.args.item c.requires.there c.in-Mapping.row c.in-Mapping.is

@@ -5,4 +5,4 @@ use Rattle.board_commits.proofs.commits.is_gone.Goals as goal
 
 pub returns : goal.returns
 returns c =
-    gone_if c.args.tables.now.contents c.room.ensures.sound.1.whole.one c.args.view.now.row c.get.result (c.get.ensures ∙ ap (item_as c.args.tables.now.contents) c.row.ensures) c.is_none.result c.is_none.ensures
+    gone_if c.args.tables.now.contents c.are_sound.ensures.sound.1.whole.one c.args.view.now.row c.get.result (c.get.ensures ∙ ap (item_as c.args.tables.now.contents) c.row.ensures) c.is_none.result c.is_none.ensures

@@ -8,7 +8,7 @@ use Rattle.board_core.specs.board_laws.specs.Moves.{IsLoad}
 use Rattle.board_core.specs.cached_machine.specs.Cached.{Cached}
 use Rattle.board_core.specs.Core.{contents_of}
 use Rattle.board_core.specs.Growth.{count_unkept}
-use Rattle.board_core.specs.desc_admits.specs.May.{MayBeLoaded}
+use Rattle.board_core.specs.desc_tables.specs.May.{MayBeLoaded}
 use Rattle.board_heal.proofs.NextLaws.{comes, count_is, fewer_others, may_load, none_found, stays, were}
 use Rattle.board_heal.proofs.loads.load_missing.Goals as goal
 

@@ -1,9 +1,19 @@
-use Rattle.std.proofs.Common.{ap, ◌∙◌}
+use Rattle.std.proofs.Common.{ap, ◌∙◌, subst}
+use Rattle.std.specs.Prelude.{IfOk}
 use Rattle.board_core.specs.desc_tables.specs.Tables.{Held}
+use Rattle.board_checks.specs.declared.loads.Loadable.{Loadable}
+use Rattle.board_checks.specs.Keeps.{IsLoadableBeside}
 use Rattle.board_checks.specs.Refusals.{refusal_of_load_space}
 use Rattle.board_checks.proofs.WhyLaws.{load_space_tells, told_why}
+use Rattle.board_loads.proofs.LoadLaws.{formed_held}
 use Rattle.board_loads.proofs.SealLaws.{called_sealed}
 use Rattle.board_loads.proofs.loads.load_space.Goals as goal
+
+pub check_load_space-checked-requires : goal.check_load_space-checked-requires
+check_load_space-checked-requires c = record { formed = formed_held c.args.core.now c.tables.ensures.known c.tables.result.now c.tables.ensures.tables }
+
+pub load-requires-clause-may : goal.load-requires-clause-may
+load-requires-clause-may c = subst (λ (h : Held). IfOk c.check_load_space-checked.result (λ (found : Loadable). IsLoadableBeside h.contents found.name found.keep.items)) c.tables.ensures.tables c.check_load_space-checked.ensures.may
 
 pub load-requires-clause-sealed : goal.load-requires-clause-sealed
 load-requires-clause-sealed c =

@@ -7,4 +7,4 @@ use Rattle.board_threads.proofs.known.known.Goals as goal
 pub returns-clause-found : goal.returns-clause-found
 returns-clause-found c =
     let m = c.machine-3.result.now in
-    subst (λ (m : Cached). AreFound (state_of m) m.held.contents) c.machine-3.ensures (all_found (Some m.machine) m.memory m.held.contents c.room.ensures.sound.1.whole.one)
+    subst (λ (m : Cached). AreFound (state_of m) m.held.contents) c.machine-3.ensures (all_found (Some m.machine) m.memory m.held.contents c.tables_are_sound.ensures.sound.1.whole.one)

@@ -6,8 +6,11 @@ use Rattle.cache_ident.specs.declared.names.Caps.{Caps}
 use Rattle.cache_ident.specs.Rolls.{is_same}
 use Rattle.depend_lists.specs.declared.nodes.Node.{Node}
 use Rattle.desc_parents.specs.resident_pairs.specs.Among.{Among}
+use Rattle.cache_ident.specs.declared.names.Name.{Name}
+use Rattle.desc_parents.specs.desc_stores.specs.Contents.{residents_of}
+use Rattle.desc_groups.specs.Moves.{AreNamed}
 use Rattle.desc_groups.specs.Whole.{AreWhole}
-use Rattle.desc_groups.proofs.LeaveLemmas.{causes_all, gone_before, gone_of, group_all, issued_all, next_fits, next_last, next_left, next_live, next_within, places_all, residents_all}
+use Rattle.desc_groups.proofs.LeaveLemmas.{causes_all, gone_before, gone_of, group_all, issued_all, named_all, named_before, next_fits, next_last, next_left, next_live, next_within, places_all, residents_all}
 use Rattle.desc_groups.proofs.ShowLemmas.{but_counts_itself}
 use Rattle.desc_groups.proofs.departures.leave.Goals as goal
 use Rattle.desc_groups.proofs.departures.leave.Goals.{then-eq, else-eq}
@@ -23,9 +26,11 @@ loop-node-init c = (
     issued = refl;
     kept = but_counts_itself c.args.stores.now;
     gone_are = c.clear.ensures.items;
+    named = subst (λ (names : List Name). AreNamed (residents_of c.args.stores.now) [] names) (sym c.clear-2.ensures.items) tt;
     few = omega arith;
   },
   c.order_from.ensures.caps,
+  omega arith,
   omega arith,
 )
 
@@ -34,6 +39,12 @@ overflow_add-at c =
     let low = next_within c.requires.whole c.args.root c.requires.live c.order_from.ensures.order c.loop-node.invariant.0 (sym c.at.ensures ∙ c.in-Some.is) in
     let places = places_all c.requires.whole c.args.root c.requires.live c.order_from.ensures.order c.args.at c.requires.places in
     omega arith
+
+pub name_by-name-requires-clause-one : goal.name_by-name-requires-clause-one
+name_by-name-requires-clause-one c = c.loop-node.invariant.0.whole.one
+
+pub name_by-name-requires-clause-live : goal.name_by-name-requires-clause-live
+name_by-name-requires-clause-live c = next_live c.requires.whole c.args.root c.requires.live c.order_from.ensures.order c.loop-node.invariant.0 (sym c.at.ensures ∙ c.in-Some.is)
 
 pub depart-requires-clause-whole : goal.depart-requires-clause-whole
 depart-requires-clause-whole c = c.loop-node.invariant.0.whole
@@ -58,6 +69,15 @@ push_reserved-requires c =
     let grown = c.loop-node.invariant.2 in
     omega arith
 
+pub push_reserved-requires-in-Some : goal.push_reserved-requires-in-Some
+push_reserved-requires-in-Some c =
+    let left = c.loop-node.invariant.0 in
+    let at_place : slice_get c.loop-node.pairs.order c.loop-node.place ≡ Some c.in-Some.node = sym c.at.ensures ∙ c.in-Some.is in
+    let low = next_fits c.requires.whole c.args.root c.requires.live c.order_from.ensures.order left at_place in
+    let count : length c.loop-node.names.items ≡ c.loop-node.place = named_before c.requires.whole c.args.root c.requires.live c.order_from.ensures.order left at_place in
+    let grown = c.loop-node.invariant.3 in
+    omega arith
+
 pub loop-node-smaller : goal.loop-node-smaller
 loop-node-smaller c =
     let low = next_within c.requires.whole c.args.root c.requires.live c.order_from.ensures.order c.loop-node.invariant.0 (sym c.at.ensures ∙ c.in-Some.is) in
@@ -75,10 +95,11 @@ loop-node-preserved c =
     let items : c.push_reserved.new.self.items ≡ c.loop-node.gone.items ++ gone_of c.args.root c.args.cause c.in-Some.node ∷ [] =
     c.push_reserved.ensures.items
     ∙ ap (λ (cause : Cause). c.loop-node.gone.items ++ record { ident = c.in-Some.node.ident; cause = cause } ∷ []) why in (
-      next_left c.requires.whole c.args.root c.requires.live c.order_from.ensures.order left at_place c.depart.new.stores c.depart.new.pairs c.push_reserved.new.self.items c.depart.ensures.whole (ap (λ (all : Among). all.order) c.depart.ensures.rest)
-          c.depart.ensures.residents c.depart.ensures.issued c.depart.ensures.kept items,
+      next_left c.requires.whole c.args.root c.requires.live c.order_from.ensures.order left at_place c.depart.new.stores c.depart.new.pairs c.push_reserved.new.self.items c.push_reserved-in-Some.new.self.items c.name_by-name.result c.depart.ensures.whole (ap (λ (all : Among). all.order) c.depart.ensures.rest)
+          c.depart.ensures.residents c.depart.ensures.issued c.depart.ensures.kept items c.name_by-name.ensures c.push_reserved-in-Some.ensures.items,
       ap (λ (all : Among). all.caps) c.depart.ensures.rest ∙ c.loop-node.invariant.1,
       (let kept = c.push_reserved.ensures.capacity in omega arith),
+      (let kept = c.push_reserved-in-Some.ensures.capacity in omega arith),
     )
 
 pub returns-clause-caps : goal.returns-clause-caps
@@ -104,3 +125,9 @@ returns-clause-kept c = c.loop-node.invariant.0.kept
 
 pub returns-clause-capacity : goal.returns-clause-capacity
 returns-clause-capacity c = c.loop-node.invariant.2
+
+pub returns-clause-named : goal.returns-clause-named
+returns-clause-named c = named_all c.requires.whole c.args.root c.requires.live c.order_from.ensures.order c.loop-node.invariant.0 (sym c.at.ensures ∙ c.in_default.is)
+
+pub returns-clause-for_names : goal.returns-clause-for_names
+returns-clause-for_names c = c.loop-node.invariant.3

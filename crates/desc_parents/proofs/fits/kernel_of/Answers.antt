@@ -6,7 +6,7 @@ use Rattle.desc_parents.proofs.fits.kernel_of.Goals as goal
 pub returns-in-Some-Space : goal.returns-in-Some-Space
 returns-in-Some-Space c =
     let found = c.in-Some-Space in
-    owner_found c.args.stores.now c.room-room.ensures.one c.item.result (Some (ref.Space found.found)) (found.is ∙ ap Some found.field-0-is) c.args.space c.item.ensures
+    owner_found c.args.stores.now c.each_is_one.ensures c.item.result (Some (ref.Space found.found)) (found.is ∙ ap Some found.field-0-is) c.args.space c.item.ensures
 
 pub returns-in_default-2 : goal.returns-in_default-2
-returns-in_default-2 c = owner_found c.args.stores.now c.room-room.ensures.one c.item.result None c.in_default.is c.args.space c.item.ensures
+returns-in_default-2 c = owner_found c.args.stores.now c.each_is_one.ensures c.item.result None c.in_default.is c.args.space c.item.ensures

@@ -8,4 +8,4 @@ pub is_fit-requires : goal.is_fit-requires
 is_fit-requires c =
     let found = c.in-Some-Mapping in
     let is = ap row_of_item (sym found.ensures ∙ ap (λ x. Some (shown x)) found.field-0-is) in
-    record { frame = c.requires.rows.framed found.row.now (row_shown c.args.stores.now c.room-room.ensures.one c.args.name found.row.now is) }
+    record { frame = c.requires.rows.framed found.row.now (row_shown c.args.stores.now c.each_is_one.ensures c.args.name found.row.now is) }

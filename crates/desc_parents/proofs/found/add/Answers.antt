@@ -6,10 +6,10 @@ use Rattle.desc_parents.proofs.found.add.Goals as goal
 
 pub returns-in-Some : goal.returns-in-Some
 returns-in-Some c =
-    let is = found_ident c.args.stores.now c.room-room.ensures.one c.args.name (Some c.in-Some.ident) c.in-Some.ensures.found c.in-Some.ensures.absent in
+    let is = found_ident c.args.stores.now c.each_is_one.ensures c.args.name (Some c.in-Some.ident) c.in-Some.ensures.found c.in-Some.ensures.absent in
     c.push.ensures.items ∙ ap (λ o. c.args.parents.now.items ++ cons_option o []) (sym is)
 
 pub returns-in_default : goal.returns-in_default
 returns-in_default c =
-    let is = found_ident c.args.stores.now c.room-room.ensures.one c.args.name None c.in_default.ensures.found c.in_default.ensures.absent in
+    let is = found_ident c.args.stores.now c.each_is_one.ensures c.args.name None c.in_default.ensures.found c.in_default.ensures.absent in
     sym (append-nil c.args.parents.now.items) ∙ ap (λ o. c.args.parents.now.items ++ cons_option o []) (sym is)

@@ -10,7 +10,7 @@ add-requires c =
     let contents = c.args.stores.now in
     let loop = c.loop-name in
     let fewer = fewer_gone (signal_names contents.rows c.args.frame) c.into_iter-name-iterator.result (cc) loop.yielded _ loop.yielded_by _ _ c.next.ensures.steps c.in-Some.name c.in-Some.is in
-    let few = few_names contents c.room-room.ensures.one c.args.frame c.requires.rows in
+    let few = few_names contents c.each_is_one.ensures c.args.frame c.requires.rows in
     let has = few_idents (residents_of contents) (fit_in contents) c.args.parents.now.items loop.yielded c.in-Some.name loop.parents.items loop.invariant in
     record { room = omega (arith, fewer, few, has, c.requires.room) }
 
@@ -31,4 +31,4 @@ returns c =
     let contents = c.args.stores.now in
     let loop = c.loop-name in
     let all = all_gone (signal_names contents.rows c.args.frame) c.into_iter-name-iterator.result (cc) loop.yielded _ loop.yielded_by _ _ c.next.ensures.steps c.in-None.is in
-    subst (HasAlsoIdentsOf (residents_of contents) c.args.parents.now.items loop.parents.items) (ap (filter (fit_in contents)) all ∙ fit_names contents c.room-room.ensures.one c.args.frame) loop.invariant
+    subst (HasAlsoIdentsOf (residents_of contents) c.args.parents.now.items loop.parents.items) (ap (filter (fit_in contents)) all ∙ fit_names contents c.each_is_one.ensures c.args.frame) loop.invariant

@@ -2,12 +2,12 @@ use Rattle.std.proofs.Common.{◌≡◌, ◌∙◌, ap, sym, refl, subst, Option
 use Rattle.std.specs.Option.{option_map}
 use Rattle.cache_ident.specs.declared.names.Name.{Name}
 use Rattle.cache_ident.specs.declared.names.Name.TheVariants as name
-use Rattle.desc_admits.specs.desc_stores.specs.declared.items.Item.{Item}
-use Rattle.desc_admits.specs.desc_stores.specs.declared.items.Item.TheVariants as item
-use Rattle.desc_admits.specs.desc_stores.specs.declared.items.ItemRef.{ItemRef}
-use Rattle.desc_admits.specs.desc_stores.specs.Contents.{content_of}
-use Rattle.desc_admits.specs.desc_stores.specs.Items.{shown}
-use Rattle.desc_admits.specs.shown_state.proofs.ContentLemmas.{item_has_name}
+use Rattle.desc_groups.specs.desc_stores.specs.declared.items.Item.{Item}
+use Rattle.desc_groups.specs.desc_stores.specs.declared.items.Item.TheVariants as item
+use Rattle.desc_groups.specs.desc_stores.specs.declared.items.ItemRef.{ItemRef}
+use Rattle.desc_groups.specs.desc_stores.specs.Contents.{content_of}
+use Rattle.desc_groups.specs.desc_stores.specs.Items.{shown}
+use Rattle.desc_groups.specs.shown_state.proofs.ContentLemmas.{item_has_name}
 use Rattle.desc_tables.proofs.tables.grant.Goals as goal
 
 pub put_kernel-requires : goal.put_kernel-requires

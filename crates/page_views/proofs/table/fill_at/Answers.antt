@@ -15,6 +15,6 @@ returns c =
     let is : c.copy.new.self ≡ v =
     c.copy.ensures
     ∙ ap (λ touched. viewed o c.args.bytes.now (present_in touched c.args.bytes.now))
-    (c.find_touched-touched.ensures ∙ ap (λ (vs : List View). find (is_touched_of o.frame) vs) parts.front) in
+    (c.touched_of-touched.ensures ∙ ap (λ (vs : List View). find (is_touched_of o.frame) vs) parts.front) in
     ap₂ (λ (front back : List View). front ++ set back 0 c.copy.new.self) parts.front parts.back
     ∙ (ap (λ (w : View). take n xs ++ set (drop n xs) 0 w) is ∙ set_between n xs v c.requires.room)

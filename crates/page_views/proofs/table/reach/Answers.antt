@@ -14,6 +14,6 @@ returns-then-count-len-clause-reached c =
     record {
       behind = omega (arith, all, size);
       few = omega (arith, all, size, c.requires.few);
-      same = ap (table_of c.args.count) c.push_reserved.ensures.items
-          ∙ subst (λ n. table_of n (slots ++ c.empty.result ∷ []) ≡ table_of n slots) (sym all) (table_reaching slots c.empty.result c.empty.ensures (omega (arith, all, c.requires.few)));
+      same = ap (table_of c.args.most c.args.count) c.push_reserved.ensures.items
+          ∙ subst (λ n. table_of c.args.most n (slots ++ c.empty.result ∷ []) ≡ table_of c.args.most n slots) (sym all) (table_reaching c.args.most slots c.empty.result c.empty.ensures (omega (arith, all, c.requires.few)));
     }

@@ -1,7 +1,7 @@
 use Rattle.std.proofs.Common.{◌≡◌, ◌++◌, List, ℕ, ap, sym, subst, ◌∙◌}
 use Rattle.std.proofs.lemmas.Result.{IfOk-weaker}
 use Rattle.v_drive.specs.Lines.{IsTaken}
-use Rattle.v_drive.specs.Openings.{IsBoardOf}
+use Rattle.board_opening.specs.Openings.{IsBoardOf}
 use Rattle.v_drive.proofs.Answering.{answered}
 use Rattle.v_drive.proofs.Taking.{clear_views}
 use Rattle.v_drive.proofs.machine.driven.Goals as goal

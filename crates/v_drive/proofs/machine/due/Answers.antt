@@ -1,5 +1,6 @@
 use Rattle.std.proofs.lemmas.Result.{IfOk-weaker}
-use Rattle.v_drive.proofs.Answering.{by_words, failed_by, is_taken}
+use Rattle.due_text.proofs.Inputs.{failed_by}
+use Rattle.v_drive.proofs.Answering.{by_words, is_taken}
 use Rattle.v_drive.proofs.machine.due.Goals as goal
 
 pub returns-in-Ok-clause-due : goal.returns-in-Ok-clause-due

@@ -1,10 +1,14 @@
-use Rattle.std.proofs.Common.{arith}
+use Rattle.std.proofs.Common.{subst, sym}
 use Rattle.std.proofs.lemmas.Result.{IfOk-weaker}
-use Rattle.v_drive.proofs.Answering.{by_input, from_read}
+use Rattle.due_text.specs.Inputs.{IsInput, IsWhole}
+use Rattle.v_drive.proofs.Answering.{by_input}
 use Rattle.v_drive.proofs.machine.due_of.Goals as goal
 
-pub returns-in-Ok-clause-due : goal.returns-in-Ok-clause-due
-returns-in-Ok-clause-due g c =
+pub returns-in-Whole-clause-due : goal.returns-in-Whole-clause-due
+returns-in-Whole-clause-due g c =
+    let bytes = g.S.Source.bytes_left c.args.source.now in
+    let left = g.S.Source.bytes_left c.read_input.new.source in
     let bs = c.deref.result.now in
-    let from = from_read _ _ c.in-Ok.bytes.items bs c.deref.ensures.value c.in-Ok.ensures.whole c.in-Ok.ensures.end (omega (arith, c.in-Ok.bytes.ok.0, c.in-Ok.ensures.within)) in
-    IfOk-weaker c.due_for.result _ _ (λ d h. by_input c.args.steps _ _ bs d.ending d.text.items from h) c.due_for.ensures.due
+    let whole : IsWhole bytes left c.in-Whole.bytes.items = subst (IsInput bytes left) c.in-Whole.is c.in_ok-bytes.ensures.came in
+    let from : IsWhole bytes left bs = subst (IsWhole bytes left) (sym c.deref.ensures.value) whole in
+    IfOk-weaker c.due_for.result _ _ (λ d h. by_input c.args.steps bytes left bs d.ending d.text.items from h) c.due_for.ensures.due

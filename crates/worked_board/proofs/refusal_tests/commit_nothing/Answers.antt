@@ -15,6 +15,6 @@ commit-requires c =
     record {
       views = record {
         views = λ v there. let nowhere : Contains [] v = subst (λ (vs : List View). Contains vs v) none there in let below : nowhere.0 < 0 = nowhere.1 in absurd (omega arith);
-        kept = subst (AreAllAsOf j) (sym c.begin.ensures) (kept_begun j c.args.ticket.now.context from (subst (AreAllAsOf j) (sym c.forget.ensures) (kept_unbegun j)));
+        kept = subst (AreAllAsOf j) (sym c.begin.ensures) (kept_begun j c.args.ticket.now.context from (subst (AreAllAsOf j) (sym c.forget.ensures) (kept_unbegun j c.args.quantum.now.most)));
       };
     }

@@ -10,7 +10,7 @@ use Rattle.cached_machine.specs.desc_stores.specs.Contents.{residents_of}
 use Rattle.cached_machine.specs.store_residents.proofs.ContentLemmas.{shelved_iff}
 use Rattle.cached_machine.specs.desc_groups.specs.declared.departures.Gone.{Gone}
 use Rattle.cached_machine.specs.desc_groups.specs.Whole.{AreWhole}
-use Rattle.cached_machine.specs.desc_admits.specs.May.{MayBeLoaded}
+use Rattle.cached_machine.specs.desc_tables.specs.May.{MayBeLoaded}
 use Rattle.cached_machine.specs.desc_tables.specs.Tables.{Held}
 use Rattle.cached_machine.specs.board_laws.specs.Moves.{written_back, IsLoad}
 use Rattle.cached_machine.specs.Cached.{Cached}

@@ -3,7 +3,7 @@ use Rattle.cache_ident.specs.declared.names.Caps.{Caps}
 use Rattle.cache_ident.specs.declared.names.ThreadNo.{ThreadNo}
 use Rattle.cache_ident.specs.Names.{amount_of, kind_of}
 use Rattle.board_laws.specs.desc_groups.specs.declared.departures.Gone.{Gone}
-use Rattle.board_laws.specs.desc_admits.specs.May.{MayBeLoaded}
+use Rattle.board_laws.specs.desc_tables.specs.May.{MayBeLoaded}
 use Rattle.board_laws.specs.desc_tables.specs.Calls.{HasPlacesFor}
 use Rattle.board_laws.specs.desc_tables.specs.Tables.{Held}
 use Rattle.board_laws.specs.Moves.{IsLoad}

@@ -3,7 +3,7 @@ use Rattle.phys_groups.specs.Memory.{word_bytes, written}
 use Rattle.flat_state.specs.declared.events.Decl.TheVariants as decls
 use Rattle.flat_machine.proofs.DeclareSound.{word_rules}
 use Rattle.board_laws.specs.shown_state.specs.Shown.{shown}
-use Rattle.cached_machine.specs.Cached.{state_of, Cached, IsSound}
+use Rattle.cached_machine.specs.Cached.{state_of, Cached, IsSoundMachine}
 use Rattle.cached_machine.specs.Moved.{IsMade, MayBeMade}
 use Rattle.cached_machine.specs.contracts.machine.CachedMachine.{the_view}
 use Rattle.cached_machine.proofs.MadeLaws.{beside_held, held_itself, word_made, word_state}
@@ -47,7 +47,7 @@ invariant_of-self c =
     let bytes = written i.memory (4096 * a.frame.0 + a.offset) (word_bytes a.value) in
     let after : Cached = record { machine = i.machine; memory = bytes; held = i.tables; sets = i.sets } in
     let sound = word_made (the_view i) after i.granted refl refl c.self.invariant.0 a.frame a.offset a.value may.fits (word_state i.machine i.memory i.tables i.sets a.frame a.offset a.value) c.self.invariant.0.sets in
-    (subst (λ (memory : List ℕ). IsSound (record { machine = i.machine; memory = memory; held = i.tables; sets = i.sets }) i.granted) (sym c.store_word.ensures.after) sound, c.self.invariant.1)
+    (subst (λ (memory : List ℕ). IsSoundMachine (record { machine = i.machine; memory = memory; held = i.tables; sets = i.sets }) i.granted) (sym c.store_word.ensures.after) sound, c.self.invariant.1)
 
 pub returns : goal.returns
 returns c =

@@ -136,13 +136,21 @@ change-requires-in-Mapping-clause-frame c =
     let agrees = rw (← c.self.view_is, c.in-Mapping.is) at c.requires.agrees in
     (λ l there. (rows_agreed v c.self.invariant c.args.ident live c.in-Mapping.row agrees l there).1)
 
+pub change-requires-in-Mapping-clause-flags : goal.change-requires-in-Mapping-clause-flags
+change-requires-in-Mapping-clause-flags c =
+    let i = c.self.inside in
+    let v : Contents = record { kernels = i.kernels; spaces = i.spaces; threads = i.threads; rows = i.rows; kernel_count = i.kernel_count; space_count = i.space_count; thread_count = i.thread_count; issued = i.roll.issued; spare = i.roll.spare } in
+    let live = rw (← c.self.view_is) at c.requires.live in
+    let agrees = rw (← c.self.view_is, c.in-Mapping.is) at c.requires.agrees in
+    (λ l there. (rows_agreed v c.self.invariant c.args.ident live c.in-Mapping.row agrees l there).2)
+
 pub change-requires-in-Mapping-clause-receiver : goal.change-requires-in-Mapping-clause-receiver
 change-requires-in-Mapping-clause-receiver c =
     let i = c.self.inside in
     let v : Contents = record { kernels = i.kernels; spaces = i.spaces; threads = i.threads; rows = i.rows; kernel_count = i.kernel_count; space_count = i.space_count; thread_count = i.thread_count; issued = i.roll.issued; spare = i.roll.spare } in
     let live = rw (← c.self.view_is) at c.requires.live in
     let agrees = rw (← c.self.view_is, c.in-Mapping.is) at c.requires.agrees in
-    (λ l there. (rows_agreed v c.self.invariant c.args.ident live c.in-Mapping.row agrees l there).2)
+    (λ l there. (rows_agreed v c.self.invariant c.args.ident live c.in-Mapping.row agrees l there).3)
 
 pub invariant_of-self-in-Mapping : goal.invariant_of-self-in-Mapping
 invariant_of-self-in-Mapping c =

@@ -30,6 +30,15 @@ update_named-requires-clause-frame g c =
     let same = agrees value left result (row_of v c.args.name c.requires.row ∙ ap (option_map item.Mapping) there) gave in
     sym same.1
 
+pub update_named-requires-clause-flags : goal.update_named-requires-clause-flags
+update_named-requires-clause-flags g c =
+    let i = c.self.inside in
+    let v : Contents = record { kernels = i.kernels; spaces = i.spaces; threads = i.threads; rows = i.rows; kernel_count = i.kernel_count; space_count = i.space_count; thread_count = i.thread_count; issued = i.roll.issued; spare = i.roll.spare } in
+    let agrees = rw (← c.self.view_is) at c.requires.agrees in
+    λ value result left there gave.
+    let same = agrees value left result (row_of v c.args.name c.requires.row ∙ ap (option_map item.Mapping) there) gave in
+    sym same.2
+
 pub update_named-requires-clause-receiver : goal.update_named-requires-clause-receiver
 update_named-requires-clause-receiver g c =
     let i = c.self.inside in
@@ -37,7 +46,7 @@ update_named-requires-clause-receiver g c =
     let agrees = rw (← c.self.view_is) at c.requires.agrees in
     λ value result left there gave.
     let same = agrees value left result (row_of v c.args.name c.requires.row ∙ ap (option_map item.Mapping) there) gave in
-    sym same.2
+    sym same.3
 
 pub invariant_of-self : goal.invariant_of-self
 invariant_of-self g c =

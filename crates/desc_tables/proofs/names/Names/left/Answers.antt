@@ -2,7 +2,7 @@ use Rattle.std.proofs.Common.{◌≡◌, ◌∙◌, ℕ, ◌-◌, ap, length, ma
 use Rattle.std.specs.declared.ops.Range.{Range}
 use Rattle.std.proofs.lemmas.List.FromFn.{length-map-range_with_len}
 use Rattle.cache_ident.specs.declared.names.Name.{Name}
-use Rattle.desc_admits.specs.desc_stores.specs.Sound.{kernel_named, space_named, thread_named}
+use Rattle.desc_groups.specs.desc_stores.specs.Sound.{kernel_named, space_named, thread_named}
 use Rattle.desc_tables.specs.declared.names.Left.{Left}
 use Rattle.desc_tables.specs.Names.{names_in, numbers_of}
 use Rattle.desc_tables.proofs.names.Names.left.Goals as goal

@@ -1,10 +1,10 @@
-use Rattle.std.proofs.Common.{ap, sym, ◌∙◌, subst}
+use Rattle.std.proofs.Common.{ap, sym, ◌∙◌, subst, arith}
 use Rattle.cache_ident.specs.declared.names.Caps.{Caps}
 use Rattle.flat_state.specs.State.{FlatState}
-use Rattle.desc_admits.specs.shown_state.specs.Edits.{with_new}
-use Rattle.desc_admits.specs.May.{MayBeDeclared}
+use Rattle.desc_groups.specs.shown_state.specs.Edits.{with_new}
+use Rattle.desc_tables.specs.May.{MayBeDeclared}
 use Rattle.desc_tables.specs.Tables.{Held}
-use Rattle.desc_tables.proofs.RoomLemmas.{may_still, onward_from_room, residents_room, shows_room}
+use Rattle.desc_tables.proofs.RoomLemmas.{may_still, onward_from_room, residents_room, room_grows, shows_room}
 use Rattle.desc_tables.proofs.tables.Tables.declare.Goals as goal
 
 pub returns-in_err-make_room-clause-residents : goal.returns-in_err-make_room-clause-residents
@@ -25,3 +25,14 @@ pub returns-clause-shows : goal.returns-clause-shows
 returns-clause-shows c = λ machine memory.
     c.put.ensures.shows machine memory
     ∙ ap (λ (s : FlatState). with_new s c.args.item) (shows_room c.args.self.now.contents c.make_room.new.self.contents c.make_room.ensures.only machine memory)
+
+pub returns-in_err-make_room-clause-room : goal.returns-in_err-make_room-clause-room
+returns-in_err-make_room-clause-room c =
+    let grows = room_grows c.args.self.now.contents c.make_room.new.self.contents c.make_room.ensures.only in
+    omega arith
+
+pub returns-clause-room : goal.returns-clause-room
+returns-clause-room c =
+    let grows = room_grows c.args.self.now.contents c.make_room.new.self.contents c.make_room.ensures.only in
+    let put = c.put.ensures.room in
+    omega arith

@@ -2,14 +2,14 @@
 use Rattle.std.proofs.Common.{ap, subst, sym, ◌∙◌, arith}
 use Rattle.cache_ident.specs.Names.{kind_of}
 use Rattle.depend_lists.specs.Pairs.{count_of}
-use Rattle.desc_admits.specs.desc_stores.specs.Contents.{residents_of, IsFullOf, IsVictimOf, NoneMayGoOf}
+use Rattle.desc_groups.specs.desc_stores.specs.Contents.{residents_of, IsFullOf, IsVictimOf, NoneMayGoOf}
 use Rattle.run_journal.specs.Groups.{IsGroup}
-use Rattle.desc_admits.specs.store_residents.specs.Victims.{IsOldest}
-use Rattle.desc_admits.specs.store_residents.proofs.ResidentLemmas.{live_iff}
-use Rattle.desc_admits.specs.store_residents.proofs.VictimLemmas.{victim_resident}
-use Rattle.desc_admits.specs.desc_parents.specs.Seen.{seen}
-use Rattle.desc_admits.specs.desc_groups.specs.Moves.{idents_of, HasPlaces}
-use Rattle.desc_admits.specs.May.{MayBeLoaded}
+use Rattle.desc_groups.specs.store_residents.specs.Victims.{IsOldest}
+use Rattle.desc_groups.specs.store_residents.proofs.ResidentLemmas.{live_iff}
+use Rattle.desc_groups.specs.store_residents.proofs.VictimLemmas.{victim_resident}
+use Rattle.desc_groups.specs.desc_parents.specs.Seen.{seen}
+use Rattle.desc_groups.specs.Moves.{idents_of, AreNamed, HasPlaces}
+use Rattle.desc_tables.specs.May.{MayBeLoaded}
 use Rattle.desc_tables.specs.Calls.{HasPlacesFor}
 use Rattle.desc_tables.specs.Tables.{Held}
 use Rattle.desc_tables.proofs.Limits.{few_residents, left_sound}
@@ -28,12 +28,20 @@ leave-requires-clause-room c =
     let room = c.self.invariant.1 in
     omega arith
 
+pub leave-requires-clause-for_names : goal.leave-requires-clause-for_names
+leave-requires-clause-for_names c =
+    let few = few_residents _ _ _ c.self.invariant.0.whole in
+    let room = c.self.invariant.2 in
+    omega arith
+
 pub invariant_of-self : goal.invariant_of-self
 invariant_of-self c =
     let room = c.self.invariant.1 in
+    let for_names = c.self.invariant.2 in
     let capacity = c.leave.ensures.capacity in
+    let names = c.leave.ensures.for_names in
     let caps = ap count_of c.leave.ensures.caps in
-    (left_sound _ _ _ _ (idents_of c.leave.new.gone.items) c.self.invariant.0 c.leave.ensures.whole c.leave.ensures.caps c.leave.ensures.residents c.leave.ensures.kept, omega arith, c.self.invariant.2 ∙ sym c.leave.ensures.caps)
+    (left_sound _ _ _ _ (idents_of c.leave.new.gone.items) c.self.invariant.0 c.leave.ensures.whole c.leave.ensures.caps c.leave.ensures.residents c.leave.ensures.kept, omega arith, omega arith, c.self.invariant.3 ∙ sym c.leave.ensures.caps)
 
 pub returns-clause-victim : goal.returns-clause-victim
 returns-clause-victim c =
@@ -49,7 +57,7 @@ returns-clause-ready c =
     let may = subst (λ (h : Held). MayBeLoaded h.contents c.args.name c.args.keep.now) (sym c.self.view_is) c.requires.may in
     let is = subst (λ k. IsVictimOf c.self.inside.stores k c.args.keep.now c.in-Some.victim) c.kind.ensures c.in-Some.ensures.victim in
     let victim = victim_resident c.self.inside.stores c.args.keep.now c.self.invariant.0.whole.one.sound (kind_of c.args.name) c.in-Some.victim is in
-    let new : Held = record { caps = c.leave.new.pairs.caps; contents = c.leave.new.stores; gone = c.leave.new.gone.items } in
+    let new : Held = record { caps = c.leave.new.pairs.caps; contents = c.leave.new.stores; gone = c.leave.new.gone.items; left = c.leave.new.names.items } in
     ready_behind _ _ c.self.invariant.0 c.args.name c.args.keep.now may new c.leave.new.pairs.pairs victim.0 (idents_of c.leave.new.gone.items) victim.2 (c.leave.ensures.group victim.0 victim.2.there victim.1) c.leave.ensures.whole c.leave.ensures.caps c.leave.ensures.residents c.leave.ensures.kept
 
 pub leave-requires-clause-live : goal.leave-requires-clause-live
@@ -65,3 +73,6 @@ leave-requires-clause-places c =
     let is = subst (λ k. IsVictimOf c.self.inside.stores k c.args.keep.now c.in-Some.victim) c.kind.ensures c.in-Some.ensures.victim in
     let victim = victim_resident c.self.inside.stores c.args.keep.now c.self.invariant.0.whole.one.sound (kind_of c.args.name) c.in-Some.victim is in
     subst (λ i. HasPlaces c.self.inside.stores i c.args.at) victim.1 (places full victim.0 victim.2)
+
+pub returns-clause-named : goal.returns-clause-named
+returns-clause-named c = subst (λ (h : Held). AreNamed (residents_of h.contents) (idents_of c.leave.new.gone.items) c.leave.new.names.items) c.self.view_is c.leave.ensures.named

@@ -1,7 +1,7 @@
 use Rattle.std.proofs.Common.{subst}
 use Rattle.std.specs.Prelude.{IfNone, IfSome}
 use Rattle.cache_ident.specs.Residents.{IsNameResident, IsResident}
-use Rattle.desc_admits.specs.desc_stores.specs.Contents.{residents_of}
+use Rattle.desc_groups.specs.desc_stores.specs.Contents.{residents_of}
 use Rattle.desc_tables.specs.Tables.{Held}
 use Rattle.desc_tables.proofs.ReadLemmas.{absent_resident, found_resident}
 use Rattle.desc_tables.proofs.tables.Tables.resident_near.Goals as goal

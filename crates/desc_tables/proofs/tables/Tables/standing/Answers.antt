@@ -1,8 +1,8 @@
 use Rattle.std.proofs.Common.{◌↔◌, ◌≡◌, sym, ◌∙◌, subst}
 use Rattle.cache_ident.specs.declared.idents.Standing.TheVariants.{Live}
 use Rattle.cache_ident.specs.Residents.{IsIdentResident}
-use Rattle.desc_admits.specs.desc_stores.specs.Contents.{residents_of}
-use Rattle.desc_admits.specs.store_residents.proofs.ResidentLemmas.{live_iff}
+use Rattle.desc_groups.specs.desc_stores.specs.Contents.{residents_of}
+use Rattle.desc_groups.specs.store_residents.proofs.ResidentLemmas.{live_iff}
 use Rattle.desc_tables.specs.Tables.{Held}
 use Rattle.desc_tables.proofs.tables.Tables.standing.Goals as goal
 

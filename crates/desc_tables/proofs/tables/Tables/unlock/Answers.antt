@@ -10,4 +10,4 @@ pub invariant_of-self : goal.invariant_of-self
 invariant_of-self c =
     let sound = c.self.invariant.0 in
     let live = subst (λ (h : Held). standing_in h.contents.issued c.args.ident ≡ Live) (sym c.self.view_is) c.requires.live in
-    (unlocked_sound _ _ _ _ c.args.ident sound (c.unlock.ensures.whole _ _ sound.whole) refl live c.unlock.ensures.residents c.unlock.ensures.kept, c.self.invariant.1, c.self.invariant.2)
+    (unlocked_sound _ _ _ _ c.args.ident sound (c.unlock.ensures.whole _ _ sound.whole) refl live c.unlock.ensures.residents c.unlock.ensures.kept, c.self.invariant.1, c.self.invariant.2, c.self.invariant.3)

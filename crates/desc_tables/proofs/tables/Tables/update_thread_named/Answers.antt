@@ -1,10 +1,10 @@
 -- What stands in the place of the content of the name is like it, so that all holds that held.
 use Rattle.std.proofs.Common.{ap, sym, ◌∙◌}
 use Rattle.flat_state.specs.Dependence.{owner}
-use Rattle.desc_admits.specs.desc_stores.specs.declared.items.Item.TheVariants as item
-use Rattle.desc_admits.specs.desc_stores.specs.Changes.{room_of}
-use Rattle.desc_admits.specs.desc_stores.specs.Contents.{content_of, Contents}
-use Rattle.desc_admits.specs.desc_parents.specs.Seen.{seen}
+use Rattle.desc_groups.specs.desc_stores.specs.declared.items.Item.TheVariants as item
+use Rattle.desc_groups.specs.desc_stores.specs.Changes.{room_of}
+use Rattle.desc_groups.specs.desc_stores.specs.Contents.{content_of, Contents}
+use Rattle.desc_groups.specs.desc_parents.specs.Seen.{seen}
 use Rattle.desc_tables.specs.Tables.{Held}
 use Rattle.desc_tables.proofs.ChangeLemmas.{called_named, like_agrees, shown_named, sound_named}
 use Rattle.desc_tables.proofs.tables.Tables.update_thread_named.Goals as goal
@@ -19,10 +19,11 @@ invariant_of-self g c =
     let sound = c.self.invariant.0 in
     let made = c.update_thread_named-result.ensures.updated in
     let like = c.requires.like made.value made.left c.update_thread_named-result.result (ap (λ (h : Held). content_of h.contents c.args.name) (sym c.self.view_is) ∙ made.was) made.called_with in (
-      sound_named stores c.update_thread_named-result.new.self c.args.name (item.Thread made.value) (item.Thread made.left) made.was like made.contents made.is c.self.inside.pairs.caps c.self.inside.gone.items c.self.inside.pairs.pairs sound
+      sound_named stores c.update_thread_named-result.new.self c.args.name (item.Thread made.value) (item.Thread made.left) made.was like made.contents made.is c.self.inside.pairs.caps c.self.inside.gone.items c.self.inside.left.items c.self.inside.pairs.pairs sound
           c.each_is_one.ensures c.update_thread_named-result.ensures.residents (c.update_thread_named-result.ensures.owned (owner (seen stores)) sound.whole.owned),
       c.self.invariant.1,
       c.self.invariant.2,
+      c.self.invariant.3,
     )
 
 pub returns-clause-updated : goal.returns-clause-updated

@@ -11,4 +11,4 @@ pub returns-clause-kept : goal.returns-clause-kept
 returns-clause-kept c =
     let page : Vpn = record { 0 = c.args.va / 4096 } in
     ap rest_of c.mark.ensures
-    ∙ ap (λ (cs : List Copied). (cs, c.args.self.now.kept)) (copies_mapped (mark_view_of page c.args.access) (mark_copied page c.args.access) c.args.self.now.views)
+    ∙ ap (λ (cs : List Copied). (c.args.self.now.most, cs, c.args.self.now.kept)) (copies_mapped (mark_view_of page c.args.access) (mark_copied page c.args.access) c.args.self.now.views)

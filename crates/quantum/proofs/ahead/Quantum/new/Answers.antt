@@ -5,4 +5,4 @@ use Rattle.quantum.proofs.Making.{made_begun}
 use Rattle.quantum.proofs.ahead.Quantum.new.Goals as goal
 
 pub invariant_of-result : goal.invariant_of-result
-invariant_of-result c = rw (c.in_ok-new.ensures, c.no_context-context.ensures) (made_begun unbegun.context nothing_kept refl)
+invariant_of-result c = rw (c.in_ok-new.ensures, c.no_context-context.ensures) (made_begun (unbegun 0).context c.args.most (nothing_kept c.args.most) refl)

@@ -1,9 +1,9 @@
 use Rattle.std.proofs.Common.{ap, refl}
 use Rattle.phys_groups.specs.declared.rows.Row.{Row}
 use Rattle.kind_store.specs.Kept.{Kept}
-use Rattle.mapping_cache.specs.Frames.{IsIndexed}
-use Rattle.mapping_cache.proofs.FrameLemmas.{indexed-changed}
+use Rattle.row_store.specs.Frames.{IsIndexed}
 use Rattle.row_store.proofs.ContentLemmas.{alike-kept}
+use Rattle.row_store.proofs.FrameLemmas.{indexed-changed}
 use Rattle.row_store.proofs.SoundLemmas.{sound-alike}
 use Rattle.row_store.proofs.store.RowStore.lock.Goals as goal
 

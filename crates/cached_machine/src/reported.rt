@@ -1,0 +1,31 @@
+//! What a report reads of the machine.
+
+use crate::machine::CachedMachine;
+use crate::reading;
+use cache_ident::ThreadNo;
+use flat_report::{Reported, RowTally};
+use flat_rules::Records;
+use std::alloc::{AllocError, Global};
+use thread_cache::ThreadRec;
+
+impl Reported for CachedMachine {
+    /// It goes once over the names of the rows, and looks each of them up.
+    fn tally_rows(&self, alloc: Global) -> Result<RowTally, AllocError> {
+        reading::known(&self.tables);
+        let mut tally = RowTally::new(alloc, self.space_count())?;
+        for name in self.tables.row_names() {
+            if let Some(row) = reading::row_named(&self.tables, name) {
+                tally.add(row);
+            }
+        }
+        Ok(tally)
+    }
+
+    fn no_of(thread: &ThreadRec) -> ThreadNo {
+        thread.no
+    }
+
+    fn output_of(thread: &ThreadRec) -> &[u8] {
+        thread.output.bytes()
+    }
+}

@@ -1,8 +1,0 @@
-use Rattle.desc_admits.specs.store_residents.proofs.FrameLemmas.{rows_on_frame}
-use Rattle.desc_tables.proofs.tables.Tables.rows_of_frame.Goals as goal
-
-pub returns-clause-rows : goal.returns-clause-rows
-returns-clause-rows c = rw (← c.self.view_is) (λ ident.
-    let on = rows_on_frame c.self.inside.stores c.self.invariant.0.whole.one c.args.frame ident in
-    let listed = c.rows_of_frame.ensures.rows ident in
-    (λ there. on.0 (listed.0 there), λ is. listed.1 (on.1 is)))

@@ -1,0 +1,4 @@
+pub use Rattle.cache_board
+pub mod Boards
+pub mod Heards
+pub mod Following

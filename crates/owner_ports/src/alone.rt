@@ -1,0 +1,129 @@
+//! The port of owners who have the board for themselves.
+
+ghost use Rattle.std.specs.Prelude.{◌≡◌, refl, None, Some};
+ghost use Rattle.std.specs.Result.{result_err};
+ghost use Rattle.std.proofs.Common.{◌∙◌};
+ghost use Rattle.cache_board.specs.board_core.specs.Going.{GoesOn};
+ghost use Rattle.owner_ports.specs.Following.{goes_further, goes_nowhere};
+ghost use Rattle.owner_ports.specs.Heards.{called};
+
+use crate::port::{Heard, Port, PortCall, Said, Told};
+use cache_board::{Board, Refused};
+use cache_ident::{Ident, KernelNo, SpaceNo, ThreadNo, Vpn};
+use rv32_exec::Status;
+
+/// A board, as processor 0 calls it. It tells its board, and of it comes the same reference, whose board went on.
+#[derive(Drop)]
+pub struct Alone<'a> {
+    pub board: &'a mut Board,
+    pub heard: Heard,
+}
+
+impl<'a> Alone<'a> {
+    /// Nothing was called yet.
+    pub fn new(board: &'a mut Board) -> Alone<'a>
+        ensures same_reference { result.board.ghost_name ≡ board.entry.ghost_name }
+        ensures board { result.board.now ≡ board.old }
+        ensures heard { result.heard ≡ record { calls = 0; said = None; asks = 0; told = None } }
+    {
+        Alone {
+            board,
+            heard: Heard {
+                calls: 0,
+                said: None,
+                asks: 0,
+                told: None,
+            },
+        }
+    }
+}
+
+// What was heard, once a call was answered.
+fn after_call<T>(heard: Heard, call: PortCall, answer: &Result<T, Refused>) -> Heard
+    ensures { result ≡ called heard call (result_err answer.now) }
+{
+    let refused = match answer {
+        Ok(_) => None,
+        Err(refused) => Some(*refused),
+    };
+    Heard {
+        calls: heard.calls.saturating_add(1),
+        said: Some(Said { call, refused }),
+        ..heard
+    }
+}
+
+impl Port for Alone<'_> {
+    ghost board = { λ port. Some port.board.now };
+
+    ghost heard = { λ port. port.heard };
+
+    ghost follows = { λ old new. (new.board.ghost_name ≡ old.board.ghost_name) × GoesOn 0 old.board.now new.board.now };
+
+    fn load_kernel(&mut self, caller: Ident, kernel: KernelNo) -> Result<Ident, Refused> {
+        let answer = self.board.load_kernel(0, caller, kernel);
+        self.heard = after_call(self.heard, PortCall::LoadKernel(kernel), &answer);
+        answer
+    }
+
+    fn load_space(&mut self, caller: Ident, space: SpaceNo) -> Result<Ident, Refused> {
+        let answer = self.board.load_space(0, caller, space);
+        self.heard = after_call(self.heard, PortCall::LoadSpace(space), &answer);
+        answer
+    }
+
+    fn load_thread(
+        &mut self,
+        caller: Ident,
+        parent: Ident,
+        thread: ThreadNo,
+    ) -> Result<Ident, Refused> {
+        let answer = self.board.load_thread(0, caller, parent, thread);
+        self.heard = after_call(self.heard, PortCall::LoadThread(thread), &answer);
+        answer
+    }
+
+    fn load_mapping(
+        &mut self,
+        caller: Ident,
+        parent: Ident,
+        vpn: Vpn,
+        receiver: Option<Ident>,
+    ) -> Result<Ident, Refused> {
+        let answer = self.board.load_mapping(0, caller, parent, vpn, receiver);
+        self.heard = after_call(self.heard, PortCall::LoadMapping(parent, vpn), &answer);
+        answer
+    }
+
+    fn unload(&mut self, caller: Ident, ident: Ident) -> Result<(), Refused> {
+        let answer = self.board.unload(0, caller, ident);
+        self.heard = after_call(self.heard, PortCall::Unload(ident), &answer);
+        answer
+    }
+
+    fn complete(&mut self, caller: Ident, thread: Ident) -> Result<(), Refused> {
+        let answer = self.board.complete(0, caller, thread);
+        self.heard = after_call(self.heard, PortCall::Complete(thread), &answer);
+        answer
+    }
+
+    fn confirm_fault(&mut self, caller: Ident, thread: Ident) -> Result<(), Refused> {
+        let answer = self.board.confirm_fault(0, caller, thread);
+        self.heard = after_call(self.heard, PortCall::ConfirmFault(thread), &answer);
+        answer
+    }
+
+    fn status(&mut self, thread: ThreadNo) -> Option<Status> {
+        let status = self.board.flat_thread(thread).map(|record| record.status);
+        self.heard = Heard {
+            asks: self.heard.asks.saturating_add(1),
+            told: Some(Told { thread, status }),
+            ..self.heard
+        };
+        status
+    }
+
+    ghost stays = { λ port. (refl, goes_nowhere 0 port.board.now) };
+
+    ghost goes_on = { λ first then last before after. (after.0 ∙ before.0, goes_further 0 first.board.now then.board.now last.board.now before.1 after.1) };
+}
