@@ -1,5 +1,5 @@
 -- A step that is missed on copied pages, by an access that the machine doesn't translate either, is missed there.
-use Rattle.std.proofs.Common.{◌≡◌, ℕ, ◌%◌, Bool, true, false, not, ◌&&◌, List, map, Option, Some, None, slice_get, Contains, refl, ap, ap₂, sym, ◌∙◌, subst}
+use Rattle.std.proofs.Common.{◌≡◌, ℕ, ◌%◌, Bool, true, false, not, ◌&&◌, List, map, Option, Some, None, slice_get, Contains, refl, ap, ap₂, sym, ◌∙◌, subst, ◌⊎◌, inl, inr}
 use Rattle.std.specs.Prelude.{if◌then◌else◌, ◌==◌, is_some}
 use Rattle.std.specs.Option.{option_map, option_and_then}
 use Rattle.phys_groups.specs.declared.rows.Row.{Row}
@@ -33,6 +33,7 @@ use Rattle.flat_state.specs.Step.{after_step, faulted, outcome, step_if, step_of
 use Rattle.flat_state.proofs.Translating.{translation-pages}
 use Rattle.page_views.specs.Views.{page_of as view_page, pages_of_views, view_through, View}
 use Rattle.page_views.proofs.Tables.{translation_is}
+use Rattle.ahead_laws.specs.Addresses.{address_of}
 use Rattle.quantum.specs.LocalRun.{Shows}
 use Rattle.quantum.proofs.StepsIn.{ShowsAt}
 use Rattle.quantum.proofs.Changed.{shows_at, through_parts}
@@ -255,3 +256,58 @@ missed_unseen c vs va access missed =
     by : (o : Option View) → option_map view_page o ≡ None → o ≡ None
     by None e = refl
     by (Some v) e = absurd (cc)
+
+-- ---- which access is missed: the fetch, or one to the address that the action asks for
+
+abbrev Owns : Context → Option Action → Stepped → Type 0
+Owns c asked (steps.Miss va access) = (va ≡ c.pc) ⊎ (address_of asked ≡ Some va)
+Owns c asked steps.Next = Unit {0}
+Owns c asked steps.Call = Unit {0}
+Owns c asked (steps.Stop reason) = Unit {0}
+
+module _ (c : Context) (ps : List Page) where
+  owner : (asked : Option Action) (d : Bool) (x y : After) → Owns c asked x.answer → Owns c asked y.answer → Owns c asked (if d then x else y).answer
+  owner asked true x y h k = h
+  owner asked false x y h k = k
+
+  owns_load : (rd va : ℕ) (width : Width) (signed : Bool) (o : Option ℕ) → Owns c (Some (actions.Load rd va width signed)) (load_found c ps rd va width signed o).answer
+  owns_load rd va width signed None = inr refl
+  owns_load rd va width signed (Some n) = tt
+
+  owns_store : (va : ℕ) (width : Width) (value : ℕ) (d : Bool) → Owns c (Some (actions.Store va width value)) (store_found c ps va width value d).answer
+  owns_store va width value false = inr refl
+  owns_store va width value true = tt
+
+  owns_write : (rd va : ℕ) (op : AmoOp) (operand old : ℕ) (d : Bool) → Owns c (Some (actions.Atomic rd va op operand)) (write_found c ps rd va op operand old d).answer
+  owns_write rd va op operand old false = inr refl
+  owns_write rd va op operand old true = tt
+
+  owns_read : (rd va : ℕ) (op : AmoOp) (operand : ℕ) (o : Option ℕ) → Owns c (Some (actions.Atomic rd va op operand)) (read_found c ps rd va op operand o).answer
+  owns_read rd va op operand None = inr refl
+  owns_read rd va op operand (Some old) = owns_write rd va op operand old (translates ps va Write)
+
+  owns_action : (a : Action) → Owns c (Some a) (after_action a c ps).answer
+  unfolding after_action
+  owns_action (actions.Set rd value) = tt
+  owns_action actions.Pass = tt
+  owns_action (actions.Jump rd target) = owner (Some (actions.Jump rd target)) (target % 4 == 0) _ _ tt tt
+  owns_action (actions.Load rd va width signed) = owner (Some (actions.Load rd va width signed)) (va % size_of width == 0) _ _ (owns_load rd va width signed (loaded ps va width)) tt
+  owns_action (actions.Store va width value) = owner (Some (actions.Store va width value)) (va % size_of width == 0) _ _ (owns_store va width value (translates ps va Write)) tt
+  owns_action (actions.Atomic rd va op operand) = owner (Some (actions.Atomic rd va op operand)) (va % 4 == 0) _ _ (owns_read rd va op operand (loaded ps va Word)) tt
+  owns_action actions.Call = tt
+  owns_action actions.Break = tt
+
+  owns_decoding : (word : ℕ) (o : Option Instr) → Owns c (option_map (λ instr. action_of instr c) o) (after_decoding c ps word o).answer
+  owns_decoding word None = tt
+  owns_decoding word (Some i) = owns_action (action_of i c)
+
+  owns_fetch : (o : Option ℕ) → Owns c (option_and_then (λ word. option_map (λ instr. action_of instr c) (instruction_of word)) o) (after_fetch c ps o).answer
+  owns_fetch None = inl refl
+  owns_fetch (Some word) = owns_decoding word (instruction_of word)
+
+  owns_step : Owns c (next_action c ps) (after_instruction c ps).answer
+  unfolding after_instruction next_action
+  owns_step = owns_fetch (fetched ps c.pc)
+
+pub missed_own : (c : Context) (ps : List Page) (va : ℕ) (access : Access) → (after_instruction c ps).answer ≡ steps.Miss va access → (va ≡ c.pc) ⊎ (address_of (next_action c ps) ≡ Some va)
+missed_own c ps va access missed = subst (Owns c (next_action c ps)) missed (owns_step c ps)

@@ -1,1 +1,2 @@
 pub mod Signalled
+pub mod Addresses

@@ -1,7 +1,7 @@
 //! What the next step over copied pages says of the machine's next step.
 #![tactic(auto)]
 
-ghost use Rattle.std.specs.Prelude.{◌≡◌, ◌%◌, ◌&&◌, ℕ, true, false, List, Some, None, Contains, map, slice_get};
+ghost use Rattle.std.specs.Prelude.{◌≡◌, ◌⊎◌, ◌%◌, ◌&&◌, ℕ, true, false, List, Some, None, Contains, map, slice_get};
 ghost use Rattle.phys_groups.specs.declared.rows.Row.{Row};
 ghost use Rattle.phys_groups.specs.Translation.{through};
 ghost use Rattle.signal_pages.specs.Signals.{is_signalling};
@@ -11,6 +11,7 @@ ghost use Rattle.rv32_exec.specs.declared.statuses.Access.TheVariants.{Write};
 ghost use Rattle.flat_state.specs.NextSteps.{is_miss};
 ghost use Rattle.flat_state.specs.Signals.{full_among, next_action, receivers_of};
 ghost use Rattle.flat_state.specs.WellFormed.{IsWellFormed};
+ghost use Rattle.ahead_laws.specs.Addresses.{address_of};
 ghost use Rattle.ahead_laws.specs.Signalled.{signalled_by};
 ghost use Rattle.rv32_exec.specs.declared.contexts.Context.{Context};
 ghost use Rattle.rv32_exec.specs.declared.statuses.Access.{Access};
@@ -35,6 +36,12 @@ pub fn what_is_missed_faults()
 pub fn what_is_missed_has_no_view()
     ensures { (context : Context) (views : List View) (va : ℕ) (access : Access) → (after_instruction context (pages_of_views views)).answer ≡ Miss va access
         → view_through views access va ≡ None }
+{}
+
+/// The access that is missed is the fetch, or goes to the one address that the next instruction asks for.
+pub fn a_step_misses_at_pc_or_at_its_address()
+    ensures { (context : Context) (views : List View) (va : ℕ) (access : Access) → (after_instruction context (pages_of_views views)).answer ≡ Miss va access
+        → (va ≡ context.pc) ⊎ (address_of (next_action context (pages_of_views views)) ≡ Some va) }
 {}
 
 /// A store that signals, which is the next step over copies of a ready thread's pages, is the machine's next step, where all its
