@@ -1,0 +1,132 @@
+//! What owners do for a thread that can't go on.
+
+use crate::rows::load_message_row;
+use crate::walk::{Trust, reach_kernel_of, reach_thread, reach_thread_in};
+use cache_ident::{SpaceNo, ThreadNo, Vpn};
+use fault_forward::Notice;
+use owner_ports::{Port, Refused};
+use owners::Owners;
+use rv32_exec::Status;
+
+/// What came of a notice.
+#[derive(Clone, Copy, PartialEq, Eq, Debug)]
+pub enum Served {
+    /// Its call is completed, its row loaded, or its next step wouldn't fault any more.
+    Resumed,
+    /// The thread has ended.
+    Ended,
+    /// It couldn't be helped now: memory is wanted, or three tries were refused, the last for this reason.
+    Again(Refused),
+}
+
+fn has_ended<P: Port>(port: &mut P, thread: ThreadNo) -> bool {
+    matches!(port.status(thread), Some(Status::Ended(_)))
+}
+
+// Completes the call of a thread that is reached.
+fn complete<P: Port>(
+    port: &mut P,
+    owners: &mut Owners,
+    space: SpaceNo,
+    thread: ThreadNo,
+) -> Result<Served, Refused> {
+    let kernel = reach_kernel_of(port, owners, space, Trust::Noted)?;
+    let ident = reach_thread_in(port, owners, space, thread, Trust::Noted)?;
+    port.complete(kernel, ident)?;
+    if has_ended(port, thread) {
+        Ok(Served::Ended)
+    } else {
+        Ok(Served::Resumed)
+    }
+}
+
+// Has the fault confirmed of a thread of a space that is reached. The load of a receiver may have displaced the thread.
+fn confirm<P: Port>(
+    port: &mut P,
+    owners: &mut Owners,
+    space: SpaceNo,
+    thread: ThreadNo,
+    trust: Trust,
+) -> Result<Served, Refused> {
+    let ident = reach_thread_in(port, owners, space, thread, trust)?;
+    let kernel = reach_kernel_of(port, owners, space, Trust::Noted)?;
+    match port.confirm_fault(kernel, ident) {
+        Ok(()) => Ok(Served::Ended),
+        Err(Refused::Mapped { .. }) => Ok(Served::Resumed),
+        Err(refused) => Err(refused),
+    }
+}
+
+// Loads the row of a page for a thread that is reached. Where there is none to load, the thread may have faulted.
+fn fill<P: Port>(
+    port: &mut P,
+    owners: &mut Owners,
+    space: SpaceNo,
+    thread: ThreadNo,
+    vpn: Vpn,
+    trust: Trust,
+) -> Result<Served, Refused> {
+    match load_message_row(port, owners, space, vpn, trust)? {
+        Ok(_) => Ok(Served::Resumed),
+        Err(Refused::AlreadyLoaded { .. }) => confirm(port, owners, space, thread, trust),
+        Err(Refused::NotDeclared { .. }) => confirm(port, owners, space, thread, trust),
+        Err(Refused::Rights { .. }) => confirm(port, owners, space, thread, trust),
+        Err(refused) => Err(refused),
+    }
+}
+
+// One walk from the first missing load to the row or the completion.
+fn walk<P: Port>(
+    port: &mut P,
+    owners: &mut Owners,
+    thread: ThreadNo,
+    notice: Notice,
+    trust: Trust,
+) -> Result<Served, Refused> {
+    let space = reach_thread(port, owners, thread, trust)?;
+    match notice {
+        Notice::Trap => complete(port, owners, space, thread),
+        Notice::Fault { va, .. } => fill(port, owners, space, thread, Vpn(va / 4096), trust),
+    }
+}
+
+// A walk by what is noted, and where that is refused, as what is noted may be stale, one that asks for each load. Neither makes
+// more than 27 calls of the port: 9 until the space of the thread is known, 4 for its row, 6 for each of two signal rows with the
+// row asked for again, and 2 for a fault.
+fn attempt<P: Port>(
+    port: &mut P,
+    owners: &mut Owners,
+    thread: ThreadNo,
+    notice: Notice,
+) -> Result<Served, Refused> {
+    match walk(port, owners, thread, notice, Trust::Noted) {
+        Err(refused) if refused != Refused::NoMemory => {
+            walk(port, owners, thread, notice, Trust::Nothing)
+        }
+        tried => tried,
+    }
+}
+
+/// Does for a thread what its notice asks.
+pub fn serve<P: Port>(
+    port: &mut P,
+    owners: &mut Owners,
+    thread: ThreadNo,
+    notice: Notice,
+) -> Served {
+    if has_ended(port, thread) {
+        return Served::Ended;
+    }
+    let mut last = Refused::NoMemory;
+    for _ in 0..3 {
+        match attempt(port, owners, thread, notice) {
+            Ok(served) => return served,
+            Err(Refused::NoMemory) => return Served::Again(Refused::NoMemory),
+            Err(refused) => last = refused,
+        }
+    }
+    if has_ended(port, thread) {
+        return Served::Ended;
+    }
+    Served::Again(last)
+}
