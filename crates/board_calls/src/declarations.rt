@@ -3,7 +3,7 @@
 ghost use Rattle.std.specs.Prelude.{◌≡◌, ◌≢◌, None, IfErr, IfOk, OnOk};
 ghost use Rattle.std.specs.Result.{result_err};
 ghost use Rattle.board_core.specs.board_ops.specs.declared.refusals.Refused.TheVariants.{NoMemory};
-ghost use Rattle.board_core.specs.Answers.{HasSpare, IsRefused};
+ghost use Rattle.board_core.specs.Answers.{HasCallRoom, IsRefused};
 ghost use Rattle.board_calls.specs.Calls.{refusal_of_declare, refusal_of_seal, IsDeclaring, IsSealing};
 
 use board_core::{Core, Refused};
@@ -47,7 +47,7 @@ fn check_declare(core: &Core, decl: &Decl) -> Result<(), Refused>
 pub fn seal(core: &mut Core) -> Result<Ident, Refused>
     ensures refused { IfErr result (IsRefused (refusal_of_seal core.old) core.old core.new) }
     ensures done { OnOk result (refusal_of_seal core.old ≡ None) }
-    ensures enough { HasSpare core.old 22 → IfErr result (λ r. r ≢ NoMemory) }
+    ensures enough { HasCallRoom core.old → IfErr result (λ r. r ≢ NoMemory) }
     ensures sealed { IfOk result (IsSealing core.old core.new) }
 {
     let checked = check_seal(core);

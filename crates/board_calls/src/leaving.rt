@@ -25,12 +25,10 @@ use board_core::{CachedMachine, ItemRef};
 use cache_ident::{Frame, Ident, KernelNo, Name, NoMemory, SpaceNo, ThreadNo, Vpn};
 use flat_rules::{Records, rights_of};
 use flat_state::Decl;
-use phys_groups::{Flags, Rights, Row};
+use phys_groups::{Flags, GROUP_FRAMES, Rights, Row};
 use row_store::RowsOf;
 use sorted_list::Run;
 use std::alloc::Global;
-
-const GROUP_FRAMES: u32 = 128;
 
 /// The loaded rows that leave for what the call of a thread asks for, by serial. It takes memory for them, and looks at no rows
 /// but those that `complete` tells.

@@ -16,7 +16,7 @@ use crate::owners::kernel_of;
 use board_ops::Refused;
 use cache_ident::{Frame, Name, SpaceNo};
 use desc_tables::{ItemRef, Tables};
-use phys_groups::{Rights, Row};
+use phys_groups::{GROUP_FRAMES, Rights, Row};
 
 /// Refuses a load of a row that the rights of its kernel don't cover (`Rights`).
 pub(crate) fn check_rights(rights: &Rights, row: &Row) -> Result<(), Refused>
@@ -28,7 +28,7 @@ pub(crate) fn check_rights(rights: &Rights, row: &Row) -> Result<(), Refused>
     }
     Err(Refused::Rights {
         frame: row.frame,
-        group: row.frame.0 / 128,
+        group: row.frame.0 / GROUP_FRAMES,
     })
 }
 

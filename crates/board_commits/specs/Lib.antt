@@ -1,11 +1,5 @@
 pub use Rattle.board_threads
 pub use Rattle.board_threads.specs.board_checks
-pub use Rattle.board_threads.specs.board_core
-pub use Rattle.board_threads.specs.board_ops
-pub use Rattle.board_threads.specs.cached_machine
-pub use Rattle.board_threads.specs.desc_tables
-pub use Rattle.board_threads.specs.quantum
-pub use Rattle.board_threads.specs.shown_state
 pub mod Tickets
 pub mod Refusals
 pub mod Commits

@@ -7,7 +7,7 @@ ghost use Rattle.board_threads.specs.board_core.specs.Growth.{AreInMemory};
 ghost use Rattle.phys_groups.specs.Memory.{page_at, HasFrame};
 ghost use Rattle.page_views.specs.Views.{dated};
 ghost use Rattle.board_threads.specs.board_ops.specs.declared.refusals.Refused.TheVariants.{NoMemory};
-ghost use Rattle.board_threads.specs.board_core.specs.Answers.{HasSpare, IsRefused};
+ghost use Rattle.board_threads.specs.board_core.specs.Answers.{HasCallRoom, IsRefused};
 ghost use Rattle.board_threads.specs.board_core.specs.Core.{contents_of};
 ghost use Rattle.board_commits.specs.Commits.{IsCommitted, MayBeCommitted};
 ghost use Rattle.board_commits.specs.Refusals.{changed, is_changed as is_changed_def, is_gone as is_gone_def, is_in_place as is_in_place_def, moved_from, not_loaded, refusal_of_commit};
@@ -33,7 +33,7 @@ pub fn commit(core: &mut Core, ticket: &Ticket, quantum: &Quantum) -> Result<u32
     ensures done { OnOk result (refusal_of_commit core.old ticket.now quantum.now ≡ None) }
     ensures steps { IfOk result (λ steps. steps ≡ quantum.now.steps) }
     ensures committed { OnOk result (IsCommitted ticket.now quantum.now core.old core.new) }
-    ensures enough { HasSpare core.old 22 → IfErr result (λ why. why ≢ NoMemory) }
+    ensures enough { HasCallRoom core.old → IfErr result (λ why. why ≢ NoMemory) }
 {
     let checked = check_commit(core, ticket, quantum);
     core.make_entries(1)?;

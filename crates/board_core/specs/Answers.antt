@@ -14,3 +14,7 @@ pub record IsRefused (refusal : Option Refused) (old new : Recorded) (given : Re
 pub record HasSpare (b : Recorded) (more : ℕ) : Type 0 where
   pub entries : count_loaded b + more ≤ b.journal.spare
   pub issues : count_loaded b + more ≤ (contents_of b).spare
+
+-- beside what is loaded, so much that no call wants memory but those that say so: all that a step may have to load, and the step
+abbrev pub HasCallRoom : Recorded → Type 0
+HasCallRoom b = HasSpare b 22

@@ -15,11 +15,10 @@ ghost use Rattle.board_core.specs.Stamps.{stamped_at, IsSince, IsWithin};
 use cache_ident::{Caps, Frame, NoMemory};
 use cached_machine::{CachedMachine, Tables};
 use flat_state::{Decl, Machine};
+use phys_groups::GROUP_FRAMES;
 use run_journal::{Entry, Journal};
 use std::alloc::Global;
 use std::marker::Model;
-
-const GROUP_FRAMES: usize = 128;
 
 /// The machine with caches, the journal of all that happened to it, and how many steps it may take.
 ///
@@ -66,7 +65,7 @@ impl Core {
         journal.push(Entry::Declared {
             decl: Decl::Machine { machine },
         })?;
-        let frames = machine.groups as usize * GROUP_FRAMES;
+        let frames = machine.groups as usize * GROUP_FRAMES as usize;
         // Memory is all zeros behind the first entry.
         let stamps = vec![in alloc; journal.len(); frames]?;
         let machine = CachedMachine::new(alloc, machine)?;

@@ -4,7 +4,7 @@ ghost use Rattle.std.specs.Prelude.{◌≡◌, ◌≢◌, ◌<◌, None, Some, I
 ghost use Rattle.flat_state.specs.NextSteps.{next_step as next_step_def};
 ghost use Rattle.board_core.specs.cached_machine.specs.Cached.{state_of};
 ghost use Rattle.board_core.specs.board_ops.specs.declared.refusals.Refused.TheVariants.{NoMemory};
-ghost use Rattle.board_core.specs.Answers.{HasSpare, IsRefused};
+ghost use Rattle.board_core.specs.Answers.{HasCallRoom, IsRefused};
 ghost use Rattle.board_heal.specs.Healed.{IsHealed};
 ghost use Rattle.board_heal.specs.Promise.{HasStepped, IsHealable};
 ghost use Rattle.board_heal.specs.Refusals.{refusal_of_heal};
@@ -31,7 +31,7 @@ pub fn heal_step(core: &mut Core, cpu: u32, no: ThreadNo) -> Result<(), Refused>
     ensures done { OnOk result (refusal_of_heal core.old no ≡ None) }
     ensures healed { OnOk result (IsHealed cpu no core.old core.new) }
     ensures promised { IsHealable core.old no → IfErr result (λ why. why ≡ NoMemory) × OnOk result (HasStepped no core.old core.new) }
-    ensures enough { HasSpare core.old 22 → IfErr result (λ why. why ≢ NoMemory) }
+    ensures enough { HasCallRoom core.old → IfErr result (λ why. why ≢ NoMemory) }
 {
     let checked = check_heal(core, no);
     core.make_room(MOST_CHAINED, 1)?;

@@ -3,7 +3,7 @@
 ghost use Rattle.std.specs.Prelude.{◌≡◌, ◌≢◌, ◌<◌, false, true, None, IfErr, OnOk};
 ghost use Rattle.board_core.specs.board_ops.specs.declared.refusals.Refused.TheVariants.{NoMemory};
 ghost use Rattle.board_checks.specs.Refusals.{refusal_of_lock, refusal_of_unload, refusal_of_unlock};
-ghost use Rattle.board_core.specs.Answers.{HasSpare, IsRefused};
+ghost use Rattle.board_core.specs.Answers.{HasCallRoom, IsRefused};
 ghost use Rattle.board_core.specs.Core.{contents_of};
 ghost use Rattle.board_loads.specs.Holds.{IsLockedAs, IsUnloadedAs};
 
@@ -22,7 +22,7 @@ pub fn unload(core: &mut Core, cpu: u32, caller: Ident, ident: Ident) -> Result<
     ensures refused { IfErr result (IsRefused (refusal_of_unload (contents_of core.old) caller ident) core.old core.new) }
     ensures done { OnOk result (refusal_of_unload (contents_of core.old) caller ident ≡ None) }
     ensures unloaded { OnOk result (IsUnloadedAs cpu ident core.old core.new) }
-    ensures enough { HasSpare core.old 22 → IfErr result (λ why. why ≢ NoMemory) }
+    ensures enough { HasCallRoom core.old → IfErr result (λ why. why ≢ NoMemory) }
 {
     let checked = check_unload(core.tables(), caller, ident);
     core.make_room(0, 0)?;
@@ -42,7 +42,7 @@ pub fn lock(core: &mut Core, cpu: u32, caller: Ident, ident: Ident) -> Result<()
     ensures refused { IfErr result (IsRefused (refusal_of_lock (contents_of core.old) caller ident) core.old core.new) }
     ensures done { OnOk result (refusal_of_lock (contents_of core.old) caller ident ≡ None) }
     ensures locked { OnOk result (IsLockedAs cpu ident true core.old core.new) }
-    ensures enough { HasSpare core.old 22 → IfErr result (λ why. why ≢ NoMemory) }
+    ensures enough { HasCallRoom core.old → IfErr result (λ why. why ≢ NoMemory) }
 {
     let checked = check_lock(core.tables(), caller, ident);
     core.make_entries(1)?;
@@ -62,7 +62,7 @@ pub fn unlock(core: &mut Core, cpu: u32, caller: Ident, ident: Ident) -> Result<
     ensures refused { IfErr result (IsRefused (refusal_of_unlock (contents_of core.old) caller ident) core.old core.new) }
     ensures done { OnOk result (refusal_of_unlock (contents_of core.old) caller ident ≡ None) }
     ensures unlocked { OnOk result (IsLockedAs cpu ident false core.old core.new) }
-    ensures enough { HasSpare core.old 22 → IfErr result (λ why. why ≢ NoMemory) }
+    ensures enough { HasCallRoom core.old → IfErr result (λ why. why ≢ NoMemory) }
 {
     let checked = check_unlock(core.tables(), caller, ident);
     core.make_entries(1)?;

@@ -10,7 +10,7 @@ ghost use Rattle.board_core.specs.board_ops.specs.declared.refusals.Refused.TheV
 ghost use Rattle.board_checks.specs.Identifiers.{space_as};
 ghost use Rattle.board_checks.specs.Keeps.{IsLoadableBeside};
 ghost use Rattle.board_checks.specs.Refusals.{refusal_of_load_kernel, refusal_of_load_mapping, refusal_of_load_space, refusal_of_load_thread};
-ghost use Rattle.board_core.specs.Answers.{HasSpare, IsRefused};
+ghost use Rattle.board_core.specs.Answers.{HasCallRoom, IsRefused};
 ghost use Rattle.board_core.specs.Core.{contents_of};
 ghost use Rattle.board_loads.specs.Loads.{IsLoadedAs};
 
@@ -35,7 +35,7 @@ pub fn load_kernel(
     ensures refused { IfErr result (IsRefused (refusal_of_load_kernel (contents_of core.old) caller kernel) core.old core.new) }
     ensures done { OnOk result (refusal_of_load_kernel (contents_of core.old) caller kernel ≡ None) }
     ensures loaded { IfOk result (λ ident. IsLoadedAs cpu (Name.Kernel kernel) ident core.old core.new) }
-    ensures enough { HasSpare core.old 22 → IfErr result (λ why. why ≢ NoMemory) }
+    ensures enough { HasCallRoom core.old → IfErr result (λ why. why ≢ NoMemory) }
 {
     let checked = check_load_kernel(core.tables(), caller, kernel);
     load(core, cpu, checked)
@@ -56,7 +56,7 @@ pub fn load_space(
     ensures refused { IfErr result (IsRefused (refusal_of_load_space (contents_of core.old) caller space) core.old core.new) }
     ensures done { OnOk result (refusal_of_load_space (contents_of core.old) caller space ≡ None) }
     ensures loaded { IfOk result (λ ident. IsLoadedAs cpu (Name.Space space) ident core.old core.new) }
-    ensures enough { HasSpare core.old 22 → IfErr result (λ why. why ≢ NoMemory) }
+    ensures enough { HasCallRoom core.old → IfErr result (λ why. why ≢ NoMemory) }
 {
     let checked = check_load_space(core.tables(), caller, space);
     load(core, cpu, checked)
@@ -79,7 +79,7 @@ pub fn load_thread(
     ensures refused { IfErr result (IsRefused (refusal_of_load_thread (contents_of core.old) caller parent thread) core.old core.new) }
     ensures done { OnOk result (refusal_of_load_thread (contents_of core.old) caller parent thread ≡ None) }
     ensures loaded { IfOk result (λ ident. IsLoadedAs cpu (Name.Thread thread) ident core.old core.new) }
-    ensures enough { HasSpare core.old 22 → IfErr result (λ why. why ≢ NoMemory) }
+    ensures enough { HasCallRoom core.old → IfErr result (λ why. why ≢ NoMemory) }
 {
     let checked = check_load_thread(core.tables(), caller, parent, thread);
     load(core, cpu, checked)
@@ -105,7 +105,7 @@ pub fn load_mapping(
     ensures refused { IfErr result (IsRefused (refusal_of_load_mapping (contents_of core.old) caller parent vpn receiver) core.old core.new) }
     ensures done { OnOk result (refusal_of_load_mapping (contents_of core.old) caller parent vpn receiver ≡ None) }
     ensures loaded { IfOk result (λ ident. (space : SpaceNo) × (space_as (contents_of core.old) parent ≡ Some space) × IsLoadedAs cpu (Name.Mapping space vpn) ident core.old core.new) }
-    ensures enough { HasSpare core.old 22 → IfErr result (λ why. why ≢ NoMemory) }
+    ensures enough { HasCallRoom core.old → IfErr result (λ why. why ≢ NoMemory) }
 {
     let checked = check_load_mapping(core.tables(), caller, parent, vpn, receiver);
     load(core, cpu, checked)
@@ -120,7 +120,7 @@ fn load(core: &mut Core, cpu: u32, checked: Result<Loadable, Refused>) -> Result
     ensures refused { IfErr result (IsRefused (result_err checked) core.old core.new) }
     ensures done { OnOk result (result_err checked ≡ None) }
     ensures loaded { IfOk result (λ ident. IfOk checked (λ found. IsLoadedAs cpu found.name ident core.old core.new)) }
-    ensures enough { HasSpare core.old 22 → IfErr result (λ why. why ≢ NoMemory) }
+    ensures enough { HasCallRoom core.old → IfErr result (λ why. why ≢ NoMemory) }
 {
     let _ = core.tables();
     core.make_room(1, 0)?;

@@ -16,7 +16,7 @@ use Rattle.run_journal.specs.Entries.{erase}
 use Rattle.run_journal.specs.Told.{told}
 use Rattle.cache_board.specs.board_ops.specs.declared.refusals.Refused.{Refused}
 use Rattle.cache_board.specs.board_ops.specs.declared.refusals.Refused.TheVariants as why
-use Rattle.cache_board.specs.board_core.specs.cached_machine.specs.Cached.{state_of}
+use Rattle.cache_board.specs.cached_machine.specs.Cached.{state_of}
 use Rattle.cache_board.specs.board_core.specs.Answers.{IsRefused}
 use Rattle.cache_board.specs.board_core.specs.Core.{IsSound, Recorded}
 use Rattle.cache_board.specs.board_calls.specs.Calls.{refusal_of_declare, IsDeclaring}

@@ -9,7 +9,7 @@ ghost use Rattle.flat_state.specs.Declaration.{rule_of_machine};
 ghost use Rattle.flat_state.specs.Events.{AllFit};
 ghost use Rattle.flat_state.specs.State.{nothing_declared};
 ghost use Rattle.cache_board.specs.board_ops.specs.declared.refusals.Refused.TheVariants.{NoMemory};
-ghost use Rattle.cache_board.specs.board_core.specs.cached_machine.specs.Cached.{state_of};
+ghost use Rattle.cache_board.specs.cached_machine.specs.Cached.{state_of};
 ghost use Rattle.board_opening.specs.Openings.{AreDeclared, IsBoardOf, IsNewBoard};
 
 use cache_board::{Board, Refused};

@@ -6,7 +6,7 @@ ghost use Rattle.cache_ident.specs.Residents.{IsResident};
 ghost use Rattle.board_core.specs.desc_stores.specs.Contents.{residents_of};
 ghost use Rattle.board_core.specs.board_ops.specs.declared.refusals.Refused.TheVariants.{NoMemory, NotLoaded};
 ghost use Rattle.board_core.specs.cached_machine.specs.Cached.{is_loaded as is_loaded_def};
-ghost use Rattle.board_core.specs.Answers.{HasSpare, IsRefused};
+ghost use Rattle.board_core.specs.Answers.{HasCallRoom, IsRefused};
 ghost use Rattle.board_core.specs.Core.{contents_of};
 ghost use Rattle.board_threads.specs.Faults.{HasEnded, IsFaulting};
 ghost use Rattle.board_threads.specs.Refusals.{not_faulting, refusal_of_fault, row_absent};
@@ -29,7 +29,7 @@ pub fn confirm_fault(core: &mut Core, cpu: u32, caller: Ident, thread: Ident) ->
     requires processor { cpu < 8 }
     ensures refused { IfErr result (IsRefused (refusal_of_fault core.old caller thread) core.old core.new) }
     ensures done { OnOk result (refusal_of_fault core.old caller thread ≡ None) }
-    ensures enough { HasSpare core.old 22 → IfErr result (λ r. r ≢ NoMemory) }
+    ensures enough { HasCallRoom core.old → IfErr result (λ r. r ≢ NoMemory) }
     ensures ended { OnOk result (HasEnded thread cpu core.old core.new) }
 {
     known(core);

@@ -5,11 +5,11 @@ use Rattle.cache_ident.specs.declared.names.Vpn.{Vpn}
 use Rattle.flat_state.proofs.Places.{push_cases, set_cases}
 use Rattle.run_journal.specs.declared.entries.Entry.{Entry}
 use Rattle.page_views.specs.Views.{copies_of}
-use Rattle.board_commits.specs.quantum.specs.Ahead.{begun, unbegun, Ahead}
-use Rattle.board_commits.specs.board_ops.specs.declared.answers.Answer.{Answer}
-use Rattle.board_commits.specs.board_ops.specs.declared.answers.Answer.TheVariants as answers
-use Rattle.board_commits.specs.board_core.specs.Core.{Recorded}
-use Rattle.board_commits.specs.board_core.specs.Growth.{GrowsBy, IsRoomMade}
+use Rattle.board_core.specs.quantum.specs.Ahead.{begun, unbegun, Ahead}
+use Rattle.board_core.specs.board_ops.specs.declared.answers.Answer.{Answer}
+use Rattle.board_core.specs.board_ops.specs.declared.answers.Answer.TheVariants as answers
+use Rattle.board_core.specs.Core.{Recorded}
+use Rattle.board_core.specs.Growth.{GrowsBy, IsRoomMade}
 use Rattle.board_commits.specs.board_threads.specs.declared.tickets.Ticket.{Ticket}
 use Rattle.board_commits.specs.board_threads.specs.Posts.{OnlyMarks}
 use Rattle.board_commits.specs.Tickets.{AreAllAsOf, AreOfTicket}
@@ -19,7 +19,7 @@ use Rattle.cache_board.specs.declared.place.Place.{Place}
 use Rattle.cache_board.specs.Desks.{AreOfTickets, AtPlace, Desktop, IsClear, IsItsOwn, IsOfIts}
 use Rattle.cache_board.specs.Drive.{IsCheckout, IsCommit, IsCommitWith, IsLeave, IsLeaveWith, IsRunAhead, IsRunTo, IsView, IsViewWith, Spares}
 use Rattle.board_commits.proofs.CopyLaws.{all_of, kept_as}
-use Rattle.board_commits.specs.quantum.proofs.Copies.{run_copies}
+use Rattle.board_core.specs.quantum.proofs.Copies.{run_copies}
 use Rattle.cache_board.specs.declared.place.TheConstants.{DESK_VIEWS}
 
 -- nothing lies on a clear desk

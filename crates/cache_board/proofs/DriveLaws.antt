@@ -7,16 +7,16 @@ use Rattle.cache_ident.specs.declared.names.Name.TheVariants as name
 use Rattle.cache_ident.specs.declared.names.SpaceNo.{SpaceNo}
 use Rattle.cache_ident.specs.declared.names.ThreadNo.{ThreadNo}
 use Rattle.cache_ident.specs.declared.names.Vpn.{Vpn}
-use Rattle.board_commits.specs.board_ops.specs.declared.answers.Answer.{Answer}
-use Rattle.board_commits.specs.board_ops.specs.declared.answers.Answer.TheVariants as answers
-use Rattle.board_commits.specs.board_ops.specs.declared.ops.Op.{Op}
-use Rattle.board_commits.specs.board_ops.specs.declared.ops.Op.TheVariants as ops
-use Rattle.board_commits.specs.board_ops.specs.declared.refusals.Refused.{Refused}
-use Rattle.board_commits.specs.board_ops.specs.declared.refusals.Refused.TheVariants.{NoMemory}
+use Rattle.board_core.specs.board_ops.specs.declared.answers.Answer.{Answer}
+use Rattle.board_core.specs.board_ops.specs.declared.answers.Answer.TheVariants as answers
+use Rattle.board_core.specs.board_ops.specs.declared.ops.Op.{Op}
+use Rattle.board_core.specs.board_ops.specs.declared.ops.Op.TheVariants as ops
+use Rattle.board_core.specs.board_ops.specs.declared.refusals.Refused.{Refused}
+use Rattle.board_core.specs.board_ops.specs.declared.refusals.Refused.TheVariants.{NoMemory}
 use Rattle.board_commits.specs.board_checks.specs.Identifiers.{space_as}
 use Rattle.board_commits.specs.board_checks.specs.Refusals.{refusal_of_complete, refusal_of_load_kernel, refusal_of_load_mapping, refusal_of_load_space, refusal_of_load_thread, refusal_of_lock, refusal_of_unload, refusal_of_unlock}
-use Rattle.board_commits.specs.board_core.specs.Answers.{HasSpare, IsRefused}
-use Rattle.board_commits.specs.board_core.specs.Core.{contents_of, Recorded}
+use Rattle.board_core.specs.Answers.{HasCallRoom, IsRefused}
+use Rattle.board_core.specs.Core.{contents_of, Recorded}
 use Rattle.board_commits.specs.board_threads.specs.Faults.{HasEnded}
 use Rattle.board_commits.specs.board_threads.specs.Refusals.{refusal_of_fault}
 use Rattle.board_loads.specs.Holds.{IsLockedAs, IsUnloadedAs}
@@ -108,12 +108,12 @@ module _ (cpu : ℕ) (caller parent : Ident) (vpn : Vpn) (receiver : Option Iden
   row_loads (Ok ident) refused passed loaded = (passed, loaded)
   row_loads (Err why) refused passed loaded = refused
 
-  row_spares : (called : Result Ident Refused) → (HasSpare b 22 → IfErr called (λ why. why ≢ NoMemory)) → Spares b (answer_if_loaded called)
+  row_spares : (called : Result Ident Refused) → (HasCallRoom b → IfErr called (λ why. why ≢ NoMemory)) → Spares b (answer_if_loaded called)
   row_spares (Ok ident) enough = λ spare wants. cc
   row_spares (Err why) enough = λ spare wants. enough spare (cc)
 
   pub row_done : (called : Result Ident Refused) (answer : Answer) → answer ≡ answer_if_loaded called
-      → IfErr called (IsRefused refusal b b′) → OnOk called (refusal ≡ None) → IfOk called IsRowLoaded → (HasSpare b 22 → IfErr called (λ why. why ≢ NoMemory))
+      → IfErr called (IsRefused refusal b b′) → OnOk called (refusal ≡ None) → IfOk called IsRowLoaded → (HasCallRoom b → IfErr called (λ why. why ≢ NoMemory))
       → IsDone (ops.LoadMapping cpu caller parent vpn receiver) b d answer b′ d
   row_done called answer is refused passed loaded enough =
       (refl, subst (LoadsOr refusal IsRowLoaded b b′) (sym is) (row_loads called refused passed loaded), subst (Spares b) (sym is) (row_spares called enough))
@@ -126,12 +126,12 @@ module _ (cpu : ℕ) (whom : ThreadNo) (b : Recorded) (d : Desktop) (b′ : Reco
   heals (Ok x) refused passed healed = (passed, healed)
   heals (Err why) refused passed healed = refused
 
-  heal_spares : (called : Result (Unit {0}) Refused) → (HasSpare b 22 → IfErr called (λ why. why ≢ NoMemory)) → Spares b (answer_if_done called)
+  heal_spares : (called : Result (Unit {0}) Refused) → (HasCallRoom b → IfErr called (λ why. why ≢ NoMemory)) → Spares b (answer_if_done called)
   heal_spares (Ok x) enough = λ spare wants. cc
   heal_spares (Err why) enough = λ spare wants. enough spare (cc)
 
   pub heal_done : (called : Result (Unit {0}) Refused) (answer : Answer) → answer ≡ answer_if_done called
-      → IfErr called (IsRefused (refusal_of_heal b whom) b b′) → OnOk called (refusal_of_heal b whom ≡ None) → OnOk called (IsHealed cpu whom b b′) → (HasSpare b 22 → IfErr called (λ why. why ≢ NoMemory))
+      → IfErr called (IsRefused (refusal_of_heal b whom) b b′) → OnOk called (refusal_of_heal b whom ≡ None) → OnOk called (IsHealed cpu whom b b′) → (HasCallRoom b → IfErr called (λ why. why ≢ NoMemory))
       → IsDone (ops.HealStep cpu whom) b d answer b′ d
   heal_done called answer is refused passed healed enough =
       (refl, subst (DoesOr (refusal_of_heal b whom) (IsHealed cpu whom b b′) b b′) (sym is) (heals called refused passed healed), subst (Spares b) (sym is) (heal_spares called enough))

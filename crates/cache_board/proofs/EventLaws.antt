@@ -19,21 +19,21 @@ use Rattle.run_journal.specs.Entries.{maker_of}
 use Rattle.run_journal.specs.Legal.{first_ident}
 use Rattle.turn_lock.specs.Lists.{AllMadeBy, IsContinuedBy}
 use Rattle.turn_lock.proofs.Lists.{all_append}
-use Rattle.board_commits.specs.board_ops.specs.declared.refusals.Refused.{Refused}
-use Rattle.board_commits.specs.board_core.specs.desc_stores.specs.Contents.{Contents}
-use Rattle.board_commits.specs.board_core.specs.desc_groups.specs.declared.departures.Gone.{Gone}
-use Rattle.board_commits.specs.board_core.specs.desc_groups.specs.Moves.{gone_as}
-use Rattle.board_commits.specs.desc_tables.specs.Tables.{Held}
-use Rattle.board_commits.specs.quantum.specs.Ahead.{Ahead}
-use Rattle.board_commits.specs.board_core.specs.board_laws.specs.Moves.{written_back}
-use Rattle.board_commits.specs.board_core.specs.cached_machine.specs.Cached.{state_of, Cached}
-use Rattle.board_commits.specs.board_core.specs.cached_machine.specs.Posts.{OnlyPosts}
-use Rattle.board_commits.specs.board_core.specs.Answers.{IsRefused}
-use Rattle.board_commits.specs.board_core.specs.Core.{contents_of, IsSound, Recorded}
-use Rattle.board_commits.specs.board_core.specs.Going.{AreMadeBy, GoesOn, Grew, IsOneEvent}
-use Rattle.board_commits.specs.board_core.specs.Growth.{entries_of_run, entry_of_step, GrowsBy, IsRoomMade}
-use Rattle.board_commits.specs.board_core.proofs.AheadLaws.{same_posted}
-use Rattle.board_commits.specs.board_core.proofs.GoingLaws.{goes_on, goes_on_so, grew_by, grew_nothing, made_more, room_goes_on, room_grew}
+use Rattle.board_core.specs.board_ops.specs.declared.refusals.Refused.{Refused}
+use Rattle.board_core.specs.desc_stores.specs.Contents.{Contents}
+use Rattle.board_core.specs.desc_groups.specs.declared.departures.Gone.{Gone}
+use Rattle.board_core.specs.desc_groups.specs.Moves.{gone_as}
+use Rattle.board_core.specs.desc_tables.specs.Tables.{Held}
+use Rattle.board_core.specs.quantum.specs.Ahead.{Ahead}
+use Rattle.board_core.specs.board_laws.specs.Moves.{written_back}
+use Rattle.board_core.specs.cached_machine.specs.Cached.{state_of, Cached}
+use Rattle.board_core.specs.cached_machine.specs.Posts.{OnlyPosts}
+use Rattle.board_core.specs.Answers.{IsRefused}
+use Rattle.board_core.specs.Core.{contents_of, IsSound, Recorded}
+use Rattle.board_core.specs.Going.{AreMadeBy, GoesOn, Grew, IsOneEvent}
+use Rattle.board_core.specs.Growth.{entries_of_run, entry_of_step, GrowsBy, IsRoomMade}
+use Rattle.board_core.proofs.AheadLaws.{same_posted}
+use Rattle.board_core.proofs.GoingLaws.{goes_on, goes_on_so, grew_by, grew_nothing, made_more, room_goes_on, room_grew}
 use Rattle.board_commits.specs.board_threads.specs.declared.tickets.Ticket.{Ticket}
 use Rattle.board_commits.specs.board_threads.specs.Faults.{HasEnded}
 use Rattle.board_commits.specs.board_threads.specs.Posts.{IsCheckedOut, OnlyMarks}

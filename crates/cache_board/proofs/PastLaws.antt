@@ -16,11 +16,11 @@ use Rattle.run_journal.proofs.Growth.{residents_told_from, sealed_from}
 use Rattle.run_journal.proofs.LegalGrowth.{state_told}
 use Rattle.turn_lock.specs.Lists.{numbers, AllMadeBelow, IsContinuedBy}
 use Rattle.turn_lock.proofs.Lists.{all_append}
-use Rattle.board_commits.specs.quantum.specs.Ahead.{Ahead}
-use Rattle.board_commits.specs.board_core.specs.desc_stores.specs.Contents.{residents_of}
-use Rattle.board_commits.specs.cached_machine.specs.Cached.{state_of}
-use Rattle.board_commits.specs.board_core.specs.Core.{contents_of, IsSound, Recorded}
-use Rattle.board_commits.specs.board_core.specs.Going.{IsOneEvent}
+use Rattle.board_core.specs.quantum.specs.Ahead.{Ahead}
+use Rattle.board_core.specs.desc_stores.specs.Contents.{residents_of}
+use Rattle.board_core.specs.cached_machine.specs.Cached.{state_of}
+use Rattle.board_core.specs.Core.{contents_of, IsSound, Recorded}
+use Rattle.board_core.specs.Going.{IsOneEvent}
 use Rattle.board_commits.specs.Tickets.{AreAllAsOf, AreOfTicket}
 use Rattle.board_commits.proofs.KeptLaws.{kept_stays}
 use Rattle.board_commits.proofs.TicketLaws.{views_stay}

@@ -3,7 +3,7 @@ use Rattle.std.specs.Prelude.{◌≡◌, ℕ, List, None, Some, slice_get, slice
 use Rattle.run_journal.specs.declared.entries.Entry.{Entry}
 use Rattle.board_commits.specs.board_threads.specs.declared.tickets.Ticket.{Ticket}
 use Rattle.board_commits.specs.Tickets.{AreAllAsOf, AreOfTicket}
-use Rattle.board_commits.specs.quantum.specs.Ahead.{unbegun}
+use Rattle.board_core.specs.quantum.specs.Ahead.{unbegun}
 use Rattle.cache_board.specs.declared.place.Place.{Place}
 use Rattle.cache_board.specs.declared.place.TheConstants.{DESK_VIEWS}
 

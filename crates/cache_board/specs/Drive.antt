@@ -7,19 +7,19 @@ use Rattle.cache_ident.specs.declared.names.ThreadNo.{ThreadNo}
 use Rattle.cache_ident.specs.declared.names.Vpn.{Vpn}
 use Rattle.page_views.specs.Views.{can_fill}
 use Rattle.ready_queue.specs.declared.Candidate.{Candidate}
-use Rattle.board_commits.specs.quantum.specs.Ahead.{begun, IsRun}
-use Rattle.board_commits.specs.quantum.specs.LocalRun.{IsLocalRun}
-use Rattle.board_commits.specs.board_ops.specs.declared.answers.Answer.{Answer}
-use Rattle.board_commits.specs.board_ops.specs.declared.answers.Answer.TheVariants as answers
-use Rattle.board_commits.specs.board_ops.specs.declared.ops.Op.{Op}
-use Rattle.board_commits.specs.board_ops.specs.declared.ops.Op.TheVariants as ops
-use Rattle.board_commits.specs.board_ops.specs.declared.refusals.Refused.{Refused}
-use Rattle.board_commits.specs.board_ops.specs.declared.refusals.Refused.TheVariants.{NoMemory}
+use Rattle.board_core.specs.quantum.specs.Ahead.{begun, IsRun}
+use Rattle.board_core.specs.quantum.specs.LocalRun.{IsLocalRun}
+use Rattle.board_core.specs.board_ops.specs.declared.answers.Answer.{Answer}
+use Rattle.board_core.specs.board_ops.specs.declared.answers.Answer.TheVariants as answers
+use Rattle.board_core.specs.board_ops.specs.declared.ops.Op.{Op}
+use Rattle.board_core.specs.board_ops.specs.declared.ops.Op.TheVariants as ops
+use Rattle.board_core.specs.board_ops.specs.declared.refusals.Refused.{Refused}
+use Rattle.board_core.specs.board_ops.specs.declared.refusals.Refused.TheVariants.{NoMemory}
 use Rattle.board_commits.specs.board_checks.specs.Identifiers.{space_as}
 use Rattle.board_commits.specs.board_checks.specs.Refusals.{refusal_of_complete, refusal_of_load_kernel, refusal_of_load_mapping, refusal_of_load_space, refusal_of_load_thread, refusal_of_lock, refusal_of_unload, refusal_of_unlock}
-use Rattle.board_commits.specs.board_core.specs.Answers.{HasSpare, IsRefused}
-use Rattle.board_commits.specs.board_core.specs.Core.{contents_of, IsSound, Recorded}
-use Rattle.board_commits.specs.board_core.specs.Growth.{IsRoomMade}
+use Rattle.board_core.specs.Answers.{HasCallRoom, IsRefused}
+use Rattle.board_core.specs.Core.{contents_of, IsSound, Recorded}
+use Rattle.board_core.specs.Growth.{IsRoomMade}
 use Rattle.board_commits.specs.board_threads.specs.declared.tickets.Ticket.{Ticket}
 use Rattle.board_commits.specs.board_threads.specs.Faults.{HasEnded}
 use Rattle.board_commits.specs.board_threads.specs.Posts.{HasComeBack, IsCheckedOut, IsOutWith, IsTicketFor, OnlyMarks}
@@ -92,7 +92,7 @@ LoadsOr refusal done old new _ = ⊥
 
 -- no memory is wanted where there is room to spare
 abbrev pub Spares : Recorded → Answer → Type 0
-Spares b answer = HasSpare b 22 → answer ≢ answers.Refused NoMemory
+Spares b answer = HasCallRoom b → answer ≢ answers.Refused NoMemory
 
 -- ---- at the place of a processor
 

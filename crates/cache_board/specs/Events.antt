@@ -2,7 +2,7 @@
 use Rattle.std.specs.Prelude.{ℕ, List, map}
 use Rattle.run_journal.specs.declared.entries.Entry.{Entry}
 use Rattle.run_journal.specs.Entries.{maker_of}
-use Rattle.board_commits.specs.board_core.specs.Core.{Recorded}
+use Rattle.board_core.specs.Core.{Recorded}
 
 -- the entries of the journal, each with the board's step limit beside it
 abbrev pub past_of : Recorded → List (Entry × ℕ)

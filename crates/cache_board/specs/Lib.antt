@@ -1,7 +1,8 @@
 pub use Rattle.board_calls
 pub use Rattle.board_commits
-pub use Rattle.board_commits.specs.board_ops
-pub use Rattle.board_commits.specs.board_core
+pub use Rattle.board_core.specs.board_ops
+pub use Rattle.board_core
+pub use Rattle.board_core.specs.cached_machine
 pub mod Boards
 pub mod Desks
 pub mod Drive

@@ -17,18 +17,18 @@ ghost use Rattle.run_journal.specs.Legal.{first_ident};
 ghost use Rattle.run_journal.specs.declared.entries.Entry.TheVariants.{Declared};
 ghost use Rattle.page_views.specs.Views.{can_fill};
 ghost use Rattle.ready_queue.specs.declared.Candidate.{Candidate};
-ghost use Rattle.board_commits.specs.board_ops.specs.declared.refusals.Refused.TheVariants.{NoMemory};
-ghost use Rattle.board_commits.specs.board_core.specs.desc_stores.specs.Contents.{names_of, residents_of};
-ghost use Rattle.board_commits.specs.shown_state.specs.Shown.{flat_thread};
-ghost use Rattle.board_commits.specs.cached_machine.specs.Cached.{is_loaded, state_of};
-ghost use Rattle.board_commits.specs.cached_machine.specs.Posts.{last_of, mark_of};
+ghost use Rattle.board_core.specs.board_ops.specs.declared.refusals.Refused.TheVariants.{NoMemory};
+ghost use Rattle.board_core.specs.desc_stores.specs.Contents.{names_of, residents_of};
+ghost use Rattle.board_core.specs.shown_state.specs.Shown.{flat_thread};
+ghost use Rattle.board_core.specs.cached_machine.specs.Cached.{is_loaded, state_of};
+ghost use Rattle.board_core.specs.cached_machine.specs.Posts.{last_of, mark_of};
 ghost use Rattle.board_commits.specs.board_checks.specs.Identifiers.{space_as};
 ghost use Rattle.board_commits.specs.board_checks.specs.Refusals.{refusal_of_complete, refusal_of_load_kernel, refusal_of_load_mapping, refusal_of_load_space, refusal_of_load_thread, refusal_of_lock, refusal_of_unload, refusal_of_unlock};
-ghost use Rattle.board_commits.specs.board_core.specs.Answers.{HasSpare, IsRefused};
-ghost use Rattle.board_commits.specs.board_core.specs.Core.{contents_of, IsSound};
-ghost use Rattle.board_commits.specs.board_core.specs.Going.{GoesOn, IsOneEvent};
-ghost use Rattle.board_commits.specs.board_core.specs.Growth.{count_loaded, IsRoomMade};
-ghost use Rattle.board_commits.specs.board_core.specs.Places.{IsInOnePlace};
+ghost use Rattle.board_core.specs.Answers.{HasCallRoom, IsRefused};
+ghost use Rattle.board_core.specs.Core.{contents_of, IsSound};
+ghost use Rattle.board_core.specs.Going.{GoesOn, IsOneEvent};
+ghost use Rattle.board_core.specs.Growth.{count_loaded, IsRoomMade};
+ghost use Rattle.board_core.specs.Places.{IsInOnePlace};
 ghost use Rattle.board_loads.specs.Holds.{IsLockedAs, IsUnloadedAs};
 ghost use Rattle.board_loads.specs.Loads.{IsLoadedAs};
 ghost use Rattle.board_commits.specs.board_threads.specs.Faults.{HasEnded};
@@ -76,7 +76,7 @@ pub struct Board {
 }
 
 impl Model for Board {
-    ghost use Rattle.board_commits.specs.board_core.specs.Core.{Recorded};
+    ghost use Rattle.board_core.specs.Core.{Recorded};
 
     ghost Value = { Recorded };
 
@@ -133,7 +133,7 @@ impl Board {
     pub fn seal(&mut self) -> Result<Ident, Refused>
         ensures refused { IfErr result (IsRefused (refusal_of_seal self.old) self.old self.new) }
         ensures done { OnOk result (refusal_of_seal self.old ≡ None) }
-        ensures enough { HasSpare self.old 22 → IfErr result (λ why. why ≢ NoMemory) }
+        ensures enough { HasCallRoom self.old → IfErr result (λ why. why ≢ NoMemory) }
         ensures sealed { IfOk result (IsSealing self.old self.new) }
         ensures event { IsOneEvent 0 self.old self.new }
     {
@@ -157,7 +157,7 @@ impl Board {
         ensures refused { IfErr result (IsRefused (refusal_of_load_kernel (contents_of self.old) caller kernel) self.old self.new) }
         ensures done { OnOk result (refusal_of_load_kernel (contents_of self.old) caller kernel ≡ None) }
         ensures loaded { IfOk result (λ ident. IsLoadedAs cpu (Name.Kernel kernel) ident self.old self.new) }
-        ensures enough { HasSpare self.old 22 → IfErr result (λ why. why ≢ NoMemory) }
+        ensures enough { HasCallRoom self.old → IfErr result (λ why. why ≢ NoMemory) }
         ensures on { GoesOn cpu self.old self.new }
         ensures event { IsOneEvent cpu self.old self.new }
     {
@@ -173,7 +173,7 @@ impl Board {
         ensures refused { IfErr result (IsRefused (refusal_of_load_space (contents_of self.old) caller space) self.old self.new) }
         ensures done { OnOk result (refusal_of_load_space (contents_of self.old) caller space ≡ None) }
         ensures loaded { IfOk result (λ ident. IsLoadedAs cpu (Name.Space space) ident self.old self.new) }
-        ensures enough { HasSpare self.old 22 → IfErr result (λ why. why ≢ NoMemory) }
+        ensures enough { HasCallRoom self.old → IfErr result (λ why. why ≢ NoMemory) }
         ensures on { GoesOn cpu self.old self.new }
         ensures event { IsOneEvent cpu self.old self.new }
     {
@@ -195,7 +195,7 @@ impl Board {
         ensures refused { IfErr result (IsRefused (refusal_of_load_thread (contents_of self.old) caller parent thread) self.old self.new) }
         ensures done { OnOk result (refusal_of_load_thread (contents_of self.old) caller parent thread ≡ None) }
         ensures loaded { IfOk result (λ ident. IsLoadedAs cpu (Name.Thread thread) ident self.old self.new) }
-        ensures enough { HasSpare self.old 22 → IfErr result (λ why. why ≢ NoMemory) }
+        ensures enough { HasCallRoom self.old → IfErr result (λ why. why ≢ NoMemory) }
         ensures on { GoesOn cpu self.old self.new }
         ensures event { IsOneEvent cpu self.old self.new }
     {
@@ -220,7 +220,7 @@ impl Board {
         ensures refused { IfErr result (IsRefused (refusal_of_load_mapping (contents_of self.old) caller parent vpn receiver) self.old self.new) }
         ensures done { OnOk result (refusal_of_load_mapping (contents_of self.old) caller parent vpn receiver ≡ None) }
         ensures loaded { IfOk result (λ ident. (space : SpaceNo) × (space_as (contents_of self.old) parent ≡ Some space) × IsLoadedAs cpu (Name.Mapping space vpn) ident self.old self.new) }
-        ensures enough { HasSpare self.old 22 → IfErr result (λ why. why ≢ NoMemory) }
+        ensures enough { HasCallRoom self.old → IfErr result (λ why. why ≢ NoMemory) }
         ensures on { GoesOn cpu self.old self.new }
         ensures event { IsOneEvent cpu self.old self.new }
     {
@@ -237,7 +237,7 @@ impl Board {
         ensures refused { IfErr result (IsRefused (refusal_of_unload (contents_of self.old) caller ident) self.old self.new) }
         ensures done { OnOk result (refusal_of_unload (contents_of self.old) caller ident ≡ None) }
         ensures unloaded { OnOk result (IsUnloadedAs cpu ident self.old self.new) }
-        ensures enough { HasSpare self.old 22 → IfErr result (λ why. why ≢ NoMemory) }
+        ensures enough { HasCallRoom self.old → IfErr result (λ why. why ≢ NoMemory) }
         ensures on { GoesOn cpu self.old self.new }
         ensures event { IsOneEvent cpu self.old self.new }
     {
@@ -254,7 +254,7 @@ impl Board {
         ensures refused { IfErr result (IsRefused (refusal_of_lock (contents_of self.old) caller ident) self.old self.new) }
         ensures done { OnOk result (refusal_of_lock (contents_of self.old) caller ident ≡ None) }
         ensures locked { OnOk result (IsLockedAs cpu ident true self.old self.new) }
-        ensures enough { HasSpare self.old 22 → IfErr result (λ why. why ≢ NoMemory) }
+        ensures enough { HasCallRoom self.old → IfErr result (λ why. why ≢ NoMemory) }
         ensures on { GoesOn cpu self.old self.new }
         ensures event { IsOneEvent cpu self.old self.new }
     {
@@ -271,7 +271,7 @@ impl Board {
         ensures refused { IfErr result (IsRefused (refusal_of_unlock (contents_of self.old) caller ident) self.old self.new) }
         ensures done { OnOk result (refusal_of_unlock (contents_of self.old) caller ident ≡ None) }
         ensures unlocked { OnOk result (IsLockedAs cpu ident false self.old self.new) }
-        ensures enough { HasSpare self.old 22 → IfErr result (λ why. why ≢ NoMemory) }
+        ensures enough { HasCallRoom self.old → IfErr result (λ why. why ≢ NoMemory) }
         ensures on { GoesOn cpu self.old self.new }
         ensures event { IsOneEvent cpu self.old self.new }
     {
@@ -326,7 +326,7 @@ impl Board {
         ensures done { OnOk result (refusal_of_commit self.old ticket.now quantum.now ≡ None) }
         ensures steps { IfOk result (λ steps. steps ≡ quantum.now.steps) }
         ensures committed { OnOk result (IsCommitted ticket.now quantum.now self.old self.new) }
-        ensures enough { HasSpare self.old 22 → IfErr result (λ why. why ≢ NoMemory) }
+        ensures enough { HasCallRoom self.old → IfErr result (λ why. why ≢ NoMemory) }
         ensures event { IsOneEvent ticket.now.cpu self.old self.new }
     {
         self.holds();
@@ -382,7 +382,7 @@ impl Board {
         requires processor { cpu < 8 }
         ensures refused { IfErr result (IsRefused (refusal_of_fault self.old caller thread) self.old self.new) }
         ensures done { OnOk result (refusal_of_fault self.old caller thread ≡ None) }
-        ensures enough { HasSpare self.old 22 → IfErr result (λ why. why ≢ NoMemory) }
+        ensures enough { HasCallRoom self.old → IfErr result (λ why. why ≢ NoMemory) }
         ensures ended { OnOk result (HasEnded thread cpu self.old self.new) }
         ensures on { GoesOn cpu self.old self.new }
         ensures event { IsOneEvent cpu self.old self.new }
@@ -402,7 +402,7 @@ impl Board {
         ensures done { OnOk result (refusal_of_heal self.old thread ≡ None) }
         ensures healed { OnOk result (IsHealed cpu thread self.old self.new) }
         ensures promised { IsHealable self.old thread → IfErr result (λ why. why ≡ NoMemory) × OnOk result (HasStepped thread self.old self.new) }
-        ensures enough { HasSpare self.old 22 → IfErr result (λ why. why ≢ NoMemory) }
+        ensures enough { HasCallRoom self.old → IfErr result (λ why. why ≢ NoMemory) }
         ensures event { IsOneEvent cpu self.old self.new }
     {
         self.holds();

@@ -1,7 +1,7 @@
 //! Operations on a board, one after another.
 
 ghost use Rattle.std.specs.Prelude.{◌≡◌, ◌++◌, false, List, OnErr, OnOk};
-ghost use Rattle.board_commits.specs.board_ops.specs.declared.answers.Answer.{Answer};
+ghost use Rattle.board_core.specs.board_ops.specs.declared.answers.Answer.{Answer};
 ghost use Rattle.cache_board.specs.Desks.{AreOfTickets};
 ghost use Rattle.cache_board.specs.Drive.{processor_of, is_beyond as is_beyond_def, AreAnswered, IsAnswered, IsDone};
 

@@ -3,8 +3,8 @@
 ghost use Rattle.std.specs.Prelude.{ℕ, List};
 ghost use Rattle.run_journal.specs.declared.entries.Entry.{Entry};
 ghost use Rattle.turn_lock.specs.Lists.{IsContinuedBy};
-ghost use Rattle.board_commits.specs.board_core.specs.Core.{Recorded};
-ghost use Rattle.board_commits.specs.board_core.specs.Going.{IsOneEvent};
+ghost use Rattle.board_core.specs.Core.{Recorded};
+ghost use Rattle.board_core.specs.Going.{IsOneEvent};
 ghost use Rattle.cache_board.specs.Events.{author_of, past_of};
 
 use crate::board::Board;

@@ -2,7 +2,7 @@
 
 ghost use Rattle.std.specs.Prelude.{◌≡◌, ◌<◌, IfOk, None, Some};
 ghost use Rattle.board_commits.specs.board_threads.specs.declared.tickets.Ticket.{Ticket};
-ghost use Rattle.board_commits.specs.quantum.specs.Ahead.{unbegun};
+ghost use Rattle.board_core.specs.quantum.specs.Ahead.{unbegun};
 ghost use Rattle.board_commits.specs.Tickets.{AreAllAsOf, AreOfTicket};
 ghost use Rattle.cache_board.specs.Drive.{IsCheckout, IsCommit, IsLeave, IsRunAhead, IsView};
 

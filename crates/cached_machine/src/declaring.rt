@@ -13,7 +13,7 @@ use cache_ident::{Caps, Frame, KernelNo, NoMemory, SpaceNo, ThreadNo, Vpn};
 use flat_machine::new_context;
 use flat_state::Decl;
 use kernel_cache::KernelRec;
-use phys_groups::{Flags, Rights, Row};
+use phys_groups::{Flags, PAGE_BYTES, Rights, Row};
 use rv32_exec::{Output, Status};
 use space_cache::SpaceRec;
 use thread_cache::ThreadRec;
@@ -174,6 +174,6 @@ impl CachedMachine {
         requires { MayBeMade (decls.Word frame offset value) self.old }
         ensures { IsMade (decls.Word frame offset value) self.old self.new }
     {
-        self.memory.store_word(4_096 * frame.0 + offset, value);
+        self.memory.store_word(PAGE_BYTES * frame.0 + offset, value);
     }
 }

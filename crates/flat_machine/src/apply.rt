@@ -11,7 +11,7 @@ use arrayvec::ArrayVec;
 use cache_ident::{Caps, Frame, KernelNo, SpaceNo, ThreadNo, Vpn};
 use flat_events::{complete, step};
 use flat_state::{Decl, Event, FlatKernel, FlatThread, Machine};
-use phys_groups::{Flags, Memory, Rights, Row};
+use phys_groups::{Flags, Memory, PAGE_BYTES, Rights, Row};
 use rv32_exec::{Context, Output, Status};
 
 /// The registers of a new thread: all are 0 but its pc and two arguments, in a0 and a1.
@@ -187,6 +187,6 @@ impl Flat {
         requires { broken_rule self.old (decls.Word frame offset value) ≡ None }
         ensures { self.new ≡ declared self.old (decls.Word frame offset value) }
     {
-        self.memory.store_word(4_096 * frame.0 + offset, value);
+        self.memory.store_word(PAGE_BYTES * frame.0 + offset, value);
     }
 }

@@ -9,7 +9,7 @@ ghost use Rattle.flat_mmu.specs.Seen.{Beside, beside, seen, seen_row};
 
 use cache_ident::{Frame, SpaceNo, Vpn};
 use flat_rules::{Records, Steps, reached};
-use phys_groups::Row;
+use phys_groups::{PAGE_BYTES, Row};
 use rv32_exec::{Access, Hole, Space, Width};
 use rv32_isa::{Instr, decode};
 
@@ -64,7 +64,7 @@ fn place_in(frame: Frame, va: u32) -> u32
     requires { frame.0 < 2048 }
     ensures { result ≡ place_in_def frame va }
 {
-    frame.0 * 4_096 + va % 4_096
+    frame.0 * PAGE_BYTES + va % PAGE_BYTES
 }
 
 // Whether the access leaves the mark of a store.
@@ -113,6 +113,6 @@ impl<'a, T: Steps> Space for Mmu<'a, T> {
 
     fn touch(&mut self, va: u32, access: Access) {
         self.tables
-            .mark(self.space, Vpn(va / 4_096), writes(access));
+            .mark(self.space, Vpn(va / PAGE_BYTES), writes(access));
     }
 }

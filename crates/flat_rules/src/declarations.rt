@@ -1,14 +1,14 @@
 //! The rules of a declaration.
 
-ghost use Rattle.std.specs.Prelude.{◌≡◌, ◌+◌, ◌^◌, ◌<◌, None, Some, MatchResult, nat_le};
+ghost use Rattle.std.specs.Prelude.{◌≡◌, ◌+◌, ◌<◌, None, Some, MatchResult, nat_le};
 ghost use Rattle.flat_state.specs.State.{groups_of};
 ghost use Rattle.flat_state.specs.Declaration.{agree as agree_def, are_capacities as are_capacities_def, broken_rule, caps_of, has_four as has_four_def, has_frame as has_frame_def, has_no_flag as has_no_flag_def, has_receiver as has_receiver_def, is_capacity as is_capacity_def, is_receiver_in as is_receiver_in_def, leaves_room as leaves_room_def, may_lock_kernels as may_lock_kernels_def, rule_of_early as rule_of_early_def, rule_of_kernel as rule_of_kernel_def, rule_of_machine as rule_of_machine_def, rule_of_map as rule_of_map_def, rule_of_right as rule_of_right_def, rule_of_space as rule_of_space_def, rule_of_thread as rule_of_thread_def, rule_of_word as rule_of_word_def};
 ghost use Rattle.flat_rules.specs.Readings.{Gives};
 
 use crate::records::Records;
 use cache_ident::{Caps, Frame, KernelNo, SpaceNo, ThreadNo, Vpn};
-use flat_state::{Decl, GREATEST_CAPS, MOST_DECLARED, Machine};
-use phys_groups::Flags;
+use flat_state::{Decl, GREATEST_CAPS, MOST_DECLARED, Machine, STEP_CAPS};
+use phys_groups::{Flags, GROUP_FRAMES};
 
 fn is_capacity(most: u32, cap: u32) -> bool
     ensures { result ≡ is_capacity_def most cap }
@@ -27,20 +27,33 @@ fn are_capacities(caps: Caps) -> bool
 }
 
 // Whether the capacity has room for what is granted, what is to be granted, and what one step wants.
-fn has_room(cap: u32, granted: u32, limit: u32, step: u64) -> bool
-    requires { step < 2 ^ 32 }
+fn has_room(cap: u32, granted: u32, limit: u32, step: u32) -> bool
     ensures { result ≡ nat_le (granted + limit + step) cap }
 {
-    u64::from(granted) + u64::from(limit) + step <= u64::from(cap)
+    u64::from(granted) + u64::from(limit) + u64::from(step) <= u64::from(cap)
 }
 
 fn leaves_room(caps: Caps, granted: Caps, limits: Caps) -> bool
     ensures { result ≡ leaves_room_def caps granted limits }
 {
-    has_room(caps.kernels, granted.kernels, limits.kernels, 5)
-        && has_room(caps.spaces, granted.spaces, limits.spaces, 5)
-        && has_room(caps.threads, granted.threads, limits.threads, 5)
-        && has_room(caps.mappings, granted.mappings, limits.mappings, 6)
+    has_room(
+        caps.kernels,
+        granted.kernels,
+        limits.kernels,
+        STEP_CAPS.kernels,
+    ) && has_room(caps.spaces, granted.spaces, limits.spaces, STEP_CAPS.spaces)
+        && has_room(
+            caps.threads,
+            granted.threads,
+            limits.threads,
+            STEP_CAPS.threads,
+        )
+        && has_room(
+            caps.mappings,
+            granted.mappings,
+            limits.mappings,
+            STEP_CAPS.mappings,
+        )
 }
 
 // Kernel 0 may lock a kernel, since it is locked itself. No other kernel may.
@@ -164,7 +177,7 @@ fn groups<T: Records>(tables: &T) -> u32
 fn has_frame<T: Records>(tables: &T, frame: Frame) -> bool
     ensures { result ≡ has_frame_def (T.state tables.now) frame }
 {
-    u64::from(frame.0) < 128 * u64::from(groups(tables))
+    u64::from(frame.0) < u64::from(GROUP_FRAMES) * u64::from(groups(tables))
 }
 
 fn rule_of_kernel<T: Records>(tables: &T, caps: Caps, no: KernelNo, limits: Caps) -> Result<(), u32>

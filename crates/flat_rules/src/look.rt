@@ -22,7 +22,7 @@ use crate::translation::reached;
 use cache_ident::{Name, ThreadNo};
 use flat_state::{NextStep, Signal};
 use flat_thread::{action_for_word, data_access, stored_word};
-use phys_groups::Row;
+use phys_groups::{PAGE_BYTES, Row};
 use rv32_exec::{Access, Action};
 use signal_pages::signals;
 
@@ -120,7 +120,9 @@ fn word_at<T: Records>(tables: &T, row: &Row, va: u32) -> u32
     requires aligned { va % 4 ≡ 0 }
     ensures { result ≡ word_at_def (T.state tables.now).memory (place_in row.now.frame va) }
 {
-    tables.memory().word(row.frame.0 * 4_096 + va % 4_096)
+    tables
+        .memory()
+        .word(row.frame.0 * PAGE_BYTES + va % PAGE_BYTES)
 }
 
 // What the thread's next instruction asks for; none where its fetch doesn't translate, or the word is no instruction.
@@ -226,7 +228,7 @@ fn signal_of<T: Records>(tables: &T, thread: &T::Thread, action: Option<Action>)
 fn signal_through<T: Records>(tables: &T, thread: &T::Thread, va: u32) -> Option<Signal>
     ensures { result ≡ signal_through_def va (reached_def (T.state tables.now) Write (T.shown thread.now).space va) }
 {
-    let offset = va % 4_096;
+    let offset = va % PAGE_BYTES;
     match reached(tables, Access::Write, T::space_of(thread), va) {
         Ok(row) if row.flags.m && signals(offset) => Some(Signal {
             frame: row.frame,

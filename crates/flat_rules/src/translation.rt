@@ -7,7 +7,7 @@ ghost use Rattle.flat_rules.specs.Readings.{IsInMemory, Reaches, is_fit_page};
 
 use crate::records::Records;
 use cache_ident::{SpaceNo, Vpn};
-use phys_groups::{Flags, Rights, Row};
+use phys_groups::{Flags, PAGE_BYTES, Rights, Row};
 use rv32_exec::{Access, FaultKind};
 
 /// The rights of the kernel that owns a space.
@@ -72,7 +72,7 @@ pub fn reached<T: Records>(
     ensures in_memory { IfOk result (λ row. IsInMemory (T.state tables.now).memory row.frame) }
 {
     tables.holds();
-    let Some(row) = tables.row(space, Vpn(va / 4_096)) else {
+    let Some(row) = tables.row(space, Vpn(va / PAGE_BYTES)) else {
         return Err(FaultKind::Page);
     };
     if !wants(access, row.flags) {

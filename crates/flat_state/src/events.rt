@@ -19,6 +19,14 @@ pub const MOST_DECLARED: Caps = Caps {
     mappings: 262_144,
 };
 
+/// The most of each kind that one step wants loaded, which no limits of locks take from a machine's capacities.
+pub const STEP_CAPS: Caps = Caps {
+    kernels: 5,
+    spaces: 5,
+    threads: 5,
+    mappings: 6,
+};
+
 /// How much memory a machine has, and how much its caches hold.
 #[derive(Clone, Copy, PartialEq, Eq, Debug)]
 pub struct Machine {

@@ -7,10 +7,8 @@ ghost use Rattle.image_decls.specs.Declarations.{HasAddresses, page_count, part_
 use cache_ident::{Frame, SpaceNo, Vpn};
 use elf_image::{Image, Part};
 use flat_state::Decl;
+use phys_groups::PAGE_BYTES;
 use std::alloc::AllocError;
-
-/// The bytes of a page.
-pub(crate) const PAGE_BYTES: u32 = 4096;
 
 /// The last address of a part.
 pub(crate) fn last_address(part: &Part) -> u32

@@ -5,10 +5,11 @@ ghost use Rattle.std.specs.List.{sum_by, AllByRecursion};
 ghost use Rattle.elf_image.specs.Elf.{LiesIn};
 ghost use Rattle.image_decls.specs.Declarations.{HasAddresses, first_page, byte_at, word_at, word_decl, word_count, part_words, each};
 
-use crate::rows::{PAGE_BYTES, last_address, page_count};
+use crate::rows::{last_address, page_count};
 use cache_ident::Frame;
 use elf_image::{Image, Part};
 use flat_state::Decl;
+use phys_groups::PAGE_BYTES;
 use std::alloc::AllocError;
 
 // The byte at an address, 0 where the part has none of its own there.

@@ -13,10 +13,11 @@ ghost use Rattle.journal_rules.specs.Running.{AreGoodNames, LeavesGood, SpoilOne
 ghost use Rattle.journal_rules.specs.Touched.{AddsOne, AddsPlaces, AreAsked, CoversCall, HaveOnes, IsAlone};
 ghost use Rattle.journal_rules.specs.declared.calls.Touched.TheVariants as touches;
 
-use crate::names::{GROUP_FRAMES, stays_good};
+use crate::names::stays_good;
 use cache_ident::{Frame, KernelNo, Name, NoMemory, ThreadNo, Vpn};
 use flat_machine::Flat;
 use flat_state::{Event, FlatThread};
+use phys_groups::GROUP_FRAMES;
 use residents::{Reliance, RelyingRows, Residents};
 use std::alloc::Global;
 

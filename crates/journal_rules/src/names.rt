@@ -15,11 +15,8 @@ ghost use Rattle.journal_rules.specs.Running.{AreResident, LackOne};
 use arrayvec::ArrayVec;
 use cache_ident::{Class, KernelNo, Kind, Name};
 use flat_machine::Flat;
-use phys_groups::Row;
+use phys_groups::{GROUP_FRAMES, Row};
 use residents::{Reliance, Residents};
-
-/// How many frames a page group has.
-pub(crate) const GROUP_FRAMES: u32 = 128;
 
 /// Whether there is a descriptor of that name. It costs the logarithm of the rows.
 pub fn stands(flat: &Flat, name: Name) -> bool

@@ -4,10 +4,10 @@ use Rattle.std.specs.Option.{option_map}
 use Rattle.cache_ident.specs.declared.names.ThreadNo.{ThreadNo}
 use Rattle.rv32_exec.specs.declared.statuses.Status.{Status}
 use Rattle.flat_state.specs.declared.records.FlatThread.{FlatThread}
-use Rattle.cache_board.specs.board_core.specs.Answers.{HasSpare, IsRefused}
+use Rattle.cache_board.specs.board_core.specs.Answers.{HasCallRoom, IsRefused}
 use Rattle.cache_board.specs.board_core.specs.Core.{Recorded}
 use Rattle.cache_board.specs.board_core.specs.Going.{GoesOn, IsOneEvent}
-use Rattle.cache_board.specs.board_core.specs.cached_machine.specs.Cached.{state_of}
+use Rattle.cache_board.specs.cached_machine.specs.Cached.{state_of}
 use Rattle.cache_board.specs.board_ops.specs.declared.refusals.Refused.{Refused}
 use Rattle.cache_board.specs.board_ops.specs.declared.refusals.Refused.TheVariants.{NoMemory}
 
@@ -28,7 +28,7 @@ pub record IsCall {T : Type 0} (refusal : Option Refused) (does : T → Type 0) 
 -- the same, of a call that with this much room takes no memory
 pub record IsRoomyCall {T : Type 0} (refusal : Option Refused) (does : T → Type 0) (old new : Recorded) (answer : Result T Refused) : Type 0 where
   pub call : IsCall refusal does old new answer
-  pub enough : HasSpare old 22 → IfErr answer (λ why. why ≢ NoMemory)
+  pub enough : HasCallRoom old → IfErr answer (λ why. why ≢ NoMemory)
 
 -- the status of a thread, if there is one
 abbrev pub status_in : Recorded → ThreadNo → Option Status

@@ -84,7 +84,12 @@ pub trait Port {
         ensures followed { follows self.old self.new };
 
     /// Loads a thread of the loaded space `parent`.
-    fn load_thread(&mut self, caller: Ident, parent: Ident, thread: ThreadNo) -> Result<Ident, Refused>
+    fn load_thread(
+        &mut self,
+        caller: Ident,
+        parent: Ident,
+        thread: ThreadNo,
+    ) -> Result<Ident, Refused>
         ensures call { OnTold (board self.old) (board self.new) (λ old new. IsRoomyCall (refusal_of_load_thread (contents_of old) caller parent thread) (λ ident. IsLoadedAs 0 (Name.Thread thread) ident old new) old new result) }
         ensures counted { heard self.new ≡ called (heard self.old) (PortCall.LoadThread thread) (result_err result) }
         ensures followed { follows self.old self.new };

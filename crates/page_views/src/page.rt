@@ -8,11 +8,9 @@ ghost use Rattle.page_views.specs.Views.{mark_view, present_in};
 ghost use Rattle.page_views.specs.Origins.{viewed};
 
 use cache_ident::{Frame, Ident, Vpn};
-use phys_groups::Flags;
+use phys_groups::{Flags, PAGE_LENGTH};
 use rv32_exec::{Access, Width};
 use std::marker::Model;
-
-pub(crate) const PAGE_BYTES: usize = 4_096;
 
 /// Where a copied page comes from: its number, its frame, and the flags and the identifier of the row that it was copied
 /// through; and the place of a journal as of which the frame had its bytes, where they carry one.
@@ -32,8 +30,8 @@ pub(crate) struct Origin {
 #[derive(Drop)]
 pub struct PageView {
     // They come first, so that a word is aligned.
-    present: [u8; PAGE_BYTES],
-    first: [u8; PAGE_BYTES],
+    present: [u8; PAGE_LENGTH],
+    first: [u8; PAGE_LENGTH],
     origin: Origin,
     touched: bool,
     written: bool,
@@ -63,8 +61,8 @@ impl PageView {
             taken: None,
         };
         PageView {
-            present: [0; PAGE_BYTES],
-            first: [0; PAGE_BYTES],
+            present: [0; PAGE_LENGTH],
+            first: [0; PAGE_LENGTH],
             origin,
             touched: false,
             written: false,
@@ -251,7 +249,7 @@ impl PageView {
 
 // Keeps the first contents apart from now on.
 #[inline]
-fn part(apart: &mut bool, first: &mut [u8; PAGE_BYTES], present: &[u8; PAGE_BYTES])
+fn part(apart: &mut bool, first: &mut [u8; PAGE_LENGTH], present: &[u8; PAGE_LENGTH])
     ensures apart { apart.new ≡ true }
     ensures first { first.new ≡ (if apart.old then first.old else present.now) }
 {
@@ -264,7 +262,7 @@ fn part(apart: &mut bool, first: &mut [u8; PAGE_BYTES], present: &[u8; PAGE_BYTE
 // It stays a call, so that a store is short.
 #[cold]
 #[inline(never)]
-fn keep(first: &mut [u8; PAGE_BYTES], present: &[u8; PAGE_BYTES])
+fn keep(first: &mut [u8; PAGE_LENGTH], present: &[u8; PAGE_LENGTH])
     ensures { first.new ≡ present.now }
 {
     first.copy_from_slice(present);

@@ -7,6 +7,7 @@ ghost use Rattle.page_views.specs.Views.{pages_of_views, rest_of, Copied, Dated}
 
 use crate::table::PageViews;
 use cache_ident::Vpn;
+use phys_groups::PAGE_BYTES;
 use rv32_exec::{Access, Hole, Space, Width};
 use rv32_isa::Instr;
 
@@ -17,7 +18,7 @@ fn offset(va: u32, width: Width) -> usize
     ensures offset { result ≡ va % 4096 }
     ensures within { result + size_of width < 4097 }
 {
-    (va % 4_096) as usize
+    (va % PAGE_BYTES) as usize
 }
 
 impl PageViews {
@@ -67,6 +68,6 @@ impl Space for PageViews {
 
     #[inline]
     fn touch(&mut self, va: u32, access: Access) {
-        self.mark(Vpn(va / 4_096), access);
+        self.mark(Vpn(va / PAGE_BYTES), access);
     }
 }

@@ -12,7 +12,7 @@ use crate::index::Index;
 use crate::page::{Origin, PageView};
 use cache_ident::{Frame, Ident, NoMemory, Vpn};
 use flat_rules::wants;
-use phys_groups::Flags;
+use phys_groups::{Flags, PAGE_BYTES};
 use rv32_exec::{Access, DecodedWords, Width};
 use std::alloc::Global;
 use std::marker::Model;
@@ -214,7 +214,7 @@ impl PageViews {
         ensures view { seen_at result self.now.views ≡ view_through self.now.views access va }
         ensures within { IfSome result (λ place. place < length self.now.views) }
     {
-        match self.place(Vpn(va / 4_096)) {
+        match self.place(Vpn(va / PAGE_BYTES)) {
             Some(place) if wants(access, self.views[place].flags()) => Some(place),
             _ => None,
         }

@@ -4,15 +4,20 @@ ghost use Rattle.std.specs.Prelude.{◌≡◌, ◌≢◌, ℕ, [], ◌+◌, ◌*
 ghost use Rattle.cache_ident.specs.declared.names.Frame.{Frame};
 ghost use Rattle.phys_groups.specs.Memory.{HasFrame, half_at, half_bytes, page_at, page_end, reaching, with_page, word_at, word_bytes, written};
 
+use super::grants::GROUP_FRAMES;
 use cache_ident::{Frame, NoMemory};
 use std::alloc::Global;
 use std::marker::Model;
 
-const PAGE_BYTES: usize = 4_096;
+/// How many bytes a page has.
+pub const PAGE_BYTES: u32 = 4_096;
 
-const GROUP_BYTES: usize = 524_288;
+/// The same, as a length.
+pub const PAGE_LENGTH: usize = PAGE_BYTES as usize;
 
-const NO_BYTES: [u8; PAGE_BYTES] = [0; PAGE_BYTES];
+const GROUP_BYTES: usize = PAGE_LENGTH * GROUP_FRAMES as usize;
+
+const NO_BYTES: [u8; PAGE_LENGTH] = [0; PAGE_LENGTH];
 
 /// Memory of 1 to 16 groups, each of 128 frames of 4,096 bytes. Numbers in it are little-endian.
 ///
@@ -181,9 +186,9 @@ impl Memory {
         ensures same { bytes.now ≡ page_at self.old frame → self.new ≡ self.old }
         ensures others { (f : Frame) → f.0 ≢ frame.0 → page_at self.new f ≡ page_at self.old f }
     {
-        let start = frame.0 as usize * PAGE_BYTES;
+        let start = frame.0 as usize * PAGE_LENGTH;
         reach(&mut self.bytes, start);
-        self.bytes[start..start + PAGE_BYTES].copy_from_slice(bytes);
+        self.bytes[start..start + PAGE_LENGTH].copy_from_slice(bytes);
     }
 
     /// The 4,096 bytes of a frame, without a copy.
@@ -192,9 +197,9 @@ impl Memory {
         ensures bytes { result.now ≡ page_at self.now frame }
         ensures whole_page { length result.now ≡ 4096 }
     {
-        let start = frame.0 as usize * PAGE_BYTES;
+        let start = frame.0 as usize * PAGE_LENGTH;
         if start < self.bytes.len() {
-            &self.bytes[start..start + PAGE_BYTES]
+            &self.bytes[start..start + PAGE_LENGTH]
         } else {
             no_bytes()
         }
@@ -231,5 +236,7 @@ fn extend(bytes: &mut Vec<u8>, at: usize)
     ensures capacity { vec_capacity bytes.old ≤ vec_capacity bytes.new }
 {
     // In the room that was made this always succeeds.
-    bytes.resize((at / PAGE_BYTES + 1) * PAGE_BYTES, 0).unwrap();
+    bytes
+        .resize((at / PAGE_LENGTH + 1) * PAGE_LENGTH, 0)
+        .unwrap();
 }

@@ -7,6 +7,9 @@ use super::rows::Flags;
 use cache_ident::Frame;
 use std::marker::Model;
 
+/// How many frames a page group has.
+pub const GROUP_FRAMES: u32 = 128;
+
 /// A read bit and a write bit for each of the 16 groups of 128 frames.
 ///
 /// A contract sees the pairs of bits as a list, by group. Every call takes constant time.
@@ -57,7 +60,7 @@ impl Rights {
         requires { frame.0 < 2048 }
         ensures { result ≡ covers self.now frame flags }
     {
-        let (read, write) = self.get(frame.0 / 128);
+        let (read, write) = self.get(frame.0 / GROUP_FRAMES);
         let reads = flags.r || flags.x;
         (!reads || read) && (!flags.w || write)
     }

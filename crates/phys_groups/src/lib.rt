@@ -5,7 +5,7 @@ mod bytes;
 mod grants;
 mod rows;
 
-pub use bytes::Memory;
+pub use bytes::{Memory, PAGE_BYTES, PAGE_LENGTH};
 pub use cache_ident::NoMemory;
-pub use grants::Rights;
+pub use grants::{GROUP_FRAMES, Rights};
 pub use rows::{Flags, Row};

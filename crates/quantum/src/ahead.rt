@@ -10,7 +10,7 @@ ghost use Rattle.quantum.specs.LocalRun.{HaveOneContents, IsLocalRun};
 use crate::paused::{Paused, SignalStore};
 use cache_ident::{Frame, Ident, NoMemory, Vpn};
 use page_views::{MOST_VIEWS, PageView, PageViews};
-use phys_groups::Flags;
+use phys_groups::{Flags, PAGE_BYTES};
 use rv32_exec::{Access, Action, Context, Space, Stepped, Width, action_for, step};
 use rv32_isa::decode;
 use std::alloc::Global;
@@ -307,7 +307,7 @@ fn signals(views: &PageViews, action: Action) -> bool
             width: Width::Word,
             ..
         } => match views.through(va, Access::Write) {
-            Some(view) => view.flags().m && signal_pages::signals(va % 4_096),
+            Some(view) => view.flags().m && signal_pages::signals(va % PAGE_BYTES),
             None => false,
         },
         _ => false,
@@ -343,8 +343,8 @@ fn store_of(views: &PageViews, context: &Context, action: Action) -> Option<Sign
 {
     match action {
         Action::Store { va, value, .. } if signals(views, action) => Some(SignalStore {
-            vpn: Vpn(va / 4_096),
-            offset: va % 4_096,
+            vpn: Vpn(va / PAGE_BYTES),
+            offset: va % PAGE_BYTES,
             word: value,
             context: Context {
                 pc: context.pc.wrapping_add(4),

@@ -1,6 +1,6 @@
 use Rattle.std.proofs.Common.{◌∙◌}
 use Rattle.std.proofs.lemmas.List.{drop_all}
-use Rattle.cache_board.specs.board_core.specs.cached_machine.specs.Cached.{state_of}
+use Rattle.cache_board.specs.cached_machine.specs.Cached.{state_of}
 use Rattle.board_opening.proofs.Declaring.{all_done, cut, first_fits, on_declared, one_more, only_memory, rest_fits}
 use Rattle.board_opening.proofs.opening.declare_all.Goals as goal
 

@@ -1,6 +1,6 @@
 use Rattle.std.proofs.Common.{◌≡◌, false, drop}
 use Rattle.flat_state.specs.Events.{AllFit}
-use Rattle.cache_board.specs.board_core.specs.cached_machine.specs.Cached.{state_of}
+use Rattle.cache_board.specs.cached_machine.specs.Cached.{state_of}
 use Rattle.cache_board.specs.board_core.specs.Core.{Recorded}
 use Rattle.board_opening.specs.Openings.{AreDeclared}
 use Rattle.board_opening.proofs.opening.declare_all.Given as goal

@@ -1,6 +1,6 @@
 use Rattle.std.proofs.Common.{◌++◌, ◌∷◌, [], List, IsOk, append_assoc, append-nil, refl, sym, ap, subst, take_all, ◌∙◌, arith}
-use Rattle.board_commits.specs.board_ops.specs.declared.answers.Answer.{Answer}
-use Rattle.board_commits.specs.board_ops.specs.declared.ops.Op.{Op}
+use Rattle.board_core.specs.board_ops.specs.declared.answers.Answer.{Answer}
+use Rattle.board_core.specs.board_ops.specs.declared.ops.Op.{Op}
 use Rattle.cache_board.specs.Drive.{AreAnswered}
 use Rattle.cache_board.proofs.DriveLaws.{one_at, pushed, room_first}
 use Rattle.cache_board.proofs.driving.drive.Goals as goal

@@ -1,5 +1,5 @@
 use Rattle.std.proofs.Common.{◌≡◌, ◌+◌, ◌≤◌, ◌++◌, List, length, take, vec_capacity, vec_len}
-use Rattle.board_commits.specs.board_ops.specs.declared.answers.Answer.{Answer}
+use Rattle.board_core.specs.board_ops.specs.declared.answers.Answer.{Answer}
 use Rattle.cache_board.specs.Desks.{AreOfTickets}
 use Rattle.cache_board.specs.Drive.{AreAnswered}
 use Rattle.cache_board.proofs.driving.drive.Given as goal

@@ -1,5 +1,5 @@
 use Rattle.std.proofs.Common.{sym, subst}
-use Rattle.board_commits.specs.board_ops.specs.declared.ops.Op.{Op}
+use Rattle.board_core.specs.board_ops.specs.declared.ops.Op.{Op}
 use Rattle.cache_board.specs.Drive.{IsDone}
 use Rattle.cache_board.proofs.DriveLaws.{heal_done, row_done}
 use Rattle.cache_board.proofs.driving.perform.Goals as goal

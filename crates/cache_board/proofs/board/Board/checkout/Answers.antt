@@ -1,6 +1,6 @@
 use Rattle.std.proofs.Common.{IfNone, subst, ◌∙◌}
 use Rattle.ready_queue.specs.declared.Candidate.{Candidate}
-use Rattle.board_commits.specs.board_core.specs.Core.{Recorded}
+use Rattle.board_core.specs.Core.{Recorded}
 use Rattle.board_commits.specs.board_threads.specs.Waiting.{IsWaiting}
 use Rattle.cache_board.proofs.EventLaws.{checkout_event}
 use Rattle.cache_board.proofs.board.Board.checkout.Goals as goal

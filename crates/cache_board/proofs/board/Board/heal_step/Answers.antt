@@ -1,7 +1,7 @@
 use Rattle.std.proofs.Common.{◌≡◌, ◌∙◌, subst}
 use Rattle.std.specs.Prelude.{IfErr, OnOk}
-use Rattle.board_commits.specs.board_ops.specs.declared.refusals.Refused.TheVariants.{NoMemory}
-use Rattle.board_commits.specs.board_core.specs.Core.{Recorded}
+use Rattle.board_core.specs.board_ops.specs.declared.refusals.Refused.TheVariants.{NoMemory}
+use Rattle.board_core.specs.Core.{Recorded}
 use Rattle.board_heal.specs.Promise.{HasStepped, IsHealable}
 use Rattle.cache_board.proofs.EventLaws.{heal_goes_on}
 use Rattle.cache_board.proofs.board.Board.heal_step.Goals as goal

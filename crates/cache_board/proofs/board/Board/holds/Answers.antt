@@ -5,7 +5,7 @@ use Rattle.cache_ident.specs.Residents.{IsResident, Resident}
 use Rattle.run_journal.specs.Legal.{first_ident}
 use Rattle.run_journal.specs.Told.{nothing_told}
 use Rattle.run_journal.proofs.Growth.{residents_told_from}
-use Rattle.board_commits.specs.board_core.specs.Core.{IsSound, Recorded}
+use Rattle.board_core.specs.Core.{IsSound, Recorded}
 use Rattle.cache_board.proofs.board.Board.holds.Goals as goal
 
 pub returns-clause-first : goal.returns-clause-first

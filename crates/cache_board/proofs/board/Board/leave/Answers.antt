@@ -1,6 +1,6 @@
 use Rattle.std.proofs.Common.{subst, ◌∙◌}
 use Rattle.cache_ident.specs.declared.names.ThreadNo.{ThreadNo}
-use Rattle.board_commits.specs.board_core.specs.Core.{Recorded}
+use Rattle.board_core.specs.Core.{Recorded}
 use Rattle.board_commits.specs.board_threads.specs.Posts.{HasComeBack, IsOutWith}
 use Rattle.cache_board.proofs.EventLaws.{marks_event}
 use Rattle.cache_board.proofs.board.Board.leave.Goals as goal

@@ -1,5 +1,5 @@
 use Rattle.std.proofs.Common.{Some, refl, ap}
-use Rattle.board_commits.specs.quantum.specs.Ahead.{Ahead}
+use Rattle.board_core.specs.quantum.specs.Ahead.{Ahead}
 use Rattle.cache_board.specs.declared.place.Place.{Place}
 use Rattle.cache_board.proofs.place.Place.check_out.Goals as goal
 
