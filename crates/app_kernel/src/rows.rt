@@ -114,6 +114,35 @@ fn reach_signal_row<P: Port>(
     Ok(())
 }
 
+// What the row is answered where a signal row was missing: that is reached, and the row asked for again.
+fn ask_with_signal_row<P: Port>(
+    port: &mut P,
+    owners: &mut Owners,
+    space: SpaceNo,
+    vpn: Vpn,
+    trust: Trust,
+    answer: Result<Ident, Refused>,
+) -> Result<Result<Ident, Refused>, Refused>
+    requires asked { IsAsked owners.old space vpn (P.heard port.old) answer }
+    ensures followed { P.follows port.old port.new }
+    ensures calls { HasRisenBy 0 (P.heard port.old).calls (P.heard port.new).calls }
+    ensures asks { HasRisenBy 0 (P.heard port.old).asks (P.heard port.new).asks }
+    ensures refused { IfErr result (IsReason 1 (P.heard port.old) (P.heard port.new)) }
+    ensures threads { owners.new.threads ≡ owners.old.threads }
+    ensures asked { IfOk result (IsAsked owners.new space vpn (P.heard port.new)) }
+{
+    match answer {
+        Err(Refused::ReceiversAbsent {
+            space: other,
+            vpn: page,
+        }) => {
+            reach_signal_row(port, owners, other, page, trust)?;
+            ask_row(port, owners, space, vpn, trust)
+        }
+        _ => Ok(answer),
+    }
+}
+
 /// Asks for the row of a page in a space that is reached. Where signal rows are missing, up to two of them are reached first: a
 /// frame has at most four, and two walks make a try.
 pub fn load_message_row<P: Port>(
@@ -130,18 +159,7 @@ pub fn load_message_row<P: Port>(
     ensures threads { owners.new.threads ≡ owners.old.threads }
     ensures asked { IfOk result (λ answer. HasRisenBy 1 (P.heard port.old).calls (P.heard port.new).calls × IsAsked owners.new space vpn (P.heard port.new) answer) }
 {
-    let mut answer = load_row(port, owners, space, vpn, trust)?;
-    for _ in 0..2 {
-        match answer {
-            Err(Refused::ReceiversAbsent {
-                space: other,
-                vpn: page,
-            }) => {
-                reach_signal_row(port, owners, other, page, trust)?;
-                answer = ask_row(port, owners, space, vpn, trust)?;
-            }
-            _ => return Ok(answer),
-        }
-    }
-    Ok(answer)
+    let answer = load_row(port, owners, space, vpn, trust)?;
+    let answer = ask_with_signal_row(port, owners, space, vpn, trust, answer)?;
+    ask_with_signal_row(port, owners, space, vpn, trust, answer)
 }

@@ -73,8 +73,8 @@ fn confirm<P: Port>(
     ensures threads { owners.new.threads ≡ owners.old.threads }
     ensures cause { (notice : Notice) → IfOk result (IsCause owners.new thread notice (P.heard port.old) (P.heard port.new)) }
 {
-    let ident = reach_thread_in(port, owners, space, thread, trust)?;
     let kernel = reach_kernel_of(port, owners, space, Trust::Noted)?;
+    let ident = reach_thread_in(port, owners, space, thread, trust)?;
     match port.confirm_fault(kernel, ident) {
         Ok(()) => Ok(Served::Ended),
         Err(Refused::Mapped { .. }) => Ok(Served::Resumed),
