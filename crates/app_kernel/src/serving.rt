@@ -131,6 +131,7 @@ fn walk<P: Port>(
 // A walk by what is noted, and where that is refused, as what is noted may be stale, one that asks for each load. Neither makes
 // more than 27 calls of the port: 9 until the space of the thread is known, 4 for its row, 6 for each of two signal rows with the
 // row asked for again, and 2 for a fault.
+#[tactic(auto, using(crate::proofs::CauseLaws::ok_from))]
 fn attempt<P: Port>(
     port: &mut P,
     owners: &mut Owners,
@@ -152,6 +153,7 @@ fn attempt<P: Port>(
 }
 
 /// Does for a thread what its notice asks.
+#[tactic(auto, using(crate::proofs::CauseLaws::cause_from))]
 pub fn serve<P: Port>(
     port: &mut P,
     owners: &mut Owners,
@@ -165,7 +167,7 @@ pub fn serve<P: Port>(
         return Served::Ended;
     }
     let mut last = Refused::NoMemory;
-    for _ in 0..3 {
+    for _ in 0..3u32 {
         match attempt(port, owners, thread, notice) {
             Ok(served) => return served,
             Err(Refused::NoMemory) => return Served::Again(Refused::NoMemory),
