@@ -104,7 +104,7 @@ fn a_try_wants_two_rows_a_walk(rt: HostRuntime) -> Result<(), Fail> {
     };
     let notice = Notice::Fault {
         va: 65_536,
-        access: Access::Load,
+        access: Access::Read,
     };
     let served = serve(&mut port, &mut owners, ThreadNo(0), notice);
     let wanted = Refused::ReceiversAbsent {

@@ -18,8 +18,8 @@ pub const BARE: &str =
 /// A thread of kernel 1 that stores into a message row, and one of kernel 2 that takes the signals.
 pub const MESSAGES: &str = "mem 1\ncaps 8 8 8 8\nkernel 0\nkernel 1\nkernel 2\nright 1 0 rw\nright 2 0 rw\nspace 0 1\nspace 1 2\nthread 0 0 0\nthread 1 1 0\nmap 0 0 0 x\nmap 0 16 2 rwm\nmap 1 0 1 x\nmap 1 32 2 r signal 1\nword 0 0 000102b7 0202ae23 00000073\nword 1 0 00300893 00000073 00200893 00000073 00000893 00000073\nend\n";
 
-/// A thread of the third space, which is kernel 1's, asks for a thread that puts a byte out and ends.
-pub const SPAWNING: &str = "mem 1\nkernel 0\nkernel 1\nright 1 0 rw\nspace 0 0\nspace 1 1\nspace 2 1\nthread 0 2 0\nmap 2 0 0 x\ncode 0 0\naddi a0, zero, 28\naddi a1, zero, 65\naddi a2, zero, 0\naddi a7, zero, 8\necall\naddi a7, zero, 0\necall\naddi a7, zero, 1\necall\naddi a7, zero, 0\necall\nendcode\nend\n";
+/// A thread of the first of kernel 1's spaces asks for a thread that puts a byte out and ends.
+pub const SPAWNING: &str = "mem 1\nkernel 0\nkernel 1\nright 1 0 rw\nspace 0 0\nspace 1 1\nspace 2 1\nthread 0 1 0\nmap 1 0 0 x\ncode 0 0\naddi a0, zero, 28\naddi a1, zero, 65\naddi a2, zero, 0\naddi a7, zero, 8\necall\naddi a7, zero, 0\necall\naddi a7, zero, 1\necall\naddi a7, zero, 0\necall\nendcode\nend\n";
 
 /// A board and its owners.
 #[derive(Drop)]
@@ -73,17 +73,27 @@ impl Scene {
         Ok(text.as_slice().ends_with(lines.as_bytes()))
     }
 
-    /// Unloads a descriptor for the first kernel.
-    pub fn unload(&mut self, ident: Ident) -> bool {
-        self.board.unload(0, FIRST, ident).is_ok()
+    /// Unloads a descriptor of a kernel.
+    pub fn unload(&mut self, kernel: Ident, ident: Ident) -> bool {
+        self.board.unload(0, kernel, ident).is_ok()
     }
 }
 
-/// The identifier of the first kernel.
-pub const FIRST: Ident = ident(Kind::Kernel, 0);
+/// The first kernel, and the next one that was loaded first.
+pub const FIRST: Ident = Ident {
+    kind: Kind::Kernel,
+    slot: 0,
+    serial: 0,
+};
+
+pub const SECOND: Ident = Ident {
+    kind: Kind::Kernel,
+    slot: 1,
+    serial: 1,
+};
 
 /// The identifier that the load of that number gave, for the first slot.
-pub const fn ident(kind: Kind, serial: u32) -> Ident {
+pub fn ident(kind: Kind, serial: u64) -> Ident {
     Ident {
         kind,
         slot: 0,

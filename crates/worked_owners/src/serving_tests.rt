@@ -32,12 +32,12 @@ fn what_others_loaded_and_unloaded_is_noted(rt: HostRuntime) -> Result<(), Fail>
     assert!(rt; scene.owners.noted(THREAD) == Some(ident(Kind::Thread, 2)));
     assert!(rt; scene.owners.noted(CODE) == Some(ident(Kind::Mapping, 3)));
     // Stale.
-    assert!(rt; scene.unload(ident(Kind::Space, 1)));
+    assert!(rt; scene.unload(FIRST, ident(Kind::Space, 1)));
     assert!(rt; scene.serve(0, fault(0)) == (Served::Resumed, 4));
     assert!(rt; scene.owners.noted(THREAD) == Some(ident(Kind::Thread, 5)));
     // Unknown.
     scene.owners.note(SPACE, ident(Kind::Space, 99))?;
-    assert!(rt; scene.unload(ident(Kind::Thread, 5)));
+    assert!(rt; scene.unload(FIRST, ident(Kind::Thread, 5)));
     assert!(rt; scene.step(0, 2));
     assert!(rt; scene.serve(0, Notice::Trap) == (Served::Resumed, 4));
     assert!(rt; scene.owners.noted(SPACE) == Some(ident(Kind::Space, 4)));
@@ -65,7 +65,7 @@ fn missing_receivers_are_loaded(rt: HostRuntime) -> Result<(), Fail> {
     assert!(rt; scene.tells(rt.alloc(), "loaded K2.5 kernel 2 cpu 0\nloaded S1.6 space 1 cpu 0\nloaded T1.7 thread 1 cpu 0\nloaded M1.8 row 1 32 cpu 0\nloaded M2.9 row 0 16 cpu 0\n")?);
     // A receiver that isn't the row's.
     scene.owners.learn_receiver(SpaceNo(0), Vpn(0), Some(ThreadNo(0)))?;
-    assert!(rt; scene.unload(ident(Kind::Mapping, 4)));
+    assert!(rt; scene.unload(SECOND, ident(Kind::Mapping, 4)));
     assert!(rt; scene.serve(0, fault(0)) == (Served::Resumed, 2));
     assert!(rt; scene.owners.receiver_of(SpaceNo(0), Vpn(0)).is_none());
     Ok(())
@@ -74,17 +74,17 @@ fn missing_receivers_are_loaded(rt: HostRuntime) -> Result<(), Fail> {
 #[test]
 fn wrong_spaces_are_learnt(rt: HostRuntime) -> Result<(), Fail> {
     let mut scene = scene(rt.alloc(), SPAWNING)?;
-    // Of another kernel: its first space is tried, and then the one that is told.
+    // Of another kernel: a space of that is tried, and then the one that is told.
     scene.owners.learn_space(ThreadNo(0), SpaceNo(0))?;
-    assert!(rt; scene.serve(0, fault(0)) == (Served::Resumed, 8));
-    assert!(rt; scene.owners.space_of(ThreadNo(0)) == Some(SpaceNo(2)));
+    assert!(rt; scene.serve(0, fault(0)) == (Served::Resumed, 9));
+    assert!(rt; scene.owners.space_of(ThreadNo(0)) == Some(SpaceNo(1)));
     assert!(rt; scene.step(0, 5));
     assert!(rt; scene.serve(0, Notice::Trap) == (Served::Resumed, 1));
     // A thread made at run, of which no owner knows, and which ends by its first call after the byte.
     assert!(rt; scene.step(1, 2));
     let (served, _) = scene.serve(1, Notice::Trap);
     assert!(rt; served == Served::Resumed);
-    assert!(rt; scene.owners.space_of(ThreadNo(1)) == Some(SpaceNo(2)));
+    assert!(rt; scene.owners.space_of(ThreadNo(1)) == Some(SpaceNo(1)));
     assert!(rt; scene.step(1, 2));
     assert!(rt; scene.serve(1, Notice::Trap) == (Served::Ended, 1));
     Ok(())
