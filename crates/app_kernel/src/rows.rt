@@ -132,10 +132,12 @@ fn ask_with_signal_row<P: Port>(
     ensures asked { IfOk result (IsAsked owners.new space vpn (P.heard port.new)) }
 {
     match answer {
-        Err(Refused::ReceiversAbsent {
-            space: other,
-            vpn: page,
-        }) => {
+        Err(
+            Refused::ReceiversAbsent {
+                space: other,
+                vpn: page,
+            },
+        ) => {
             reach_signal_row(port, owners, other, page, trust)?;
             ask_row(port, owners, space, vpn, trust)
         }

@@ -25,6 +25,7 @@ pub enum Served {
     Again(Refused),
 }
 
+// Asks for the thread's status.
 fn has_ended<P: Port>(port: &mut P, thread: ThreadNo) -> bool
     ensures followed { P.follows port.old port.new }
     ensures asked { HasRisenBy 1 (P.heard port.old).asks (P.heard port.new).asks }
@@ -152,14 +153,13 @@ fn attempt<P: Port>(
     }
 }
 
-/// Does for a thread what its notice asks.
+/// Does for a thread what its notice asks: completes its call, loads the row of the page, or has its fault confirmed. What this
+/// depends on is loaded before, and noted. `Again` comes after three tries, or at once where memory is wanted; what was done
+/// before stands.
+///
+/// A try makes at most 54 calls. Where all is loaded and noted `serve` makes one, or two where the row is loaded too.
 #[tactic(auto, using(crate::proofs::CauseLaws::cause_from))]
-pub fn serve<P: Port>(
-    port: &mut P,
-    owners: &mut Owners,
-    thread: ThreadNo,
-    notice: Notice,
-) -> Served
+pub fn serve<P: Port>(port: &mut P, owners: &mut Owners, thread: ThreadNo, notice: Notice) -> Served
     ensures followed { P.follows port.old port.new }
     ensures cause { IsCause owners.new thread notice (P.heard port.old) (P.heard port.new) result }
 {

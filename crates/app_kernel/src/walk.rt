@@ -48,11 +48,7 @@ pub fn loaded_as(answer: Result<Ident, Refused>) -> Result<Ident, Refused>
 }
 
 // Notes the identifier of what is loaded.
-fn take(
-    owners: &mut Owners,
-    name: Name,
-    answer: Result<Ident, Refused>,
-) -> Result<Ident, Refused>
+fn take(owners: &mut Owners, name: Name, answer: Result<Ident, Refused>) -> Result<Ident, Refused>
     ensures noted { IfOk result (λ ident. IsNoted name ident owners.old owners.new) }
     ensures taken { IfOk result (λ ident. loaded_as answer ≡ Ok ident) }
     ensures same { OnErr result (owners.new ≡ owners.old) }

@@ -116,10 +116,10 @@ module _ (c : Contents) (parent : Ident) (space : SpaceNo) (thread : ThreadNo) (
       let here : is_some (slice_get (seen c).threads thread.0) ≡ true = holds (is_some (slice_get (seen c).threads thread.0)) (why.NotDeclared (name.Thread thread)) declared in
       absurd (cc)
   its_space (Some t) found declared its =
-      let as : wrong_parent (Some (name.Space space)) (Some (name.Space t.space)) ≡ wrong_parent (option_map name.Space (space_as c parent)) (option_map (λ (x : FlatThread). name.Space x.space) (slice_get (seen c).threads thread.0)) =
+      let tested : wrong_parent (Some (name.Space space)) (Some (name.Space t.space)) ≡ wrong_parent (option_map name.Space (space_as c parent)) (option_map (λ (x : FlatThread). name.Space x.space) (slice_get (seen c).threads thread.0)) =
       ap (λ (o : Option SpaceNo). wrong_parent (option_map name.Space o) (Some (name.Space t.space))) (sym given)
       ∙ ap (λ (o : Option FlatThread). wrong_parent (option_map name.Space (space_as c parent)) (option_map (λ (x : FlatThread). name.Space x.space) o)) (sym found) in
-      ap (λ (s : SpaceNo). Some s) (sym (equal_spaces space t.space (as ∙ its)))
+      ap (λ (s : SpaceNo). Some s) (sym (equal_spaces space t.space (tested ∙ its)))
 
 pub is_of_space : (b : Recorded) (o : Known) (caller parent : Ident) (space : SpaceNo) (thread : ThreadNo) → IsSound b → AreOwnersOf b.journal.entries o → ident_of o (name.Space space) ≡ Some parent → Passes (refusal_of_load_thread (contents_of b) caller parent thread) → IsThreadOf (flat (erase b.journal.entries)) space thread
 is_of_space b o caller parent space thread sound are noted passes =

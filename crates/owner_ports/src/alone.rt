@@ -69,7 +69,9 @@ impl Port for Alone<'_> {
         receiver: Option<Ident>,
     ) -> Result<Ident, Refused> {
         let answer = self.board.load_mapping(0, caller, parent, vpn, receiver);
-        self.heard = self.heard.with_call(PortCall::LoadMapping(parent, vpn), &answer);
+        self.heard = self
+            .heard
+            .with_call(PortCall::LoadMapping(parent, vpn), &answer);
         answer
     }
 
@@ -87,7 +89,9 @@ impl Port for Alone<'_> {
 
     fn confirm_fault(&mut self, caller: Ident, thread: Ident) -> Result<(), Refused> {
         let answer = self.board.confirm_fault(0, caller, thread);
-        self.heard = self.heard.with_call(PortCall::ConfirmFault(thread), &answer);
+        self.heard = self
+            .heard
+            .with_call(PortCall::ConfirmFault(thread), &answer);
         answer
     }
 

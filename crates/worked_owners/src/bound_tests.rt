@@ -64,7 +64,9 @@ impl Port for Wanting {
         } else {
             Ok(ANY)
         };
-        self.heard = self.heard.with_call(PortCall::LoadMapping(parent, vpn), &answer);
+        self.heard = self
+            .heard
+            .with_call(PortCall::LoadMapping(parent, vpn), &answer);
         answer
     }
 
@@ -82,7 +84,9 @@ impl Port for Wanting {
 
     fn confirm_fault(&mut self, _caller: Ident, thread: Ident) -> Result<(), Refused> {
         let answer = Ok(());
-        self.heard = self.heard.with_call(PortCall::ConfirmFault(thread), &answer);
+        self.heard = self
+            .heard
+            .with_call(PortCall::ConfirmFault(thread), &answer);
         answer
     }
 

@@ -9,17 +9,20 @@ use scenario_reader::read;
 use std::alloc::{AllocError, Global};
 
 /// A thread whose code puts a byte out and ends.
-pub const PLAIN: &str = "mem 1\nkernel 0\nright 0 0 rw\nspace 0 0\nthread 0 0 0\nmap 0 0 0 x\nword 0 0 00100893 04800513 00000073 00000893 00000513 00000073\nend\n";
+pub const PLAIN: &str =
+    "mem 1\nkernel 0\nright 0 0 rw\nspace 0 0\nthread 0 0 0\nmap 0 0 0 x\nword 0 0 00100893 04800513 00000073 00000893 00000513 00000073\nend\n";
 
 /// A thread that fetches from where there is no row, of two kernels' spaces; and a row beyond its kernel's rights.
 pub const BARE: &str =
     "mem 1\nkernel 0\nkernel 1\nright 0 0 rw\nspace 0 0\nspace 1 1\nthread 0 0 0x4000\nthread 1 1 0\nmap 1 0 0 x\nend\n";
 
 /// A thread of kernel 1 that stores into a message row, and one of kernel 2 that takes the signals.
-pub const MESSAGES: &str = "mem 1\ncaps 8 8 8 8\nkernel 0\nkernel 1\nkernel 2\nright 1 0 rw\nright 2 0 rw\nspace 0 1\nspace 1 2\nthread 0 0 0\nthread 1 1 0\nmap 0 0 0 x\nmap 0 16 2 rwm\nmap 1 0 1 x\nmap 1 32 2 r signal 1\nword 0 0 000102b7 0202ae23 00000073\nword 1 0 00300893 00000073 00200893 00000073 00000893 00000073\nend\n";
+pub const MESSAGES: &str =
+    "mem 1\ncaps 8 8 8 8\nkernel 0\nkernel 1\nkernel 2\nright 1 0 rw\nright 2 0 rw\nspace 0 1\nspace 1 2\nthread 0 0 0\nthread 1 1 0\nmap 0 0 0 x\nmap 0 16 2 rwm\nmap 1 0 1 x\nmap 1 32 2 r signal 1\nword 0 0 000102b7 0202ae23 00000073\nword 1 0 00300893 00000073 00200893 00000073 00000893 00000073\nend\n";
 
 /// A thread of the first of kernel 1's spaces asks for a thread that puts a byte out and ends.
-pub const SPAWNING: &str = "mem 1\nkernel 0\nkernel 1\nright 1 0 rw\nspace 0 0\nspace 1 1\nspace 2 1\nthread 0 1 0\nmap 1 0 0 x\ncode 0 0\naddi a0, zero, 28\naddi a1, zero, 65\naddi a2, zero, 0\naddi a7, zero, 8\necall\naddi a7, zero, 0\necall\naddi a7, zero, 1\necall\naddi a7, zero, 0\necall\nendcode\nend\n";
+pub const SPAWNING: &str =
+    "mem 1\nkernel 0\nkernel 1\nright 1 0 rw\nspace 0 0\nspace 1 1\nspace 2 1\nthread 0 1 0\nmap 1 0 0 x\ncode 0 0\naddi a0, zero, 28\naddi a1, zero, 65\naddi a2, zero, 0\naddi a7, zero, 8\necall\naddi a7, zero, 0\necall\naddi a7, zero, 1\necall\naddi a7, zero, 0\necall\nendcode\nend\n";
 
 /// A board and its owners.
 #[derive(Drop)]

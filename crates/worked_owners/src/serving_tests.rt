@@ -9,7 +9,12 @@ use std::test::Fail;
 fn what_is_loaded_and_noted_takes_one_call(rt: HostRuntime) -> Result<(), Fail> {
     let mut scene = scene(rt.alloc(), PLAIN)?;
     assert!(rt; scene.serve(0, fault(0)) == (Served::Resumed, 3));
-    assert!(rt; scene.tells(rt.alloc(), "loaded S0.1 space 0 cpu 0\nloaded T0.2 thread 0 cpu 0\nloaded M0.3 row 0 0 cpu 0\n")?);
+    assert!(rt;
+        scene.tells(
+            rt.alloc(),
+            "loaded S0.1 space 0 cpu 0\nloaded T0.2 thread 0 cpu 0\nloaded M0.3 row 0 0 cpu 0\n"
+        )?
+    );
     assert!(rt; scene.owners.noted(CODE) == Some(ident(Kind::Mapping, 3)));
     // The row is loaded, and its fault isn't one.
     assert!(rt; scene.serve(0, fault(0)) == (Served::Resumed, 2));
@@ -49,11 +54,21 @@ fn a_thread_that_can_not_go_on_ends(rt: HostRuntime) -> Result<(), Fail> {
     let mut scene = scene(rt.alloc(), BARE)?;
     // No row is declared.
     assert!(rt; scene.serve(0, fault(4)) == (Served::Ended, 4));
-    assert!(rt; scene.tells(rt.alloc(), "loaded S0.1 space 0 cpu 0\nloaded T0.2 thread 0 cpu 0\nended 0 cpu 0\n")?);
+    assert!(rt;
+        scene.tells(
+            rt.alloc(),
+            "loaded S0.1 space 0 cpu 0\nloaded T0.2 thread 0 cpu 0\nended 0 cpu 0\n"
+        )?
+    );
     assert!(rt; scene.serve(0, fault(4)) == (Served::Ended, 0));
     // A row is declared, and its kernel has no right on its frame.
     assert!(rt; scene.serve(1, fault(0)) == (Served::Ended, 5));
-    assert!(rt; scene.tells(rt.alloc(), "loaded K1.3 kernel 1 cpu 0\nloaded S1.4 space 1 cpu 0\nloaded T1.5 thread 1 cpu 0\nended 1 cpu 0\n")?);
+    assert!(rt;
+        scene.tells(
+            rt.alloc(),
+            "loaded K1.3 kernel 1 cpu 0\nloaded S1.4 space 1 cpu 0\nloaded T1.5 thread 1 cpu 0\nended 1 cpu 0\n"
+        )?
+    );
     Ok(())
 }
 
@@ -62,9 +77,16 @@ fn missing_receivers_are_loaded(rt: HostRuntime) -> Result<(), Fail> {
     let mut scene = scene(rt.alloc(), MESSAGES)?;
     assert!(rt; scene.step(0, 1));
     assert!(rt; scene.serve(0, fault(16)) == (Served::Resumed, 9));
-    assert!(rt; scene.tells(rt.alloc(), "loaded K2.5 kernel 2 cpu 0\nloaded S1.6 space 1 cpu 0\nloaded T1.7 thread 1 cpu 0\nloaded M1.8 row 1 32 cpu 0\nloaded M2.9 row 0 16 cpu 0\n")?);
+    assert!(rt;
+        scene.tells(
+            rt.alloc(),
+            "loaded K2.5 kernel 2 cpu 0\nloaded S1.6 space 1 cpu 0\nloaded T1.7 thread 1 cpu 0\nloaded M1.8 row 1 32 cpu 0\nloaded M2.9 row 0 16 cpu 0\n"
+        )?
+    );
     // A receiver that isn't the row's.
-    scene.owners.learn_receiver(SpaceNo(0), Vpn(0), Some(ThreadNo(0)))?;
+    scene
+        .owners
+        .learn_receiver(SpaceNo(0), Vpn(0), Some(ThreadNo(0)))?;
     assert!(rt; scene.unload(SECOND, ident(Kind::Mapping, 4)));
     assert!(rt; scene.serve(0, fault(0)) == (Served::Resumed, 2));
     assert!(rt; scene.owners.receiver_of(SpaceNo(0), Vpn(0)).is_none());
