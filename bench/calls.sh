@@ -5,13 +5,14 @@
 #   where the caches hold 6 kernels, 5 spaces, 5 threads and 6 rows;
 # - a completed call that grants rights on a group (9), and calls that make a signal row and take it out again (6 and 7),
 #   where 1,024 and where 65,536 rows are loaded and nothing leaves. Of these the same steps with a call that does nothing
-#   are taken off.
+#   are taken off;
+# - a row that displaces another in a full cache of 32,100 rows, where none is locked and where 32,000 are.
 # Counted are the operations alone, without the reading of their lines and the writing of answers. A call's count is the
 # difference between a long list and a shorter one. PROGRAM is a v_drive to count instead of the one that is built, as an older
 # one.
 #
-# The bars: 30,000 for the row, 18,000 for the thread, 20,000 for the displacing row; 3 for the ratios. While each look went by
-# name, these took 48,800, 32,600 and 28,200, and a grant at 65,536 rows some 60 milliseconds.
+# The bars: 30,000 for the row, 18,000 for the thread, 20,000 for the displacing row; 3 for the ratios, and 2 for that of locked
+# rows. The program that was built on 2026-11-29 takes 15,900, 10,500 and 7,900, with ratios of 1.0 and 1.4, and 1.1 for locked rows.
 set -euo pipefail
 script=bench/calls.sh
 top="$(cd "$(dirname "$0")/.." && pwd)"
@@ -97,6 +98,19 @@ displaced() {
     }'
 }
 
+# locked CYCLES LOCKED: a cache of 32,100 rows is full, of which so many are locked; in a cycle the next row comes.
+locked() {
+    printf '%s\n' 'mem 1' 'caps 16 64 256 32100' 'kernel 0 locks 1 0 0 32000' 'right 0 0 rw' 'space 0 0'
+    awk -v cycles="$1" -v locked="$2" 'BEGIN {
+        for (i = 0; i < 32100 + cycles; i++) print "map 0", i, 0, "r"
+        print "end\nseal\nload space 0 K0.0 0"
+        for (i = 0; i < 32100 + cycles; i++) {
+            print "load row", 0, "K0.0 S0.1", i, "-"
+            if (i < locked) print "lock 0 K0.0 M" i "." i + 2
+        }
+    }'
+}
+
 # called CYCLES ROWS CALLS: a thread of kernel 0 makes two calls in a cycle, of the numbers and arguments that CALLS tells, where so
 # many rows of frame 1 are loaded, in a space of kernel 1.
 called() {
@@ -149,3 +163,7 @@ echo "thread: $(per_cycle threads 1000 64) instructions to unload it and load it
 echo "displacing row: $(per_cycle displaced 1000) instructions to load it"
 calls grants
 calls signals
+free_to_go=$(per_cycle locked 1000 0)
+kept=$(per_cycle locked 1000 32000)
+echo "displacing row of 32100: $free_to_go instructions to load it, and $kept where 32000 are locked"
+awk -v free="$free_to_go" -v kept="$kept" 'BEGIN { print "ratio", kept / free }'
