@@ -1,4 +1,0 @@
-pub mod Naming
-pub mod Tests
-pub mod Spaces
-pub mod Receivers
