@@ -1,0 +1,167 @@
+//! Asking for a row, with all that it depends on.
+
+ghost use Rattle.std.specs.Prelude.{◌≡◌, IfErr, IfOk};
+ghost use Rattle.app_kernel.specs.Answers.{HasRisenBy, IsAsked, IsReason};
+
+use crate::walk::{Trust, loaded_as, reach_kernel_of, reach_space, reach_thread_in};
+use cache_ident::{Ident, Name, SpaceNo, ThreadNo, Vpn};
+use owner_ports::{Port, Refused};
+use owners::Owners;
+
+// The receiver that is known of a row is reached, if one is.
+fn reach_receiver<P: Port>(
+    port: &mut P,
+    owners: &mut Owners,
+    space: SpaceNo,
+    vpn: Vpn,
+    trust: Trust,
+) -> Result<Option<Ident>, Refused>
+    ensures followed { P.follows port.old port.new }
+    ensures calls { HasRisenBy 0 (P.heard port.old).calls (P.heard port.new).calls }
+    ensures asks { HasRisenBy 0 (P.heard port.old).asks (P.heard port.new).asks }
+    ensures refused { IfErr result (IsReason 1 (P.heard port.old) (P.heard port.new)) }
+    ensures threads { owners.new.threads ≡ owners.old.threads }
+{
+    match owners.receiver_of(space, vpn) {
+        Some(receiver) => {
+            let ident = reach_thread_in(port, owners, space, receiver, trust)?;
+            Ok(Some(ident))
+        }
+        None => Ok(None),
+    }
+}
+
+// Asks for the row of a page in a space that is reached, and notes it where it is loaded. Refused where what the row depends on
+// can't be reached; what its own load is answered is the value.
+fn ask_row<P: Port>(
+    port: &mut P,
+    owners: &mut Owners,
+    space: SpaceNo,
+    vpn: Vpn,
+    trust: Trust,
+) -> Result<Result<Ident, Refused>, Refused>
+    ensures followed { P.follows port.old port.new }
+    ensures calls { HasRisenBy 0 (P.heard port.old).calls (P.heard port.new).calls }
+    ensures asks { HasRisenBy 0 (P.heard port.old).asks (P.heard port.new).asks }
+    ensures refused { IfErr result (IsReason 1 (P.heard port.old) (P.heard port.new)) }
+    ensures threads { owners.new.threads ≡ owners.old.threads }
+    ensures asked { IfOk result (λ answer. HasRisenBy 1 (P.heard port.old).calls (P.heard port.new).calls × IsAsked owners.new space vpn (P.heard port.new) answer) }
+{
+    let receiver = reach_receiver(port, owners, space, vpn, trust)?;
+    let kernel = reach_kernel_of(port, owners, space, Trust::Noted)?;
+    let parent = reach_space(port, owners, space, Trust::Noted)?;
+    let answer = port.load_mapping(kernel, parent, vpn, receiver);
+    if let Ok(ident) = loaded_as(answer) {
+        owners.note(Name::Mapping(space, vpn), ident)?;
+    }
+    Ok(answer)
+}
+
+// The thread of that name, if it is one.
+fn thread_named(name: Option<Name>) -> Option<ThreadNo> {
+    match name {
+        Some(Name::Thread(thread)) => Some(thread),
+        _ => None,
+    }
+}
+
+// The same, and where another receiver is told than was known, once more with that one.
+fn load_row<P: Port>(
+    port: &mut P,
+    owners: &mut Owners,
+    space: SpaceNo,
+    vpn: Vpn,
+    trust: Trust,
+) -> Result<Result<Ident, Refused>, Refused>
+    ensures followed { P.follows port.old port.new }
+    ensures calls { HasRisenBy 0 (P.heard port.old).calls (P.heard port.new).calls }
+    ensures asks { HasRisenBy 0 (P.heard port.old).asks (P.heard port.new).asks }
+    ensures refused { IfErr result (IsReason 1 (P.heard port.old) (P.heard port.new)) }
+    ensures threads { owners.new.threads ≡ owners.old.threads }
+    ensures asked { IfOk result (λ answer. HasRisenBy 1 (P.heard port.old).calls (P.heard port.new).calls × IsAsked owners.new space vpn (P.heard port.new) answer) }
+{
+    let answer = ask_row(port, owners, space, vpn, trust)?;
+    match answer {
+        Err(Refused::WrongParent { declared, .. }) => {
+            owners.learn_receiver(space, vpn, thread_named(declared))?;
+            ask_row(port, owners, space, vpn, trust)
+        }
+        _ => Ok(answer),
+    }
+}
+
+// Reaches a signal row, with all that it depends on. Where another receiver is told than was known, the walk ends, and the next
+// one goes by what was told.
+fn reach_signal_row<P: Port>(
+    port: &mut P,
+    owners: &mut Owners,
+    space: SpaceNo,
+    vpn: Vpn,
+    trust: Trust,
+) -> Result<(), Refused>
+    ensures followed { P.follows port.old port.new }
+    ensures calls { HasRisenBy 0 (P.heard port.old).calls (P.heard port.new).calls }
+    ensures asks { HasRisenBy 0 (P.heard port.old).asks (P.heard port.new).asks }
+    ensures refused { IfErr result (IsReason 1 (P.heard port.old) (P.heard port.new)) }
+    ensures threads { owners.new.threads ≡ owners.old.threads }
+{
+    reach_space(port, owners, space, trust)?;
+    let answer = ask_row(port, owners, space, vpn, trust)?;
+    if let Err(Refused::WrongParent { declared, .. }) = answer {
+        owners.learn_receiver(space, vpn, thread_named(declared))?;
+    }
+    loaded_as(answer)?;
+    Ok(())
+}
+
+// What the row is answered where a signal row was missing: that is reached, and the row asked for again.
+fn ask_with_signal_row<P: Port>(
+    port: &mut P,
+    owners: &mut Owners,
+    space: SpaceNo,
+    vpn: Vpn,
+    trust: Trust,
+    answer: Result<Ident, Refused>,
+) -> Result<Result<Ident, Refused>, Refused>
+    requires asked { IsAsked owners.old space vpn (P.heard port.old) answer }
+    ensures followed { P.follows port.old port.new }
+    ensures calls { HasRisenBy 0 (P.heard port.old).calls (P.heard port.new).calls }
+    ensures asks { HasRisenBy 0 (P.heard port.old).asks (P.heard port.new).asks }
+    ensures refused { IfErr result (IsReason 1 (P.heard port.old) (P.heard port.new)) }
+    ensures threads { owners.new.threads ≡ owners.old.threads }
+    ensures asked { IfOk result (IsAsked owners.new space vpn (P.heard port.new)) }
+{
+    match answer {
+        Err(
+            Refused::ReceiversAbsent {
+                space: other,
+                vpn: page,
+            },
+        ) => {
+            reach_signal_row(port, owners, other, page, trust)?;
+            ask_row(port, owners, space, vpn, trust)
+        }
+        _ => Ok(answer),
+    }
+}
+
+/// Asks for the row of a page in a space that is reached. Where signal rows are missing, up to two of them are reached first: a
+/// frame has at most four, and two walks make a try.
+pub fn load_message_row<P: Port>(
+    port: &mut P,
+    owners: &mut Owners,
+    space: SpaceNo,
+    vpn: Vpn,
+    trust: Trust,
+) -> Result<Result<Ident, Refused>, Refused>
+    ensures followed { P.follows port.old port.new }
+    ensures calls { HasRisenBy 0 (P.heard port.old).calls (P.heard port.new).calls }
+    ensures asks { HasRisenBy 0 (P.heard port.old).asks (P.heard port.new).asks }
+    ensures refused { IfErr result (IsReason 1 (P.heard port.old) (P.heard port.new)) }
+    ensures threads { owners.new.threads ≡ owners.old.threads }
+    ensures asked { IfOk result (λ answer. HasRisenBy 1 (P.heard port.old).calls (P.heard port.new).calls × IsAsked owners.new space vpn (P.heard port.new) answer) }
+{
+    let answer = load_row(port, owners, space, vpn, trust)?;
+    let answer = ask_with_signal_row(port, owners, space, vpn, trust, answer)?;
+    ask_with_signal_row(port, owners, space, vpn, trust, answer)
+}
