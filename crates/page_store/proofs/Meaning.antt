@@ -1,12 +1,13 @@
 -- What the pages that are kept and the store's bytes are together, after each of their changes.
-use Rattle.std.proofs.Common.{◌≡◌, ℕ, ◌*◌, ◌<◌, Bool, true, false, List, length, set, Option, Some, None, slice_get, refl, ap, sym, ◌∙◌, subst, ◌⊎◌, inl, inr, arith}
+use Rattle.std.proofs.Common.{◌≡◌, ℕ, ◌*◌, ◌<◌, Bool, true, false, List, length, set, replicate, Option, Some, None, slice_get, refl, ap, sym, ◌∙◌, subst, ◌⊎◌, inl, inr, arith}
 use Rattle.std.proofs.lemmas.Bool.{cases_eq}
-use Rattle.std.proofs.lemmas.Option.{same_Some}
+use Rattle.std.proofs.lemmas.List.{get_or-replicate, length-replicate}
+use Rattle.std.proofs.lemmas.Option.{get_or_from_slice_get, same_Some, slice_get_within}
 use Rattle.cache_ident.specs.declared.names.Frame.{Frame}
 use Rattle.phys_groups.specs.Memory.{page_at, with_page, HasFrame}
 use Rattle.phys_groups.proofs.Pages.{length-page_at, length-with_page, page_at-with_page, page_at-with_page_other}
 use Rattle.page_store.specs.declared.page.Page.{Page}
-use Rattle.page_store.specs.Kept.{unwritten, unwritten_if, with_page_in, HasPage, IsKept, Kept, Means}
+use Rattle.page_store.specs.Kept.{no_page, nothing_kept, unwritten, unwritten_if, with_page_in, HasPage, IsKept, Kept, Means}
 use Rattle.page_store.proofs.Slots.{same_frame, has_cases, had_cases, has_now}
 
 frame_within : (bytes : List ℕ) (frames : ℕ) (f : Frame) → length bytes ≡ 4096 * frames → f.0 < frames → HasFrame bytes f
@@ -14,6 +15,24 @@ frame_within bytes frames f size within = omega (arith, size, within)
 
 no_frame : (g : Frame) → ◌≡◌ {A = Option Frame} None (Some g) → ⊥
 no_frame g e = cc
+
+-- where no page is kept, no place has one
+none_kept : (most place : ℕ) (f : Frame) (page : Page) → HasPage (replicate most no_page) place f page → ⊥
+none_kept most place f page has =
+    let within = slice_get_within (replicate most no_page) place page has.there in
+    let is : page ≡ no_page = sym (get_or_from_slice_get (replicate most no_page) place page no_page has.there) ∙ get_or-replicate most place no_page no_page (omega (arith, within, length-replicate most no_page)) in
+    no_frame f (sym (ap (λ (p : Page). p.frame) is) ∙ has.its)
+
+-- and whatever bytes the store holds are the memory
+pub nothing_means : (most frames : ℕ) (bytes : List ℕ) → length bytes ≡ 4096 * frames → Means (nothing_kept most frames) (Some bytes) bytes
+nothing_means most frames bytes size = record {
+  bytes = bytes;
+  told = refl;
+  store_size = size;
+  size = size;
+  kept = λ place f page has. absurd (none_kept most place f page has);
+  stored = λ f within clean. refl;
+}
 
 true_false : true ≡ false → ⊥
 true_false e = cc

@@ -41,11 +41,13 @@ impl Model for Paged {
 }
 
 impl Paged {
-    /// Keeps no page of so many frames, and at most `most` at once. The one call that takes memory: a page and some bytes for each of
+    /// Keeps no page of so many frames, and at most `most` at once, so that memory is what the store holds. The one call that takes memory: a page and some bytes for each of
     /// these, and 16 bytes for each frame.
+    #[tactic(auto, using(crate::proofs::Meaning::nothing_means))]
     pub fn new(alloc: Global, most: usize, frames: usize) -> Result<Paged, NoMemory>
         requires { 0 < most }
-        ensures { IfOk result (λ paged. paged ≡ nothing_kept most frames) }
+        ensures empty { IfOk result (λ paged. paged ≡ nothing_kept most frames) }
+        ensures memory { IfOk result (λ paged. (bytes : List ℕ) → length bytes ≡ 4096 * frames → Means paged (Some bytes) bytes) }
     {
         Ok(Paged {
             slots: vec![in alloc; no_page(); most]?,
