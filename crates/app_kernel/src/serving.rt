@@ -12,6 +12,7 @@ use cache_ident::{SpaceNo, ThreadNo, Vpn};
 use fault_forward::Notice;
 use owner_ports::{Port, Refused};
 use owners::Owners;
+use phys_groups::PAGE_BYTES;
 use rv32_exec::Status;
 
 /// What came of a notice.
@@ -125,7 +126,7 @@ fn walk<P: Port>(
     let space = reach_thread(port, owners, thread, trust)?;
     match notice {
         Notice::Trap => complete(port, owners, space, thread),
-        Notice::Fault { va, .. } => fill(port, owners, space, thread, Vpn(va / 4096), trust),
+        Notice::Fault { va, .. } => fill(port, owners, space, thread, Vpn(va / PAGE_BYTES), trust),
     }
 }
 
