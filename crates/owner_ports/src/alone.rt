@@ -4,6 +4,7 @@ ghost use Rattle.std.specs.Prelude.{◌≡◌, refl, None, Some};
 ghost use Rattle.std.specs.Result.{result_err};
 ghost use Rattle.std.proofs.Common.{◌∙◌};
 ghost use Rattle.cache_board.specs.board_core.specs.Going.{GoesOn};
+ghost use Rattle.owner_ports.specs.Brought.{brought_by};
 ghost use Rattle.owner_ports.specs.Following.{goes_further, goes_nowhere};
 ghost use Rattle.owner_ports.specs.Heards.{called};
 
@@ -17,6 +18,8 @@ use rv32_exec::Status;
 pub struct Alone<'a> {
     pub board: &'a mut Board,
     pub heard: Heard,
+    /// How many of its calls brought a step or a completion. It stays at its last value.
+    pub brought: u64,
 }
 
 impl<'a> Alone<'a> {
@@ -25,6 +28,7 @@ impl<'a> Alone<'a> {
         ensures same_reference { result.board.ghost_name ≡ board.entry.ghost_name }
         ensures board { result.board.now ≡ board.old }
         ensures heard { result.heard ≡ record { calls = 0; said = None; asks = 0; told = None } }
+        ensures brought { result.brought ≡ 0 }
     {
         Alone {
             board,
@@ -34,6 +38,16 @@ impl<'a> Alone<'a> {
                 asks: 0,
                 told: None,
             },
+            brought: 0,
+        }
+    }
+
+    // A step or a completion more was brought, where a call wasn't refused.
+    fn count_brought(&mut self, answer: Result<(), Refused>)
+        ensures { self.new ≡ record self.old { brought = brought_by answer self.old.brought } }
+    {
+        if answer.is_ok() {
+            self.brought = self.brought.saturating_add(1);
         }
     }
 }
@@ -104,12 +118,14 @@ impl Port for Alone<'_> {
     fn complete(&mut self, caller: Ident, thread: Ident) -> Result<(), Refused> {
         let answer = self.board.complete(0, caller, thread);
         self.heard = after_call(self.heard, PortCall::Complete(thread), &answer);
+        self.count_brought(answer);
         answer
     }
 
     fn confirm_fault(&mut self, caller: Ident, thread: Ident) -> Result<(), Refused> {
         let answer = self.board.confirm_fault(0, caller, thread);
         self.heard = after_call(self.heard, PortCall::ConfirmFault(thread), &answer);
+        self.count_brought(answer);
         answer
     }
 
