@@ -17,3 +17,7 @@ barren_after brought barren = if brought then 0 else min (barren + 1) 3
 -- how many turns there were since the last sixteenth one
 abbrev pub turns_after : ℕ → ℕ
 turns_after turns = (turns + 1) % 16
+
+-- the pace once a turn was taken
+abbrev pub paced : Bool → Pace → Pace
+paced brought pace = record { barren = barren_after brought pace.barren; turns = turns_after pace.turns }

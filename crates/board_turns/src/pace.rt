@@ -1,7 +1,7 @@
 //! How a processor's turns alternate.
 
 ghost use Rattle.std.specs.Prelude.{◌≡◌, ◌<◌, ◌≤◌};
-ghost use Rattle.board_turns.specs.Paces.{barren_after, must_bring, turns_after, wants_first};
+ghost use Rattle.board_turns.specs.Paces.{must_bring, paced, wants_first};
 
 // How many turns in a row may bring nothing.
 const MOST_BARREN: u32 = 3;
@@ -22,8 +22,7 @@ pub struct Pace {
 impl Pace {
     /// Before the first turn.
     pub fn new() -> Pace
-        ensures barren { result.barren ≡ 0 }
-        ensures turns { result.turns ≡ 0 }
+        ensures { result ≡ record { barren = 0; turns = 0 } }
     {
         Pace {
             barren: 0,
@@ -48,8 +47,7 @@ impl Pace {
 
     /// A turn was taken, and brought a step or a completion, or neither.
     pub fn after(self, brought: bool) -> Pace
-        ensures barren { result.barren ≡ barren_after brought self.barren }
-        ensures turns { result.turns ≡ turns_after self.turns }
+        ensures { result ≡ paced brought self }
     {
         let barren = if brought {
             0

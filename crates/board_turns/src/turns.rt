@@ -1,11 +1,22 @@
 //! The turn of a processor.
 
-ghost use Rattle.std.specs.Prelude.{◌≡◌, ◌≢◌, ◌<◌, IfOk};
-ghost use Rattle.board_commits.specs.Tickets.{AreAllAsOf};
+ghost use Rattle.std.specs.Prelude.{◌≡◌, ◌≢◌, ◌<◌, true, false, Result, Err, IfOk, IfSome, IsSome, OnOk, option_copied};
+ghost use Rattle.fault_forward.specs.declared.effects.Notice.TheVariants as notices;
+ghost use Rattle.rv32_exec.specs.declared.statuses.Access.TheVariants as accesses;
+ghost use Rattle.flat_state.specs.Call.{is_completable};
+ghost use Rattle.flat_rules.specs.Readings.{OfThread};
+ghost use Rattle.left_laws.specs.Left.{left};
+ghost use Rattle.board_ops.specs.declared.refusals.Refused.{Refused};
+ghost use Rattle.board_ops.specs.declared.refusals.Refused.TheVariants as why;
+ghost use Rattle.board_core.specs.cached_machine.specs.Cached.{state_of};
+ghost use Rattle.board_commits.specs.Tickets.{AreAllAsOf, AreOfTicket};
 ghost use Rattle.owner_ports.specs.Boards.{OnTold};
 ghost use Rattle.board_turns.specs.declared.found.Found.TheVariants as found_so;
+ghost use Rattle.board_turns.specs.declared.pace.Pace.{Pace};
+ghost use Rattle.board_turns.specs.Holds.{HasHealed};
 ghost use Rattle.board_turns.specs.Looks.{IsIdle};
-ghost use Rattle.board_turns.specs.Turning.{turns_left, IsNext, IsReadyFor};
+ghost use Rattle.board_turns.specs.Paces.{must_bring};
+ghost use Rattle.board_turns.specs.Turning.{turns_left, IsAtRest, IsLeftBy, IsNext, IsReadyFor};
 
 use crate::found::Found;
 use crate::pace::Pace;
@@ -22,7 +33,11 @@ fn ask_owners<P: Processor>(
     owners: &mut Owners,
     thread: ThreadNo,
     notice: Notice,
-) -> Result<(), NoMemory> {
+) -> Result<(), NoMemory>
+    ensures followed { P.follows port.old port.new }
+    ensures told { OnTold (P.board port.old) (P.board port.new) (λ old new. IsAtRest old owners.old → IsAtRest new owners.new) }
+    ensures completed { OnTold (P.board port.old) (P.board port.new) (λ old new. IsAtRest old owners.old → notice ≡ notices.Trap → OfThread (state_of old.machine) thread.0 (λ t. is_completable t ≡ true) → OnOk result (left new < left old)) }
+{
     match serve(port, owners, thread, notice) {
         Served::Again(Refused::NoMemory) => Err(AllocError),
         _ => Ok(()),
@@ -33,7 +48,10 @@ fn heal<P: Processor>(
     port: &mut P,
     ticket: Option<&Ticket>,
     thread: ThreadNo,
-) -> Result<(), NoMemory> {
+) -> Result<(), NoMemory>
+    ensures continued { P.continues port.old port.new }
+    ensures told { OnTold (P.board port.old) (P.board port.new) (λ old new. (answer : Result Unit Refused) × HasHealed 0 (option_copied ticket.entry) thread old new answer × OnOk result (answer ≢ Err why.NoMemory)) }
+{
     match port.leave_and_heal(ticket, thread) {
         Err(Refused::NoMemory) => Err(AllocError),
         _ => Ok(()),
@@ -41,7 +59,10 @@ fn heal<P: Processor>(
 }
 
 // What a thread that isn't loaded, or is in a call, waits for.
-fn notice_of(trapped: bool, pc: u32) -> Notice {
+fn notice_of(trapped: bool, pc: u32) -> Notice
+    ensures trap { trapped ≡ true → result ≡ notices.Trap }
+    ensures fetch { trapped ≡ false → result ≡ notices.Fault pc accesses.Fetch }
+{
     if trapped {
         Notice::Trap
     } else {
@@ -60,7 +81,14 @@ fn run_thread<P: Processor>(
     pace: Pace,
     length: u32,
     ticket: &Ticket,
-) -> Result<Option<Found>, NoMemory> {
+) -> Result<Option<Found>, NoMemory>
+    requires some { 0 < length }
+    requires ready { AreOfTicket (P.seen port.old) ticket.now.thread quantum.old }
+    ensures continued { P.continues port.old port.new }
+    ensures kept { AreAllAsOf (P.seen port.new) quantum.new }
+    ensures ready { IfOk result (λ next. IfSome next (IsReadyFor (P.seen port.new) quantum.new)) }
+    ensures told { OnTold (P.board port.old) (P.board port.new) (λ old new. IsNext old owners.old pace (found_so.Out ticket.now) → IfOk result (λ next. IsLeftBy new owners.new pace next × (IsSome next → left new < left old))) }
+{
     match run_quantum(port, ticket, quantum, pace, length)? {
         Ran::Found(found) => return Ok(Some(found)),
         Ran::Asks(notice) => ask_owners(port, owners, ticket.no, notice)?,
@@ -78,7 +106,14 @@ fn act<P: Processor>(
     pace: Pace,
     length: u32,
     found: Found,
-) -> Result<Option<Found>, NoMemory> {
+) -> Result<Option<Found>, NoMemory>
+    requires some { 0 < length }
+    requires ready { IsReadyFor (P.seen port.old) quantum.old found }
+    ensures continued { P.continues port.old port.new }
+    ensures kept { AreAllAsOf (P.seen port.new) quantum.new }
+    ensures ready { IfOk result (λ next. IfSome next (IsReadyFor (P.seen port.new) quantum.new)) }
+    ensures told { OnTold (P.board port.old) (P.board port.new) (λ old new. IsNext old owners.old pace found → IfOk result (λ next. IsLeftBy new owners.new pace next × (IsSome next → left new < left old))) }
+{
     match found {
         Found::Out(ticket) => run_thread(port, owners, quantum, pace, length, &ticket),
         Found::Wanted { no, trapped, pc } => {
@@ -94,7 +129,10 @@ fn bring<P: Processor>(
     port: &mut P,
     owners: &mut Owners,
     found: Found,
-) -> Result<(), NoMemory> {
+) -> Result<(), NoMemory>
+    ensures continued { P.continues port.old port.new }
+    ensures told { OnTold (P.board port.old) (P.board port.new) (λ old new. (pace : Pace) → must_bring pace ≡ true → IsNext old owners.old pace found → OnOk result (IsAtRest new owners.new × (found ≢ found_so.Over → left new < left old))) }
+{
     match found {
         Found::Out(ticket) => heal(port, Some(&ticket), ticket.no),
         Found::Wanted {
@@ -141,7 +179,8 @@ pub fn turn<P: Processor>(
     } else {
         act(port, owners, quantum, *pace, length, found)?
     };
-    *pace = pace.after(before < port.brought());
+    let brought = next.is_some() || before < port.brought();
+    *pace = pace.after(brought);
     match next {
         Some(found) => Ok(found),
         None => Ok(port.look(pace.wants_first(), quantum)),
