@@ -49,7 +49,11 @@ fn may_try_again(refused: Refused) -> bool {
 
 /// Makes the steps of a quantum happen, and gives the thread back, also where that is refused, but for want of steps where some
 /// are left.
-pub(crate) fn commit(board: &mut Board, ticket: &Ticket, quantum: &Quantum) -> Result<u32, Refused> {
+pub(crate) fn commit(
+    board: &mut Board,
+    ticket: &Ticket,
+    quantum: &Quantum,
+) -> Result<u32, Refused> {
     let committed = board.commit(ticket, quantum);
     if let Err(refused) = committed {
         if !may_try_again(refused) {

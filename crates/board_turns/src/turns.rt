@@ -125,18 +125,16 @@ fn act<P: Processor>(
 }
 
 // What a turn does that has to bring something: a call is completed, and else a step is healed.
-fn bring<P: Processor>(
-    port: &mut P,
-    owners: &mut Owners,
-    found: Found,
-) -> Result<(), NoMemory>
+fn bring<P: Processor>(port: &mut P, owners: &mut Owners, found: Found) -> Result<(), NoMemory>
     ensures continued { P.continues port.old port.new }
     ensures told { OnTold (P.board port.old) (P.board port.new) (λ old new. (pace : Pace) → must_bring pace ≡ true → IsNext old owners.old pace found → OnOk result (IsAtRest new owners.new × (found ≢ found_so.Over → left new < left old))) }
 {
     match found {
         Found::Out(ticket) => heal(port, Some(&ticket), ticket.no),
         Found::Wanted {
-            no, trapped: true, ..
+            no,
+            trapped: true,
+            ..
         } => ask_owners(port, owners, no, Notice::Trap),
         Found::Wanted { no, .. } => heal(port, None, no),
         Found::Nothing | Found::Over => Ok(()),

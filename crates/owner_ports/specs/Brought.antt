@@ -6,7 +6,7 @@ use Rattle.cache_board.specs.board_core.specs.Growth.{one_more}
 use Rattle.cache_board.specs.board_ops.specs.declared.refusals.Refused.{Refused}
 
 -- a refused call brought neither
-abbrev pub brought_by {T : Type 0} : Result T Refused → ℕ → ℕ
+abbrev pub brought_by : {T : Type 0} → Result T Refused → ℕ → ℕ
 brought_by (Ok value) n = one_more n
 brought_by (Err why) n = n
 
