@@ -1,0 +1,4 @@
+pub use Rattle.owner_ports
+pub use Rattle.owners
+pub mod Answers
+pub mod Causes

@@ -1,5 +1,8 @@
 //! Asking for a row, with all that it depends on.
 
+ghost use Rattle.std.specs.Prelude.{◌≡◌, IfErr, IfOk};
+ghost use Rattle.app_kernel.specs.Answers.{HasRisenBy, IsAsked, IsReason};
+
 use crate::walk::{Trust, loaded_as, reach_kernel_of, reach_space, reach_thread_in};
 use cache_ident::{Ident, Name, SpaceNo, ThreadNo, Vpn};
 use owner_ports::{Port, Refused};
@@ -12,7 +15,13 @@ fn reach_receiver<P: Port>(
     space: SpaceNo,
     vpn: Vpn,
     trust: Trust,
-) -> Result<Option<Ident>, Refused> {
+) -> Result<Option<Ident>, Refused>
+    ensures followed { P.follows port.old port.new }
+    ensures calls { HasRisenBy 0 (P.heard port.old).calls (P.heard port.new).calls }
+    ensures asks { HasRisenBy 0 (P.heard port.old).asks (P.heard port.new).asks }
+    ensures refused { IfErr result (IsReason 1 (P.heard port.old) (P.heard port.new)) }
+    ensures threads { owners.new.threads ≡ owners.old.threads }
+{
     match owners.receiver_of(space, vpn) {
         Some(receiver) => {
             let ident = reach_thread_in(port, owners, space, receiver, trust)?;
@@ -30,7 +39,14 @@ fn ask_row<P: Port>(
     space: SpaceNo,
     vpn: Vpn,
     trust: Trust,
-) -> Result<Result<Ident, Refused>, Refused> {
+) -> Result<Result<Ident, Refused>, Refused>
+    ensures followed { P.follows port.old port.new }
+    ensures calls { HasRisenBy 0 (P.heard port.old).calls (P.heard port.new).calls }
+    ensures asks { HasRisenBy 0 (P.heard port.old).asks (P.heard port.new).asks }
+    ensures refused { IfErr result (IsReason 1 (P.heard port.old) (P.heard port.new)) }
+    ensures threads { owners.new.threads ≡ owners.old.threads }
+    ensures asked { IfOk result (λ answer. HasRisenBy 1 (P.heard port.old).calls (P.heard port.new).calls × IsAsked owners.new space vpn (P.heard port.new) answer) }
+{
     let receiver = reach_receiver(port, owners, space, vpn, trust)?;
     let kernel = reach_kernel_of(port, owners, space, Trust::Noted)?;
     let parent = reach_space(port, owners, space, Trust::Noted)?;
@@ -56,7 +72,14 @@ fn load_row<P: Port>(
     space: SpaceNo,
     vpn: Vpn,
     trust: Trust,
-) -> Result<Result<Ident, Refused>, Refused> {
+) -> Result<Result<Ident, Refused>, Refused>
+    ensures followed { P.follows port.old port.new }
+    ensures calls { HasRisenBy 0 (P.heard port.old).calls (P.heard port.new).calls }
+    ensures asks { HasRisenBy 0 (P.heard port.old).asks (P.heard port.new).asks }
+    ensures refused { IfErr result (IsReason 1 (P.heard port.old) (P.heard port.new)) }
+    ensures threads { owners.new.threads ≡ owners.old.threads }
+    ensures asked { IfOk result (λ answer. HasRisenBy 1 (P.heard port.old).calls (P.heard port.new).calls × IsAsked owners.new space vpn (P.heard port.new) answer) }
+{
     let answer = ask_row(port, owners, space, vpn, trust)?;
     match answer {
         Err(Refused::WrongParent { declared, .. }) => {
@@ -75,7 +98,13 @@ fn reach_signal_row<P: Port>(
     space: SpaceNo,
     vpn: Vpn,
     trust: Trust,
-) -> Result<(), Refused> {
+) -> Result<(), Refused>
+    ensures followed { P.follows port.old port.new }
+    ensures calls { HasRisenBy 0 (P.heard port.old).calls (P.heard port.new).calls }
+    ensures asks { HasRisenBy 0 (P.heard port.old).asks (P.heard port.new).asks }
+    ensures refused { IfErr result (IsReason 1 (P.heard port.old) (P.heard port.new)) }
+    ensures threads { owners.new.threads ≡ owners.old.threads }
+{
     reach_space(port, owners, space, trust)?;
     let answer = ask_row(port, owners, space, vpn, trust)?;
     if let Err(Refused::WrongParent { declared, .. }) = answer {
@@ -83,6 +112,37 @@ fn reach_signal_row<P: Port>(
     }
     loaded_as(answer)?;
     Ok(())
+}
+
+// What the row is answered where a signal row was missing: that is reached, and the row asked for again.
+fn ask_with_signal_row<P: Port>(
+    port: &mut P,
+    owners: &mut Owners,
+    space: SpaceNo,
+    vpn: Vpn,
+    trust: Trust,
+    answer: Result<Ident, Refused>,
+) -> Result<Result<Ident, Refused>, Refused>
+    requires asked { IsAsked owners.old space vpn (P.heard port.old) answer }
+    ensures followed { P.follows port.old port.new }
+    ensures calls { HasRisenBy 0 (P.heard port.old).calls (P.heard port.new).calls }
+    ensures asks { HasRisenBy 0 (P.heard port.old).asks (P.heard port.new).asks }
+    ensures refused { IfErr result (IsReason 1 (P.heard port.old) (P.heard port.new)) }
+    ensures threads { owners.new.threads ≡ owners.old.threads }
+    ensures asked { IfOk result (IsAsked owners.new space vpn (P.heard port.new)) }
+{
+    match answer {
+        Err(
+            Refused::ReceiversAbsent {
+                space: other,
+                vpn: page,
+            },
+        ) => {
+            reach_signal_row(port, owners, other, page, trust)?;
+            ask_row(port, owners, space, vpn, trust)
+        }
+        _ => Ok(answer),
+    }
 }
 
 /// Asks for the row of a page in a space that is reached. Where signal rows are missing, up to two of them are reached first: a
@@ -93,19 +153,15 @@ pub fn load_message_row<P: Port>(
     space: SpaceNo,
     vpn: Vpn,
     trust: Trust,
-) -> Result<Result<Ident, Refused>, Refused> {
-    let mut answer = load_row(port, owners, space, vpn, trust)?;
-    for _ in 0..2 {
-        match answer {
-            Err(Refused::ReceiversAbsent {
-                space: other,
-                vpn: page,
-            }) => {
-                reach_signal_row(port, owners, other, page, trust)?;
-                answer = ask_row(port, owners, space, vpn, trust)?;
-            }
-            _ => return Ok(answer),
-        }
-    }
-    Ok(answer)
+) -> Result<Result<Ident, Refused>, Refused>
+    ensures followed { P.follows port.old port.new }
+    ensures calls { HasRisenBy 0 (P.heard port.old).calls (P.heard port.new).calls }
+    ensures asks { HasRisenBy 0 (P.heard port.old).asks (P.heard port.new).asks }
+    ensures refused { IfErr result (IsReason 1 (P.heard port.old) (P.heard port.new)) }
+    ensures threads { owners.new.threads ≡ owners.old.threads }
+    ensures asked { IfOk result (λ answer. HasRisenBy 1 (P.heard port.old).calls (P.heard port.new).calls × IsAsked owners.new space vpn (P.heard port.new) answer) }
+{
+    let answer = load_row(port, owners, space, vpn, trust)?;
+    let answer = ask_with_signal_row(port, owners, space, vpn, trust, answer)?;
+    ask_with_signal_row(port, owners, space, vpn, trust, answer)
 }

@@ -1,5 +1,11 @@
 //! What owners do for a thread that can't go on.
 
+ghost use Rattle.std.specs.Prelude.{◌≡◌, true, Some, IfErr, IfOk};
+ghost use Rattle.fault_forward.specs.declared.effects.Notice.{Notice};
+ghost use Rattle.owners.specs.Known.{space_of};
+ghost use Rattle.app_kernel.specs.Answers.{HasRisenBy, IsReason};
+ghost use Rattle.app_kernel.specs.Causes.{page_of, IsCause, IsToldEnded};
+
 use crate::rows::load_message_row;
 use crate::walk::{Trust, reach_kernel_of, reach_thread, reach_thread_in};
 use cache_ident::{SpaceNo, ThreadNo, Vpn};
@@ -19,7 +25,14 @@ pub enum Served {
     Again(Refused),
 }
 
-fn has_ended<P: Port>(port: &mut P, thread: ThreadNo) -> bool {
+// Asks for the thread's status.
+fn has_ended<P: Port>(port: &mut P, thread: ThreadNo) -> bool
+    ensures followed { P.follows port.old port.new }
+    ensures asked { HasRisenBy 1 (P.heard port.old).asks (P.heard port.new).asks }
+    ensures calls { (P.heard port.new).calls ≡ (P.heard port.old).calls }
+    ensures said { (P.heard port.new).said ≡ (P.heard port.old).said }
+    ensures ended { result ≡ true → IsToldEnded thread (P.heard port.new) }
+{
     matches!(port.status(thread), Some(Status::Ended(_)))
 }
 
@@ -29,7 +42,13 @@ fn complete<P: Port>(
     owners: &mut Owners,
     space: SpaceNo,
     thread: ThreadNo,
-) -> Result<Served, Refused> {
+) -> Result<Served, Refused>
+    ensures followed { P.follows port.old port.new }
+    ensures calls { HasRisenBy 0 (P.heard port.old).calls (P.heard port.new).calls }
+    ensures asks { HasRisenBy 0 (P.heard port.old).asks (P.heard port.new).asks }
+    ensures refused { IfErr result (IsReason 1 (P.heard port.old) (P.heard port.new)) }
+    ensures cause { (notice : Notice) → IfOk result (IsCause owners.new thread notice (P.heard port.old) (P.heard port.new)) }
+{
     let kernel = reach_kernel_of(port, owners, space, Trust::Noted)?;
     let ident = reach_thread_in(port, owners, space, thread, Trust::Noted)?;
     port.complete(kernel, ident)?;
@@ -47,9 +66,16 @@ fn confirm<P: Port>(
     space: SpaceNo,
     thread: ThreadNo,
     trust: Trust,
-) -> Result<Served, Refused> {
-    let ident = reach_thread_in(port, owners, space, thread, trust)?;
+) -> Result<Served, Refused>
+    ensures followed { P.follows port.old port.new }
+    ensures calls { HasRisenBy 0 (P.heard port.old).calls (P.heard port.new).calls }
+    ensures asks { HasRisenBy 0 (P.heard port.old).asks (P.heard port.new).asks }
+    ensures refused { IfErr result (IsReason 1 (P.heard port.old) (P.heard port.new)) }
+    ensures threads { owners.new.threads ≡ owners.old.threads }
+    ensures cause { (notice : Notice) → IfOk result (IsCause owners.new thread notice (P.heard port.old) (P.heard port.new)) }
+{
     let kernel = reach_kernel_of(port, owners, space, Trust::Noted)?;
+    let ident = reach_thread_in(port, owners, space, thread, trust)?;
     match port.confirm_fault(kernel, ident) {
         Ok(()) => Ok(Served::Ended),
         Err(Refused::Mapped { .. }) => Ok(Served::Resumed),
@@ -65,7 +91,14 @@ fn fill<P: Port>(
     thread: ThreadNo,
     vpn: Vpn,
     trust: Trust,
-) -> Result<Served, Refused> {
+) -> Result<Served, Refused>
+    requires believed { space_of owners.old thread ≡ Some space }
+    ensures followed { P.follows port.old port.new }
+    ensures calls { HasRisenBy 0 (P.heard port.old).calls (P.heard port.new).calls }
+    ensures asks { HasRisenBy 0 (P.heard port.old).asks (P.heard port.new).asks }
+    ensures refused { IfErr result (IsReason 1 (P.heard port.old) (P.heard port.new)) }
+    ensures cause { (notice : Notice) → page_of notice ≡ Some vpn → IfOk result (IsCause owners.new thread notice (P.heard port.old) (P.heard port.new)) }
+{
     match load_message_row(port, owners, space, vpn, trust)? {
         Ok(_) => Ok(Served::Resumed),
         Err(Refused::AlreadyLoaded { .. }) => confirm(port, owners, space, thread, trust),
@@ -82,7 +115,13 @@ fn walk<P: Port>(
     thread: ThreadNo,
     notice: Notice,
     trust: Trust,
-) -> Result<Served, Refused> {
+) -> Result<Served, Refused>
+    ensures followed { P.follows port.old port.new }
+    ensures calls { HasRisenBy 0 (P.heard port.old).calls (P.heard port.new).calls }
+    ensures asks { HasRisenBy 0 (P.heard port.old).asks (P.heard port.new).asks }
+    ensures refused { IfErr result (IsReason 1 (P.heard port.old) (P.heard port.new)) }
+    ensures cause { IfOk result (IsCause owners.new thread notice (P.heard port.old) (P.heard port.new)) }
+{
     let space = reach_thread(port, owners, thread, trust)?;
     match notice {
         Notice::Trap => complete(port, owners, space, thread),
@@ -93,12 +132,19 @@ fn walk<P: Port>(
 // A walk by what is noted, and where that is refused, as what is noted may be stale, one that asks for each load. Neither makes
 // more than 27 calls of the port: 9 until the space of the thread is known, 4 for its row, 6 for each of two signal rows with the
 // row asked for again, and 2 for a fault.
+#[tactic(auto, using(crate::proofs::CauseLaws::ok_from))]
 fn attempt<P: Port>(
     port: &mut P,
     owners: &mut Owners,
     thread: ThreadNo,
     notice: Notice,
-) -> Result<Served, Refused> {
+) -> Result<Served, Refused>
+    ensures followed { P.follows port.old port.new }
+    ensures calls { HasRisenBy 0 (P.heard port.old).calls (P.heard port.new).calls }
+    ensures asks { HasRisenBy 0 (P.heard port.old).asks (P.heard port.new).asks }
+    ensures refused { IfErr result (IsReason 1 (P.heard port.old) (P.heard port.new)) }
+    ensures cause { IfOk result (IsCause owners.new thread notice (P.heard port.old) (P.heard port.new)) }
+{
     match walk(port, owners, thread, notice, Trust::Noted) {
         Err(refused) if refused != Refused::NoMemory => {
             walk(port, owners, thread, notice, Trust::Nothing)
@@ -107,18 +153,21 @@ fn attempt<P: Port>(
     }
 }
 
-/// Does for a thread what its notice asks.
-pub fn serve<P: Port>(
-    port: &mut P,
-    owners: &mut Owners,
-    thread: ThreadNo,
-    notice: Notice,
-) -> Served {
+/// Does for a thread what its notice asks: completes its call, loads the row of the page, or has its fault confirmed. What this
+/// depends on is loaded before, and noted. `Again` comes after three tries, or at once where memory is wanted; what was done
+/// before stands.
+///
+/// A try makes at most 54 calls. Where all is loaded and noted `serve` makes one, or two where the row is loaded too.
+#[tactic(auto, using(crate::proofs::CauseLaws::cause_from))]
+pub fn serve<P: Port>(port: &mut P, owners: &mut Owners, thread: ThreadNo, notice: Notice) -> Served
+    ensures followed { P.follows port.old port.new }
+    ensures cause { IsCause owners.new thread notice (P.heard port.old) (P.heard port.new) result }
+{
     if has_ended(port, thread) {
         return Served::Ended;
     }
     let mut last = Refused::NoMemory;
-    for _ in 0..3 {
+    for _ in 0..3u32 {
         match attempt(port, owners, thread, notice) {
             Ok(served) => return served,
             Err(Refused::NoMemory) => return Served::Again(Refused::NoMemory),

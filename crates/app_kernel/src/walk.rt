@@ -1,5 +1,11 @@
 //! Reaching a thread: its kernel, its space and the thread itself are loaded, and their identifiers noted.
 
+ghost use Rattle.std.specs.Prelude.{◌≡◌, ◌⊎◌, None, Some, Ok, Err, IfErr, IfOk, IfSome, OnErr};
+ghost use Rattle.cache_ident.specs.declared.names.Name.{Name};
+ghost use Rattle.owner_ports.specs.cache_board.specs.board_ops.specs.declared.refusals.Refused.TheVariants.{NoMemory};
+ghost use Rattle.owners.specs.Known.{ident_of, space_of, IsNoted};
+ghost use Rattle.app_kernel.specs.Answers.{loaded_as, HasRisenBy, IsReason};
+
 use cache_ident::{Ident, KernelNo, Kind, Name, SpaceNo, ThreadNo};
 use owner_ports::{Port, Refused};
 use owners::Owners;
@@ -19,7 +25,9 @@ pub enum Trust {
 }
 
 // What is noted for a name, where that is trusted.
-fn trusted(owners: &Owners, name: Name, trust: Trust) -> Option<Ident> {
+fn trusted(owners: &Owners, name: Name, trust: Trust) -> Option<Ident>
+    ensures { IfSome result (λ ident. ident_of owners.now name ≡ Some ident) }
+{
     match trust {
         Trust::Noted => owners.noted(name),
         Trust::Nothing => None,
@@ -27,7 +35,9 @@ fn trusted(owners: &Owners, name: Name, trust: Trust) -> Option<Ident> {
 }
 
 // The identifier of what is loaded, which a load gave or was refused with.
-pub fn loaded_as(answer: Result<Ident, Refused>) -> Result<Ident, Refused> {
+pub fn loaded_as(answer: Result<Ident, Refused>) -> Result<Ident, Refused>
+    ensures { result ≡ loaded_as answer }
+{
     match answer {
         Ok(ident) => Ok(ident),
         Err(refused) => match refused {
@@ -38,11 +48,12 @@ pub fn loaded_as(answer: Result<Ident, Refused>) -> Result<Ident, Refused> {
 }
 
 // Notes the identifier of what is loaded.
-fn take(
-    owners: &mut Owners,
-    name: Name,
-    answer: Result<Ident, Refused>,
-) -> Result<Ident, Refused> {
+fn take(owners: &mut Owners, name: Name, answer: Result<Ident, Refused>) -> Result<Ident, Refused>
+    ensures noted { IfOk result (λ ident. IsNoted name ident owners.old owners.new) }
+    ensures taken { IfOk result (λ ident. loaded_as answer ≡ Ok ident) }
+    ensures same { OnErr result (owners.new ≡ owners.old) }
+    ensures refused { IfErr result (λ why. (why ≡ NoMemory) ⊎ (answer ≡ Err why)) }
+{
     let ident = loaded_as(answer)?;
     owners.note(name, ident)?;
     Ok(ident)
@@ -54,7 +65,13 @@ pub fn reach_kernel<P: Port>(
     owners: &mut Owners,
     kernel: KernelNo,
     trust: Trust,
-) -> Result<Ident, Refused> {
+) -> Result<Ident, Refused>
+    ensures followed { P.follows port.old port.new }
+    ensures calls { HasRisenBy 0 (P.heard port.old).calls (P.heard port.new).calls }
+    ensures asks { HasRisenBy 0 (P.heard port.old).asks (P.heard port.new).asks }
+    ensures refused { IfErr result (IsReason 1 (P.heard port.old) (P.heard port.new)) }
+    ensures threads { owners.new.threads ≡ owners.old.threads }
+{
     if kernel.0 == 0 {
         return Ok(FIRST);
     }
@@ -71,7 +88,13 @@ pub fn reach_kernel_of<P: Port>(
     owners: &mut Owners,
     space: SpaceNo,
     trust: Trust,
-) -> Result<Ident, Refused> {
+) -> Result<Ident, Refused>
+    ensures followed { P.follows port.old port.new }
+    ensures calls { HasRisenBy 0 (P.heard port.old).calls (P.heard port.new).calls }
+    ensures asks { HasRisenBy 0 (P.heard port.old).asks (P.heard port.new).asks }
+    ensures refused { IfErr result (IsReason 1 (P.heard port.old) (P.heard port.new)) }
+    ensures threads { owners.new.threads ≡ owners.old.threads }
+{
     let kernel = owners.kernel_of(space).unwrap_or(KernelNo(0));
     reach_kernel(port, owners, kernel, trust)
 }
@@ -82,7 +105,14 @@ pub fn reach_space<P: Port>(
     owners: &mut Owners,
     space: SpaceNo,
     trust: Trust,
-) -> Result<Ident, Refused> {
+) -> Result<Ident, Refused>
+    ensures followed { P.follows port.old port.new }
+    ensures calls { HasRisenBy 0 (P.heard port.old).calls (P.heard port.new).calls }
+    ensures asks { HasRisenBy 0 (P.heard port.old).asks (P.heard port.new).asks }
+    ensures refused { IfErr result (IsReason 1 (P.heard port.old) (P.heard port.new)) }
+    ensures threads { owners.new.threads ≡ owners.old.threads }
+    ensures noted { IfOk result (λ ident. ident_of owners.new (Name.Space space) ≡ Some ident) }
+{
     let kernel = reach_kernel_of(port, owners, space, trust)?;
     if let Some(ident) = trusted(owners, Name::Space(space), trust) {
         return Ok(ident);
@@ -98,7 +128,14 @@ pub fn reach_thread_in<P: Port>(
     space: SpaceNo,
     thread: ThreadNo,
     trust: Trust,
-) -> Result<Ident, Refused> {
+) -> Result<Ident, Refused>
+    ensures followed { P.follows port.old port.new }
+    ensures calls { HasRisenBy 0 (P.heard port.old).calls (P.heard port.new).calls }
+    ensures asks { HasRisenBy 0 (P.heard port.old).asks (P.heard port.new).asks }
+    ensures refused { IfErr result (IsReason 1 (P.heard port.old) (P.heard port.new)) }
+    ensures threads { owners.new.threads ≡ owners.old.threads }
+    ensures noted { IfOk result (λ ident. ident_of owners.new (Name.Thread thread) ≡ Some ident) }
+{
     if let Some(ident) = trusted(owners, Name::Thread(thread), trust) {
         return Ok(ident);
     }
@@ -127,7 +164,13 @@ fn try_space<P: Port>(
     space: SpaceNo,
     thread: ThreadNo,
     trust: Trust,
-) -> Result<Option<SpaceNo>, Refused> {
+) -> Result<Option<SpaceNo>, Refused>
+    ensures followed { P.follows port.old port.new }
+    ensures calls { HasRisenBy 0 (P.heard port.old).calls (P.heard port.new).calls }
+    ensures asks { HasRisenBy 0 (P.heard port.old).asks (P.heard port.new).asks }
+    ensures refused { IfErr result (IsReason 1 (P.heard port.old) (P.heard port.new)) }
+    ensures learnt { IfOk result (λ told. told ≡ None → space_of owners.new thread ≡ Some space) }
+{
     reach_space(port, owners, space, trust)?;
     match reach_thread_in(port, owners, space, thread, trust) {
         Ok(_) => {
@@ -148,7 +191,13 @@ pub fn reach_thread<P: Port>(
     owners: &mut Owners,
     thread: ThreadNo,
     trust: Trust,
-) -> Result<SpaceNo, Refused> {
+) -> Result<SpaceNo, Refused>
+    ensures followed { P.follows port.old port.new }
+    ensures calls { HasRisenBy 0 (P.heard port.old).calls (P.heard port.new).calls }
+    ensures asks { HasRisenBy 0 (P.heard port.old).asks (P.heard port.new).asks }
+    ensures refused { IfErr result (IsReason 1 (P.heard port.old) (P.heard port.new)) }
+    ensures learnt { IfOk result (λ space. space_of owners.new thread ≡ Some space) }
+{
     let (first, trust) = match owners.space_of(thread) {
         Some(space) => (space, trust),
         None => (SpaceNo(0), Trust::Nothing),

@@ -1,9 +1,10 @@
 -- What is read of the tables is what they show.
-use Rattle.std.proofs.Common.{◌≡◌, ℕ, ◌≤◌, List, [], ◌∷◌, ◌++◌, length, filter, filter_map, count_by, Option, Some, None, refl, sym, ◌∙◌, ap, arith}
+use Rattle.std.proofs.Common.{◌≡◌, ℕ, ◌≤◌, ◌<◌, ◌^◌, List, [], ◌∷◌, ◌++◌, length, filter, filter_map, count_by, Option, Some, None, refl, sym, subst, ◌∙◌, ap, arith}
 use Rattle.std.specs.List.{cons_option}
 use Rattle.std.proofs.lemmas.List.{append-nil, length-map}
 use Rattle.std.proofs.lemmas.List.Elements.{filter_map-append}
 use Rattle.std.proofs.lemmas.List.Sums.{length-filter}
+use Rattle.cache_ident.specs.declared.idents.Kind.TheVariants.{Mapping}
 use Rattle.cache_ident.specs.declared.names.Frame.{Frame}
 use Rattle.cache_ident.specs.declared.names.Name.{Name}
 use Rattle.phys_groups.specs.declared.rows.Row.{Row}
@@ -12,8 +13,10 @@ use Rattle.signal_pages.specs.Signals.{is_signal_row_of}
 use Rattle.flat_state.specs.declared.events.Machine.{Machine}
 use Rattle.flat_state.specs.WellFormed.{IsWellFormed}
 use Rattle.flat_laws.proofs.Members.{length-filter_map}
+use Rattle.flat_report.specs.declared.counts.RowCounts.{RowCounts}
+use Rattle.flat_report.specs.Counts.{AreCounts, CountsFew}
 use Rattle.row_store.specs.Kept.{signal_names}
-use Rattle.board_laws.specs.desc_stores.specs.Contents.{content_of, Contents}
+use Rattle.board_laws.specs.desc_stores.specs.Contents.{content_of, names_of, Contents}
 use Rattle.board_laws.specs.desc_stores.specs.Sound.{IsExactlyOne}
 use Rattle.board_laws.specs.shown_state.specs.Shown.{row_of_item, shown}
 use Rattle.board_laws.specs.shown_state.proofs.LookupLemmas.{signals_listed, signals_named}
@@ -65,3 +68,24 @@ few_signals machine memory c one frame =
 -- all names that came have the rows that are shown
 pub all_rows : (machine : Option Machine) (memory : List ℕ) (c : Contents) (frame : Frame) (gone : List Name) (rows : List Row) → rows ≡ filter_map (row_in c) gone → gone ≡ signal_names c.rows frame → rows ≡ filter (is_signal_row_of frame) (shown machine memory c).rows
 all_rows machine memory c frame gone rows are all = are ∙ ap (filter_map (row_in c)) all ∙ sym (signals_listed machine memory c frame)
+
+-- ---- rows counted by name
+
+module _ (c : Contents) (gone : List Name) (spaces : ℕ) where
+  -- so many names have fewer rows than can be counted
+  pub few_counted : (all : List Name) (counts : List RowCounts) → length gone < length all → length all ≤ 262144 → AreCounts (filter_map (row_in c) gone) spaces counts → CountsFew counts
+  few_counted all counts fewer few are =
+      (filter_map (row_in c) gone, spaces, are, omega (arith, fewer, few, length-filter_map (row_in c) gone))
+
+  -- one name more has a row, or has none
+  pub one_counted_more : (n : Name) (counts : List RowCounts) (row : Row) → Some row ≡ row_in c n → AreCounts (filter_map (row_in c) gone ++ row ∷ []) spaces counts → AreCounts (filter_map (row_in c) (gone ++ n ∷ [])) spaces counts
+  one_counted_more n counts row here = subst (λ rows. AreCounts rows spaces counts) (one_row_more c gone n (filter_map (row_in c) gone) refl row here)
+
+  pub none_counted_more : (n : Name) (counts : List RowCounts) → None ≡ row_in c n → AreCounts (filter_map (row_in c) gone) spaces counts → AreCounts (filter_map (row_in c) (gone ++ n ∷ [])) spaces counts
+  none_counted_more n counts here = subst (λ rows. AreCounts rows spaces counts) (no_row_more c gone n (filter_map (row_in c) gone) refl here)
+
+-- the rows that are shown are those of all names
+pub all_counted : (c : Contents) (gone : List Name) (counts : List RowCounts) → gone ≡ names_of c Mapping → AreCounts (filter_map (row_in c) gone) c.space_count counts → (machine : Option Machine) (memory : List ℕ) → length (shown machine memory c).spaces ≡ c.space_count → AreCounts (shown machine memory c).rows (length (shown machine memory c).spaces) counts
+unfolding shown
+all_counted c gone counts all are machine memory spaces =
+    subst (λ n. AreCounts (shown machine memory c).rows n counts) (sym spaces) (subst (λ names. AreCounts (filter_map (row_in c) names) c.space_count counts) all are)

@@ -1,10 +1,11 @@
 //! What is read of the tables.
 
-ghost use Rattle.std.specs.Prelude.{◌≡◌, ◌≤◌, ℕ, List, Option, count_by, filter, length, slice_get};
+ghost use Rattle.std.specs.Prelude.{◌≡◌, ◌≤◌, ℕ, IfOk, List, Option, count_by, filter, length, slice_get};
 ghost use Rattle.std.specs.Option.{option_copied, option_map};
 ghost use Rattle.phys_groups.specs.Translation.{row_of as row_of_def};
 ghost use Rattle.signal_pages.specs.Signals.{is_signal_row_of};
 ghost use Rattle.flat_state.specs.declared.events.Machine.{Machine};
+ghost use Rattle.flat_report.specs.Counts.{AreCounts};
 ghost use Rattle.board_laws.specs.desc_stores.specs.Contents.{content_of};
 ghost use Rattle.board_laws.specs.desc_stores.specs.Sound.{IsExactlyOne};
 ghost use Rattle.board_laws.specs.shown_state.specs.Found.{AreFound, AreListed};
@@ -13,9 +14,11 @@ ghost use Rattle.board_laws.specs.shown_state.specs.Shown.{flat_kernel, flat_thr
 use arrayvec::ArrayVec;
 use board_laws::{ItemRef, Tables};
 use cache_ident::{Frame, Ident, KernelNo, Name, SpaceNo, ThreadNo, Vpn};
+use flat_report::RowTally;
 use kernel_cache::KernelRec;
 use phys_groups::{Rights, Row};
 use space_cache::SpaceRec;
+use std::alloc::{AllocError, Global};
 use thread_cache::ThreadRec;
 
 // Does nothing. A proof has from it what the tables' soundness says of what is found.
@@ -33,6 +36,21 @@ pub(crate) fn row_count(tables: &Tables) -> u32
     ensures { result ≡ length tables.now.contents.rows.names }
 {
     tables.row_names().len() as u32
+}
+
+// What the rows of each space come to.
+pub(crate) fn tally_rows(tables: &Tables, alloc: Global) -> Result<RowTally, AllocError>
+    requires { length tables.now.contents.rows.names ≤ 262144 }
+    ensures { IfOk result (λ tally. (machine : Option Machine) (memory : List ℕ) → AreCounts (shown machine memory tables.now.contents).rows (length (shown machine memory tables.now.contents).spaces) tally) }
+{
+    known(tables);
+    let mut tally = RowTally::new(alloc, tables.space_count())?;
+    for name in tables.row_names() {
+        if let Some(row) = row_named(tables, name) {
+            tally.add(row);
+        }
+    }
+    Ok(tally)
 }
 
 // The kernel of a name, if it is that of one.

@@ -4,7 +4,6 @@ use crate::machine::CachedMachine;
 use crate::reading;
 use cache_ident::ThreadNo;
 use flat_report::{Reported, RowTally};
-use flat_rules::Records;
 use std::alloc::{AllocError, Global};
 use thread_cache::ThreadRec;
 
@@ -12,13 +11,7 @@ impl Reported for CachedMachine {
     /// It goes once over the names of the rows, and looks each of them up.
     fn tally_rows(&self, alloc: Global) -> Result<RowTally, AllocError> {
         reading::known(&self.tables);
-        let mut tally = RowTally::new(alloc, self.space_count())?;
-        for name in self.tables.row_names() {
-            if let Some(row) = reading::row_named(&self.tables, name) {
-                tally.add(row);
-            }
-        }
-        Ok(tally)
+        reading::tally_rows(&self.tables, alloc)
     }
 
     fn no_of(thread: &ThreadRec) -> ThreadNo {

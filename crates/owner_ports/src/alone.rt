@@ -1,14 +1,12 @@
 //! The port of owners who have the board for themselves.
 
 ghost use Rattle.std.specs.Prelude.{◌≡◌, refl, None, Some};
-ghost use Rattle.std.specs.Result.{result_err};
 ghost use Rattle.std.proofs.Common.{◌∙◌};
 ghost use Rattle.cache_board.specs.board_core.specs.Going.{GoesOn};
 ghost use Rattle.owner_ports.specs.Brought.{brought_by};
 ghost use Rattle.owner_ports.specs.Following.{goes_further, goes_nowhere};
-ghost use Rattle.owner_ports.specs.Heards.{called};
 
-use crate::port::{Heard, Port, PortCall, Said, Told};
+use crate::port::{Heard, Port, PortCall};
 use cache_board::{Board, Refused};
 use cache_ident::{Ident, KernelNo, SpaceNo, ThreadNo, Vpn};
 use rv32_exec::Status;
@@ -32,12 +30,7 @@ impl<'a> Alone<'a> {
     {
         Alone {
             board,
-            heard: Heard {
-                calls: 0,
-                said: None,
-                asks: 0,
-                told: None,
-            },
+            heard: Heard::nothing(),
             brought: 0,
         }
     }
@@ -52,21 +45,6 @@ impl<'a> Alone<'a> {
     }
 }
 
-// What was heard, once a call was answered.
-fn after_call<T>(heard: Heard, call: PortCall, answer: &Result<T, Refused>) -> Heard
-    ensures { result ≡ called heard call (result_err answer.now) }
-{
-    let refused = match answer {
-        Ok(_) => None,
-        Err(refused) => Some(*refused),
-    };
-    Heard {
-        calls: heard.calls.saturating_add(1),
-        said: Some(Said { call, refused }),
-        ..heard
-    }
-}
-
 impl Port for Alone<'_> {
     ghost board = { λ port. Some port.board.now };
 
@@ -76,13 +54,13 @@ impl Port for Alone<'_> {
 
     fn load_kernel(&mut self, caller: Ident, kernel: KernelNo) -> Result<Ident, Refused> {
         let answer = self.board.load_kernel(0, caller, kernel);
-        self.heard = after_call(self.heard, PortCall::LoadKernel(kernel), &answer);
+        self.heard = self.heard.with_call(PortCall::LoadKernel(kernel), &answer);
         answer
     }
 
     fn load_space(&mut self, caller: Ident, space: SpaceNo) -> Result<Ident, Refused> {
         let answer = self.board.load_space(0, caller, space);
-        self.heard = after_call(self.heard, PortCall::LoadSpace(space), &answer);
+        self.heard = self.heard.with_call(PortCall::LoadSpace(space), &answer);
         answer
     }
 
@@ -93,7 +71,7 @@ impl Port for Alone<'_> {
         thread: ThreadNo,
     ) -> Result<Ident, Refused> {
         let answer = self.board.load_thread(0, caller, parent, thread);
-        self.heard = after_call(self.heard, PortCall::LoadThread(thread), &answer);
+        self.heard = self.heard.with_call(PortCall::LoadThread(thread), &answer);
         answer
     }
 
@@ -105,37 +83,37 @@ impl Port for Alone<'_> {
         receiver: Option<Ident>,
     ) -> Result<Ident, Refused> {
         let answer = self.board.load_mapping(0, caller, parent, vpn, receiver);
-        self.heard = after_call(self.heard, PortCall::LoadMapping(parent, vpn), &answer);
+        self.heard = self
+            .heard
+            .with_call(PortCall::LoadMapping(parent, vpn), &answer);
         answer
     }
 
     fn unload(&mut self, caller: Ident, ident: Ident) -> Result<(), Refused> {
         let answer = self.board.unload(0, caller, ident);
-        self.heard = after_call(self.heard, PortCall::Unload(ident), &answer);
+        self.heard = self.heard.with_call(PortCall::Unload(ident), &answer);
         answer
     }
 
     fn complete(&mut self, caller: Ident, thread: Ident) -> Result<(), Refused> {
         let answer = self.board.complete(0, caller, thread);
-        self.heard = after_call(self.heard, PortCall::Complete(thread), &answer);
+        self.heard = self.heard.with_call(PortCall::Complete(thread), &answer);
         self.count_brought(answer);
         answer
     }
 
     fn confirm_fault(&mut self, caller: Ident, thread: Ident) -> Result<(), Refused> {
         let answer = self.board.confirm_fault(0, caller, thread);
-        self.heard = after_call(self.heard, PortCall::ConfirmFault(thread), &answer);
+        self.heard = self
+            .heard
+            .with_call(PortCall::ConfirmFault(thread), &answer);
         self.count_brought(answer);
         answer
     }
 
     fn status(&mut self, thread: ThreadNo) -> Option<Status> {
         let status = self.board.flat_thread(thread).map(|record| record.status);
-        self.heard = Heard {
-            asks: self.heard.asks.saturating_add(1),
-            told: Some(Told { thread, status }),
-            ..self.heard
-        };
+        self.heard = self.heard.with_told(thread, status);
         status
     }
 

@@ -1,6 +1,6 @@
 //! How owners reach the board.
 
-ghost use Rattle.std.specs.Prelude.{◌≡◌, Option, Some};
+ghost use Rattle.std.specs.Prelude.{◌≡◌, None, Option, Some};
 ghost use Rattle.std.specs.Result.{result_err};
 ghost use Rattle.cache_ident.specs.declared.names.Name.{Name};
 ghost use Rattle.cache_ident.specs.declared.names.SpaceNo.{SpaceNo};
@@ -54,6 +54,46 @@ pub struct Heard {
     pub said: Option<Said>,
     pub asks: u64,
     pub told: Option<Told>,
+}
+
+impl Heard {
+    /// Nothing went through it yet.
+    pub fn nothing() -> Heard
+        ensures { result ≡ record { calls = 0; said = None; asks = 0; told = None } }
+    {
+        Heard {
+            calls: 0,
+            said: None,
+            asks: 0,
+            told: None,
+        }
+    }
+
+    /// The same with one call more, which was answered so.
+    pub fn with_call<T>(self, call: PortCall, answer: &Result<T, Refused>) -> Heard
+        ensures { result ≡ called self call (result_err answer.now) }
+    {
+        let refused = match answer {
+            Ok(_) => None,
+            Err(refused) => Some(*refused),
+        };
+        Heard {
+            calls: self.calls.saturating_add(1),
+            said: Some(Said { call, refused }),
+            ..self
+        }
+    }
+
+    /// The same with a thread's status asked for once more, and told so.
+    pub fn with_told(self, thread: ThreadNo, status: Option<Status>) -> Heard
+        ensures { result ≡ asked self thread status }
+    {
+        Heard {
+            asks: self.asks.saturating_add(1),
+            told: Some(Told { thread, status }),
+            ..self
+        }
+    }
 }
 
 /// The calls of the board that owners make, as those of one processor.

@@ -3,5 +3,7 @@
 #![tactic(auto)]
 
 #[cfg(test)]
-mod serving_tests;
+mod bound_tests;
 pub mod scenes;
+#[cfg(test)]
+mod serving_tests;

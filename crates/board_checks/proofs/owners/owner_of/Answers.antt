@@ -12,4 +12,4 @@ pub returns-in-Thread : goal.returns-in-Thread
 returns-in-Thread c = c.kernel_of.ensures ∙ thread_owned c.args.tables.now.contents c.are_sound.ensures.sound.1.whole.one c.args.item c.requires.there c.in-Thread.thread c.in-Thread.is
 
 pub returns-in-Mapping : goal.returns-in-Mapping
-returns-in-Mapping c = c.kernel_of-2.ensures ∙ row_owned c.args.tables.now.contents c.are_sound.ensures.sound.1.whole.one c.args.item c.requires.there c.in-Mapping.row c.in-Mapping.is
+returns-in-Mapping c = c.kernel_of-in-Mapping.ensures ∙ row_owned c.args.tables.now.contents c.are_sound.ensures.sound.1.whole.one c.args.item c.requires.there c.in-Mapping.row c.in-Mapping.is

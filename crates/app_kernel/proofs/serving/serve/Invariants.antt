@@ -1,0 +1,12 @@
+use Rattle.std.proofs.Common.{◌≡◌, ◌⊎◌, ℕ, Some}
+use Rattle.owner_ports.specs.cache_board.specs.board_ops.specs.declared.refusals.Refused.TheVariants.{NoMemory}
+use Rattle.app_kernel.specs.Answers.{last_refusal, HasRisenBy}
+use Rattle.app_kernel.proofs.serving.serve.Given as goal
+
+abbrev pub invariant-loop : goal.invariant-loop
+invariant-loop g l = record {
+  followed : g.P.Port.follows l.fn.port l.port;
+  calls : HasRisenBy l.counter (g.P.Port.heard l.fn.port).calls (g.P.Port.heard l.port).calls;
+  asks : HasRisenBy 0 (g.P.Port.heard l.fn.port).asks (g.P.Port.heard l.port).asks;
+  last : (l.last ≡ NoMemory) ⊎ (last_refusal (g.P.Port.heard l.port) ≡ Some l.last);
+}

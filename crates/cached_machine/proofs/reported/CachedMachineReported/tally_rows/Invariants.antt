@@ -1,9 +1,0 @@
-use Rattle.std.proofs.Common.{filter_map, length}
-use Rattle.flat_report.specs.Counts.{AreCounts}
-use Rattle.cached_machine.specs.Cached.{state_of}
-use Rattle.cached_machine.proofs.ReadLaws.{row_in}
-use Rattle.cached_machine.proofs.reported.CachedMachineReported.tally_rows.Given as goal
-
--- what is counted of the rows of the names before this one
-abbrev pub invariant-loop-name : goal.invariant-loop-name
-invariant-loop-name l = AreCounts (filter_map (row_in l.self.held.contents) l.yielded) (length (state_of l.self).spaces) l.tally
