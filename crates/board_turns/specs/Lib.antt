@@ -3,3 +3,4 @@ pub mod Looks
 pub mod Paces
 pub mod Holds
 pub mod Turning
+pub mod Following

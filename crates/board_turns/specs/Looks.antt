@@ -41,7 +41,7 @@ IsNobodyWaiting b = (c : Candidate) → IsWaiting b c → ⊥
 
 -- the thread is in a call or not, with that pc
 abbrev pub StandsAt : Recorded → ThreadNo → Bool → ℕ → Type 0
-StandsAt b no trapped pc = OfThread (state_of b.machine) no.0 (λ t. (is_trapped t.status ≡ trapped) × (t.context.pc ≡ pc))
+StandsAt b whom trapped pc = OfThread (state_of b.machine) whom.0 (λ t. (is_trapped t.status ≡ trapped) × (t.context.pc ≡ pc))
 
 -- A thread came to the processor, and the ticket is its. Where those that wait for their owners were asked for first, there is none.
 pub record IsOut (cpu : ℕ) (want_first : Bool) (old new : Recorded) (ticket : Ticket) : Type 0 where
@@ -52,16 +52,16 @@ pub record IsOut (cpu : ℕ) (want_first : Bool) (old new : Recorded) (ticket : 
 
 -- One waits for its owners, and stands so; the board is as it was. Where those that can come to the processor were asked for first,
 -- there is none.
-pub record IsServedNext (want_first : Bool) (old new : Recorded) (no : ThreadNo) (trapped : Bool) (pc : ℕ) : Type 0 where
-  pub wanted : IsWanted old (Some no)
-  pub stands : StandsAt old no trapped pc
+pub record IsServedNext (want_first : Bool) (old new : Recorded) (whom : ThreadNo) (trapped : Bool) (pc : ℕ) : Type 0 where
+  pub wanted : IsWanted old (Some whom)
+  pub stands : StandsAt old whom trapped pc
   pub nobody_first : want_first ≡ false → IsNobodyWaiting old
   pub same : new ≡ old
 
 -- a look by the processor, in this order, at a board whose run isn't over found it so
 abbrev pub IsFound : ℕ → Bool → Recorded → Recorded → Found → Type 0
 IsFound cpu want_first old new (Out ticket) = IsOut cpu want_first old new ticket
-IsFound cpu want_first old new (Wanted no trapped pc) = IsServedNext want_first old new no trapped pc
+IsFound cpu want_first old new (Wanted whom trapped pc) = IsServedNext want_first old new whom trapped pc
 IsFound cpu want_first old new Nothing = (new ≡ old) × IsWanted old None × IsNobodyWaiting old
 IsFound cpu want_first old new Over = ⊥
 
@@ -74,19 +74,19 @@ HasLooked want_first old new found = (settled_on old ≡ Running) × IsFound 0 w
 
 -- the row of a page of the thread's space is loaded, and has the flag of the access
 abbrev pub Allows : Recorded → ThreadNo → Vpn → Access → Type 0
-Allows b no vpn access = OfThread (state_of b.machine) no.0 (λ t. (row : Row) × (row_of (state_of b.machine).rows t.space vpn.0 ≡ Some row)
+Allows b whom vpn access = OfThread (state_of b.machine) whom.0 (λ t. (row : Row) × (row_of (state_of b.machine).rows t.space vpn.0 ≡ Some row)
     × (wants access row.flags ≡ true) × (is_loaded (contents_of b) (name.Mapping t.space vpn) ≡ true))
 
 -- ---- what stays so until the turn for whom was found
 
 -- a processor has nobody but the thread that was found for it
 abbrev pub IsOutOnly : Recorded → Found → Type 0
-IsOutOnly b (Out ticket) = (no : ThreadNo) (by : ℕ) → mark_of (contents_of b) no ≡ Some by → no ≡ ticket.no
-IsOutOnly b found = (no : ThreadNo) → mark_of (contents_of b) no ≡ None
+IsOutOnly b (Out ticket) = (whom : ThreadNo) (by : ℕ) → mark_of (contents_of b) whom ≡ Some by → whom ≡ ticket.no
+IsOutOnly b found = (whom : ThreadNo) → mark_of (contents_of b) whom ≡ None
 
 -- ---- what a look tells of a journal
 
 -- no call can be completed in the machine with unlimited tables, and each thread that is runnable there is loaded
 pub record IsIdle (j : List Entry) : Type 0 where
-  pub calls : (no : ThreadNo) (t : FlatThread) → slice_get (flat (erase j)).threads no.0 ≡ Some t → is_completable t ≡ false
-  pub loaded : (no : ThreadNo) (t : FlatThread) → slice_get (flat (erase j)).threads no.0 ≡ Some t → is_runnable (flat (erase j)) t ≡ true → IsNameResident (residents j) (name.Thread no)
+  pub calls : (whom : ThreadNo) (t : FlatThread) → slice_get (flat (erase j)).threads whom.0 ≡ Some t → is_completable t ≡ false
+  pub loaded : (whom : ThreadNo) (t : FlatThread) → slice_get (flat (erase j)).threads whom.0 ≡ Some t → is_runnable (flat (erase j)) t ≡ true → IsNameResident (residents j) (name.Thread whom)

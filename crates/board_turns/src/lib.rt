@@ -8,6 +8,7 @@ mod alone;
 mod found;
 mod holds;
 mod pace;
+mod pacing;
 mod processor;
 mod quanta;
 mod turns;

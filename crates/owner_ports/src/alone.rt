@@ -3,15 +3,16 @@
 ghost use Rattle.std.specs.Prelude.{◌≡◌, refl, None, Some};
 ghost use Rattle.std.proofs.Common.{◌∙◌};
 ghost use Rattle.cache_board.specs.board_core.specs.Going.{GoesOn};
-ghost use Rattle.owner_ports.specs.Brought.{brought_by};
-ghost use Rattle.owner_ports.specs.Following.{goes_further, goes_nowhere};
+ghost use Rattle.owner_ports.specs.Brought.{brought_by, HasGained};
+ghost use Rattle.owner_ports.specs.Following.{gains_more, gains_nothing, goes_further, goes_nowhere};
 
 use crate::port::{Heard, Port, PortCall};
 use cache_board::{Board, Refused};
 use cache_ident::{Ident, KernelNo, SpaceNo, ThreadNo, Vpn};
 use rv32_exec::Status;
 
-/// A board, as processor 0 calls it. It tells its board, and of it comes the same reference, whose board went on.
+/// A board, as processor 0 calls it. It tells its board, and of it comes the same reference, whose board went on. What is left of the
+/// run falls with each call that brings a step or a completion, and rises with none.
 #[derive(Drop)]
 pub struct Alone<'a> {
     pub board: &'a mut Board,
@@ -50,7 +51,7 @@ impl Port for Alone<'_> {
 
     ghost heard = { λ port. port.heard };
 
-    ghost follows = { λ old new. (new.board.ghost_name ≡ old.board.ghost_name) × GoesOn 0 old.board.now new.board.now };
+    ghost follows = { λ old new. (new.board.ghost_name ≡ old.board.ghost_name) × GoesOn 0 old.board.now new.board.now × HasGained old.board.now old.brought new.board.now new.brought };
 
     fn load_kernel(&mut self, caller: Ident, kernel: KernelNo) -> Result<Ident, Refused> {
         let answer = self.board.load_kernel(0, caller, kernel);
@@ -117,7 +118,7 @@ impl Port for Alone<'_> {
         status
     }
 
-    ghost stays = { λ port. (refl, goes_nowhere 0 port.board.now) };
+    ghost stays = { λ port. (refl, goes_nowhere 0 port.board.now, gains_nothing port.board.now port.brought) };
 
-    ghost goes_on = { λ first then last before after. (after.0 ∙ before.0, goes_further 0 first.board.now then.board.now last.board.now before.1 after.1) };
+    ghost goes_on = { λ first then last before after. (after.0 ∙ before.0, goes_further 0 first.board.now then.board.now last.board.now before.1 after.1, gains_more first.board.now then.board.now last.board.now first.brought then.brought last.brought before.2 after.2) };
 }
