@@ -1,0 +1,4 @@
+pub mod Naming
+pub mod Tests
+pub mod Spaces
+pub mod Receivers
