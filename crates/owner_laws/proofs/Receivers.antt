@@ -1,6 +1,6 @@
 -- A receiver that is told of a row is a thread of its space.
-use Rattle.std.proofs.Common.{◌≡◌, Bool, true, false, List, Contains, Option, Some, None, slice_get, refl, sym, ap, ◌∙◌, subst}
-use Rattle.std.specs.Prelude.{◌/◌, ◌==◌, ◌&&◌, if◌then◌else◌, find, IfSome}
+use Rattle.std.proofs.Common.{◌≡◌, Bool, true, false, List, Option, Some, None, slice_get, refl, sym, ap, ◌∙◌, subst}
+use Rattle.std.specs.Prelude.{◌/◌, ◌==◌, if◌then◌else◌, find, IfSome}
 use Rattle.std.specs.Option.{option_and_then, option_map, option_or}
 use Rattle.std.proofs.lemmas.Bool.{and_parts, eqb-true}
 use Rattle.std.proofs.lemmas.Option.{same_Some}
@@ -13,7 +13,6 @@ use Rattle.cache_ident.specs.declared.names.SpaceNo.{SpaceNo}
 use Rattle.cache_ident.specs.declared.names.ThreadNo.{ThreadNo}
 use Rattle.cache_ident.specs.declared.names.Vpn.{Vpn}
 use Rattle.phys_groups.specs.declared.rows.Row.{Row}
-use Rattle.phys_groups.specs.Rows.{row_name}
 use Rattle.phys_groups.specs.Translation.{is_row_of, row_of}
 use Rattle.flat_state.specs.declared.records.FlatThread.{FlatThread}
 use Rattle.flat_state.specs.Declaration.{is_receiver_in, thread_is_in}
@@ -30,8 +29,8 @@ use Rattle.board_core.specs.desc_parents.specs.Seen.{seen}
 use Rattle.board_core.specs.board_ops.specs.declared.refusals.Refused.{Refused}
 use Rattle.board_core.specs.board_ops.specs.declared.refusals.Refused.TheVariants as why
 use Rattle.board_core.specs.Core.{contents_of, IsSound, Recorded}
-use Rattle.board_checks.specs.Identifiers.{not_a, not_a_receiver, receiver_as, space_as}
-use Rattle.board_checks.specs.Refusals.{already_loaded, beyond_rights, is_absent, not_declared, not_owned, receivers_absent, refusal_in_space, refusal_of_load_mapping, refusal_of_row, wrong_parent, wrong_receiver}
+use Rattle.board_checks.specs.Identifiers.{receiver_as}
+use Rattle.board_checks.specs.Refusals.{already_loaded, beyond_rights, is_absent, receivers_absent, refusal_in_space, refusal_of_load_mapping, refusal_of_row, wrong_receiver}
 use Rattle.owners.specs.Known.{ident_of, Known}
 use Rattle.owners.specs.Owning.{AreOwnersOf, IsThreadOf}
 use Rattle.owner_laws.specs.Passing.{thread_named}

@@ -1,7 +1,7 @@
 -- A thread that a load passes is one of the space by which it was asked for.
-use Rattle.std.proofs.Common.{◌≡◌, Bool, true, false, List, Option, Some, None, is_some, slice_get, refl, sym, ap, ◌∙◌, subst, inl, inr}
+use Rattle.std.proofs.Common.{◌≡◌, Bool, true, false, List, Option, Some, None, is_some, slice_get, refl, sym, ap, ◌∙◌, inl, inr}
 use Rattle.std.specs.Prelude.{◌==◌, if◌then◌else◌}
-use Rattle.std.specs.Option.{option_map, option_or}
+use Rattle.std.specs.Option.{option_map}
 use Rattle.std.proofs.lemmas.Bool.{eqb-true}
 use Rattle.cache_ident.proofs.Numbers.{same_space}
 use Rattle.cache_ident.specs.declared.idents.Ident.{Ident}
@@ -12,7 +12,6 @@ use Rattle.cache_ident.specs.declared.names.Name.{Name}
 use Rattle.cache_ident.specs.declared.names.Name.TheVariants as name
 use Rattle.cache_ident.specs.declared.names.SpaceNo.{SpaceNo}
 use Rattle.cache_ident.specs.declared.names.ThreadNo.{ThreadNo}
-use Rattle.cache_ident.specs.Residents.{IsResident}
 use Rattle.cache_ident.specs.Rolls.{standing_in}
 use Rattle.flat_state.specs.declared.records.FlatThread.{FlatThread}
 use Rattle.flat_state.specs.Events.{flat}
@@ -20,16 +19,15 @@ use Rattle.flat_state.specs.Names.{stands}
 use Rattle.flat_state.specs.State.{FlatState}
 use Rattle.run_journal.specs.Entries.{erase}
 use Rattle.run_journal.proofs.LegalGrowth.{state_told}
-use Rattle.board_core.specs.desc_stores.specs.Contents.{residents_of, Contents}
+use Rattle.board_core.specs.desc_stores.specs.Contents.{Contents}
 use Rattle.board_core.specs.desc_stores.specs.Sound.{IsExactlyOne}
 use Rattle.board_core.specs.desc_parents.specs.Seen.{seen}
 use Rattle.board_core.specs.shown_state.specs.Shown.{shown}
 use Rattle.board_core.specs.store_residents.proofs.ResidentLemmas.{live_iff}
-use Rattle.board_core.specs.board_ops.specs.declared.refusals.Refused.{Refused}
 use Rattle.board_core.specs.board_ops.specs.declared.refusals.Refused.TheVariants as why
 use Rattle.board_core.specs.Core.{contents_of, IsSound, Recorded}
 use Rattle.board_checks.specs.Identifiers.{gone_by, not_a, not_live, space_as, wrong_kind}
-use Rattle.board_checks.specs.Refusals.{already_loaded, not_declared, not_owned, refusal_of_load_thread, wrong_parent, wrong_space}
+use Rattle.board_checks.specs.Refusals.{not_declared, refusal_of_load_thread, wrong_parent, wrong_space}
 use Rattle.answer_laws.proofs.Passing.{space_given}
 use Rattle.owners.specs.Known.{ident_of, Known}
 use Rattle.owners.specs.Owning.{AreOwnersOf, IsThreadOf}

@@ -1,6 +1,6 @@
 mod KeyLemmas
 mod Behind
 mod Openings
-mod Learning
+pub mod Learning
 mod Hearing
 mod Opened
