@@ -32,7 +32,7 @@ pub struct Scene {
 }
 
 /// The sealed board of a scenario, and the owners that its declarations make.
-pub fn scene(alloc: Global, text: &str) -> Result<Scene, NoMemory> {
+pub fn opened(alloc: Global, text: &str) -> Result<Scene, NoMemory> {
     let Ok(scenario) = read(alloc, text.as_bytes()) else {
         return Err(AllocError);
     };

@@ -7,7 +7,7 @@ use std::test::Fail;
 
 #[test]
 fn what_is_loaded_and_noted_takes_one_call(rt: HostRuntime) -> Result<(), Fail> {
-    let mut scene = scene(rt.alloc(), PLAIN)?;
+    let mut scene = opened(rt.alloc(), PLAIN)?;
     assert!(rt; scene.serve(0, fault(0)) == (Served::Resumed, 3));
     assert!(rt;
         scene.tells(
@@ -29,7 +29,7 @@ fn what_is_loaded_and_noted_takes_one_call(rt: HostRuntime) -> Result<(), Fail> 
 
 #[test]
 fn what_others_loaded_and_unloaded_is_noted(rt: HostRuntime) -> Result<(), Fail> {
-    let mut scene = scene(rt.alloc(), PLAIN)?;
+    let mut scene = opened(rt.alloc(), PLAIN)?;
     // Loaded by others.
     assert!(rt; scene.step(0, 1));
     assert!(rt; scene.serve(0, fault(0)) == (Served::Resumed, 4));
@@ -51,7 +51,7 @@ fn what_others_loaded_and_unloaded_is_noted(rt: HostRuntime) -> Result<(), Fail>
 
 #[test]
 fn a_thread_that_can_not_go_on_ends(rt: HostRuntime) -> Result<(), Fail> {
-    let mut scene = scene(rt.alloc(), BARE)?;
+    let mut scene = opened(rt.alloc(), BARE)?;
     // No row is declared.
     assert!(rt; scene.serve(0, fault(4)) == (Served::Ended, 4));
     assert!(rt;
@@ -74,7 +74,7 @@ fn a_thread_that_can_not_go_on_ends(rt: HostRuntime) -> Result<(), Fail> {
 
 #[test]
 fn missing_receivers_are_loaded(rt: HostRuntime) -> Result<(), Fail> {
-    let mut scene = scene(rt.alloc(), MESSAGES)?;
+    let mut scene = opened(rt.alloc(), MESSAGES)?;
     assert!(rt; scene.step(0, 1));
     assert!(rt; scene.serve(0, fault(16)) == (Served::Resumed, 9));
     assert!(rt;
@@ -95,7 +95,7 @@ fn missing_receivers_are_loaded(rt: HostRuntime) -> Result<(), Fail> {
 
 #[test]
 fn wrong_spaces_are_learnt(rt: HostRuntime) -> Result<(), Fail> {
-    let mut scene = scene(rt.alloc(), SPAWNING)?;
+    let mut scene = opened(rt.alloc(), SPAWNING)?;
     // Of another kernel: a space of that is tried, and then the one that is told.
     scene.owners.learn_space(ThreadNo(0), SpaceNo(0))?;
     assert!(rt; scene.serve(0, fault(0)) == (Served::Resumed, 9));
