@@ -1,0 +1,2 @@
+pub mod Signalled
+pub mod Addresses

@@ -1,0 +1,5 @@
+pub mod Slots
+pub mod Meaning
+pub mod Indexing
+pub mod Whole
+pub mod Changes
