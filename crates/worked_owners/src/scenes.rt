@@ -5,7 +5,7 @@ use board_opening::board_of;
 use cache_ident::{Ident, Kind, Name, NoMemory, SpaceNo, ThreadNo, Vpn};
 use journal_text::print;
 use rv32_exec::Access;
-use scenario_reader::read;
+use scenario_reader::read_opening;
 use std::alloc::{AllocError, Global};
 
 /// A thread whose code puts a byte out and ends.
@@ -33,7 +33,7 @@ pub struct Scene {
 
 /// The sealed board of a scenario, and the owners that its declarations make.
 pub fn opened(alloc: Global, text: &str) -> Result<Scene, NoMemory> {
-    let Ok(scenario) = read(alloc, text.as_bytes()) else {
+    let Ok(scenario) = read_opening(alloc, text.as_bytes()) else {
         return Err(AllocError);
     };
     let mut board = board_of(alloc, scenario.decls(), 1_000)?;
