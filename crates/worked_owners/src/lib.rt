@@ -1,0 +1,9 @@
+//! Tests of what owners do for threads, call by call. They stand above it, since a crate with tests in it is proved twice, from
+//! nothing both times.
+#![tactic(auto)]
+
+#[cfg(test)]
+mod bound_tests;
+pub mod scenes;
+#[cfg(test)]
+mod serving_tests;

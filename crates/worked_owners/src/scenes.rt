@@ -1,0 +1,111 @@
+//! Boards of scenarios with their owners, and what is asked of them.
+
+use app_kernel::{Alone, Board, Notice, Owners, Served, serve};
+use board_opening::board_of;
+use cache_ident::{Ident, Kind, Name, NoMemory, SpaceNo, ThreadNo, Vpn};
+use journal_text::print;
+use rv32_exec::Access;
+use scenario_reader::read_opening;
+use std::alloc::{AllocError, Global};
+
+/// A thread whose code puts a byte out and ends.
+pub const PLAIN: &str =
+    "mem 1\nkernel 0\nright 0 0 rw\nspace 0 0\nthread 0 0 0\nmap 0 0 0 x\nword 0 0 00100893 04800513 00000073 00000893 00000513 00000073\nend\n";
+
+/// A thread that fetches from where there is no row, of two kernels' spaces; and a row beyond its kernel's rights.
+pub const BARE: &str =
+    "mem 1\nkernel 0\nkernel 1\nright 0 0 rw\nspace 0 0\nspace 1 1\nthread 0 0 0x4000\nthread 1 1 0\nmap 1 0 0 x\nend\n";
+
+/// A thread of kernel 1 that stores into a message row, and one of kernel 2 that takes the signals.
+pub const MESSAGES: &str =
+    "mem 1\ncaps 8 8 8 8\nkernel 0\nkernel 1\nkernel 2\nright 1 0 rw\nright 2 0 rw\nspace 0 1\nspace 1 2\nthread 0 0 0\nthread 1 1 0\nmap 0 0 0 x\nmap 0 16 2 rwm\nmap 1 0 1 x\nmap 1 32 2 r signal 1\nword 0 0 000102b7 0202ae23 00000073\nword 1 0 00300893 00000073 00200893 00000073 00000893 00000073\nend\n";
+
+/// A thread of the first of kernel 1's spaces asks for a thread that puts a byte out and ends.
+pub const SPAWNING: &str =
+    "mem 1\nkernel 0\nkernel 1\nright 1 0 rw\nspace 0 0\nspace 1 1\nspace 2 1\nthread 0 1 0\nmap 1 0 0 x\ncode 0 0\naddi a0, zero, 28\naddi a1, zero, 65\naddi a2, zero, 0\naddi a7, zero, 8\necall\naddi a7, zero, 0\necall\naddi a7, zero, 1\necall\naddi a7, zero, 0\necall\nendcode\nend\n";
+
+/// A board and its owners.
+#[derive(Drop)]
+pub struct Scene {
+    pub board: Board,
+    pub owners: Owners,
+}
+
+/// The sealed board of a scenario, and the owners that its declarations make.
+pub fn opened(alloc: Global, text: &str) -> Result<Scene, NoMemory> {
+    let Ok(scenario) = read_opening(alloc, text.as_bytes()) else {
+        return Err(AllocError);
+    };
+    let mut board = board_of(alloc, scenario.decls(), 1_000)?;
+    let Ok(_) = board.seal() else {
+        return Err(AllocError);
+    };
+    let owners = Owners::new(alloc, scenario.decls())?;
+    Ok(Scene { board, owners })
+}
+
+/// A fault of a fetch from the page of that number.
+pub fn fault(page: u32) -> Notice {
+    Notice::Fault {
+        va: page.saturating_mul(4_096),
+        access: Access::Fetch,
+    }
+}
+
+impl Scene {
+    /// What owners do for a thread, and how many calls they make for it.
+    pub fn serve(&mut self, thread: u32, notice: Notice) -> (Served, u64) {
+        let mut port = Alone::new(&mut self.board);
+        let served = serve(&mut port, &mut self.owners, ThreadNo(thread), notice);
+        (served, port.heard.calls)
+    }
+
+    /// Takes so many steps of a thread, and says whether each could be taken.
+    pub fn step(&mut self, thread: u32, steps: u32) -> bool {
+        for _ in 0..steps {
+            if self.board.heal_step(0, ThreadNo(thread)).is_err() {
+                return false;
+            }
+        }
+        true
+    }
+
+    /// Does the text of the journal end with these lines?
+    pub fn tells(&self, alloc: Global, lines: &str) -> Result<bool, NoMemory> {
+        let text = print(alloc, self.board.journal())?;
+        Ok(text.as_slice().ends_with(lines.as_bytes()))
+    }
+
+    /// Unloads a descriptor of a kernel.
+    pub fn unload(&mut self, kernel: Ident, ident: Ident) -> bool {
+        self.board.unload(0, kernel, ident).is_ok()
+    }
+}
+
+/// The first kernel, and the next one that was loaded first.
+pub const FIRST: Ident = Ident {
+    kind: Kind::Kernel,
+    slot: 0,
+    serial: 0,
+};
+
+pub const SECOND: Ident = Ident {
+    kind: Kind::Kernel,
+    slot: 1,
+    serial: 1,
+};
+
+/// The identifier that the load of that number gave, for the first slot.
+pub fn ident(kind: Kind, serial: u64) -> Ident {
+    Ident {
+        kind,
+        slot: 0,
+        serial,
+    }
+}
+
+pub const SPACE: Name = Name::Space(SpaceNo(0));
+
+pub const THREAD: Name = Name::Thread(ThreadNo(0));
+
+pub const CODE: Name = Name::Mapping(SpaceNo(0), Vpn(0));
