@@ -1,19 +1,25 @@
 # shellcheck shell=bash
 # Read by tests/run where programs are tried unproved: how one start of rt, which costs the building of a program, answers many cases.
 #
-# A case is given as the count of its words, the words, and the count of the bytes of its input, a line each, and then those
-# bytes. Its answer is a line with the status and the count of the bytes that were written, and then those.
+# A case is given as its number, the count of its words, the words, and the count of the bytes of its input, a line each, and then
+# those bytes. Its answer is a line with the status and the count of the bytes that were written, and then those. Where the program
+# stops at a case, rt passes none of its answers on; but on standard error the program names each case before it begins with it.
 
-# put_case INPUT WORD..: writes a case as it is given.
+# put_case NUMBER INPUT WORD..: writes a case as it is given.
 put_case() {
-    printf '%s\n' "$(($# - 1))" "${@:2}" "$(wc -c < "$1")"
-    cat -- "$1"
+    printf '%s\n' "$1" "$(($# - 2))" "${@:3}" "$(wc -c < "$2")"
+    cat -- "$2"
 }
 
 # take_answer FILE: reads an answer, sets status to its status, and puts what was written into the file; or fails where no whole one is left.
 take_answer() {
     local count
     read -r status count && [[ $count =~ ^[0-9]+$ ]] && head -c "$count" > "$1" && [ "$(wc -c < "$1")" -eq "$count" ]
+}
+
+# find_last_begun FILE: sets begun to the number of the case that the program began with last, as rt said in that file, or to nothing.
+find_last_begun() {
+    begun=$(sed -n 's/^\(| \)\{0,1\}case \([0-9]*\)$/\2/p' "$1" | tail -n 1)
 }
 
 # make_main_of_many FILE: makes of a program's main file one whose main answers all cases of standard input. The program's own main
@@ -32,7 +38,9 @@ fn main(rt: HostRuntime) -> io::Result<()> {
     rt.stdin().read_to_end(&mut given)?;
     let mut left = given.as_slice();
     let mut written = rt.stdout();
+    let mut told = rt.stderr();
     while !left.is_empty() {
+        write!(told, "case {}\n", next_count(alloc, &mut left)?)?;
         let mut words = Words::new(alloc);
         for _ in 0..next_count(alloc, &mut left)? {
             words.push(&next_line(alloc, &mut left)?)?;
