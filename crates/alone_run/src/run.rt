@@ -6,6 +6,7 @@ ghost use Rattle.owners.specs.Owning.{AreOwnersOf};
 ghost use Rattle.board_core.specs.Going.{Grew};
 ghost use Rattle.board_commits.specs.Tickets.{AreAllAsOf};
 ghost use Rattle.board_turns.specs.Looks.{settled_on};
+ghost use Rattle.board_turns.specs.Turning.{IsAtRest};
 
 use board_turns::{Alone, Board, Found, Owners, Pace, Processor, Quantum, turn};
 use cache_ident::NoMemory;
@@ -32,11 +33,29 @@ pub fn run_alone(
 {
     quantum.forget();
     board.clear_marks();
+    board.holds();
     let mut port = Alone::new(board);
+    take_turns(&mut port, owners, quantum)
+}
+
+// Takes turns on a board on which no processor has a thread.
+fn take_turns(
+    port: &mut Alone<'_>,
+    owners: &mut Owners,
+    quantum: &mut Quantum,
+) -> Result<(), NoMemory>
+    requires rest { IsAtRest port.old.board.now owners.old }
+    requires kept { AreAllAsOf port.old.board.now.journal.entries quantum.old }
+    ensures same_reference { port.new.board.ghost_name ≡ port.old.board.ghost_name }
+    ensures grew { Grew 0 port.old.board.now port.new.board.now }
+    ensures over { OnOk result (settled_on port.new.board.now ≢ Running) }
+    ensures owners { AreOwnersOf port.new.board.now.journal.entries owners.new }
+    ensures kept { AreAllAsOf port.new.board.now.journal.entries quantum.new }
+{
     let mut pace = Pace::new();
-    let mut found = port.look(pace.wants_first(), quantum);
+    let mut found = port.look(pace.wants_first());
     while !matches!(found, Found::Over) {
-        found = turn(&mut port, owners, quantum, &mut pace, QUANTUM, found)?;
+        found = turn(port, owners, quantum, &mut pace, QUANTUM, found)?;
     }
     Ok(())
 }

@@ -22,7 +22,6 @@ use Rattle.run_journal.specs.declared.entries.Entry.{Entry}
 use Rattle.run_journal.specs.Entries.{erase}
 use Rattle.run_journal.specs.Told.{residents}
 use Rattle.board_core.specs.cached_machine.specs.Cached.{is_loaded, state_of}
-use Rattle.board_core.specs.cached_machine.specs.Posts.{mark_of}
 use Rattle.board_core.specs.Core.{contents_of, Recorded}
 use Rattle.board_threads.specs.declared.tickets.Ticket.{Ticket}
 use Rattle.board_threads.specs.Posts.{IsCheckedOut, IsTicketFor}
@@ -43,10 +42,17 @@ IsNobodyWaiting b = (c : Candidate) → IsWaiting b c → ⊥
 abbrev pub StandsAt : Recorded → ThreadNo → Bool → ℕ → Type 0
 StandsAt b whom trapped pc = OfThread (state_of b.machine) whom.0 (λ t. (is_trapped t.status ≡ trapped) × (t.context.pc ≡ pc))
 
+-- who waits for owners, and how it stands
+abbrev pub IsFoundWanted : Recorded → Found → Type 0
+IsFoundWanted b (Wanted whom trapped pc) = IsWanted b (Some whom) × StandsAt b whom trapped pc
+IsFoundWanted b (Out ticket) = ⊥
+IsFoundWanted b Nothing = ⊥
+IsFoundWanted b Over = ⊥
+
 -- A thread came to the processor, and the ticket is its. Where those that wait for their owners were asked for first, there is none.
 pub record IsOut (cpu : ℕ) (want_first : Bool) (old new : Recorded) (ticket : Ticket) : Type 0 where
   pub chosen : IsChosenOf old ticket.no
-  pub ticket_for : IsTicketFor new cpu ticket
+  pub ticket_for : IsTicketFor old cpu ticket
   pub out : IsCheckedOut ticket.no cpu old new
   pub nobody_first : want_first ≡ true → IsWanted old None
 
@@ -58,17 +64,35 @@ pub record IsServedNext (want_first : Bool) (old new : Recorded) (whom : ThreadN
   pub nobody_first : want_first ≡ false → IsNobodyWaiting old
   pub same : new ≡ old
 
+-- nobody is there
+pub record IsNobody (old new : Recorded) : Type 0 where
+  pub wanted : IsWanted old None
+  pub waiting : IsNobodyWaiting old
+  pub same : new ≡ old
+
 -- a look by the processor, in this order, at a board whose run isn't over found it so
 abbrev pub IsFound : ℕ → Bool → Recorded → Recorded → Found → Type 0
 IsFound cpu want_first old new (Out ticket) = IsOut cpu want_first old new ticket
 IsFound cpu want_first old new (Wanted whom trapped pc) = IsServedNext want_first old new whom trapped pc
-IsFound cpu want_first old new Nothing = (new ≡ old) × IsWanted old None × IsNobodyWaiting old
+IsFound cpu want_first old new Nothing = IsNobody old new
 IsFound cpu want_first old new Over = ⊥
 
--- a look by whoever has the board alone: where the run is over nobody was looked for
+-- the run is over, and nobody was looked for
+pub record IsFoundOver (old new : Recorded) : Type 0 where
+  pub over : settled_on old ≢ Running
+  pub same : new ≡ old
+
+-- the run goes on, and this was found
+pub record IsFoundRunning (want_first : Bool) (old new : Recorded) (whom : Found) : Type 0 where
+  pub running : settled_on old ≡ Running
+  pub found : IsFound 0 want_first old new whom
+
+-- a look by whoever has the board alone
 abbrev pub HasLooked : Bool → Recorded → Recorded → Found → Type 0
-HasLooked want_first old new Over = (new ≡ old) × (settled_on old ≢ Running)
-HasLooked want_first old new found = (settled_on old ≡ Running) × IsFound 0 want_first old new found
+HasLooked want_first old new Over = IsFoundOver old new
+HasLooked want_first old new (Out ticket) = IsFoundRunning want_first old new (Out ticket)
+HasLooked want_first old new (Wanted whom trapped pc) = IsFoundRunning want_first old new (Wanted whom trapped pc)
+HasLooked want_first old new Nothing = IsFoundRunning want_first old new Nothing
 
 -- ---- a page that no view was free for
 
@@ -77,16 +101,16 @@ abbrev pub Allows : Recorded → ThreadNo → Vpn → Access → Type 0
 Allows b whom vpn access = OfThread (state_of b.machine) whom.0 (λ t. (row : Row) × (row_of (state_of b.machine).rows t.space vpn.0 ≡ Some row)
     × (wants access row.flags ≡ true) × (is_loaded (contents_of b) (name.Mapping t.space vpn) ≡ true))
 
--- ---- what stays so until the turn for whom was found
-
--- a processor has nobody but the thread that was found for it
-abbrev pub IsOutOnly : Recorded → Found → Type 0
-IsOutOnly b (Out ticket) = (whom : ThreadNo) (by : ℕ) → mark_of (contents_of b) whom ≡ Some by → whom ≡ ticket.no
-IsOutOnly b found = (whom : ThreadNo) → mark_of (contents_of b) whom ≡ None
-
 -- ---- what a look tells of a journal
 
 -- no call can be completed in the machine with unlimited tables, and each thread that is runnable there is loaded
 pub record IsIdle (j : List Entry) : Type 0 where
   pub calls : (whom : ThreadNo) (t : FlatThread) → slice_get (flat (erase j)).threads whom.0 ≡ Some t → is_completable t ≡ false
   pub loaded : (whom : ThreadNo) (t : FlatThread) → slice_get (flat (erase j)).threads whom.0 ≡ Some t → is_runnable (flat (erase j)) t ≡ true → IsNameResident (residents j) (name.Thread whom)
+
+-- what is so of the board on which whoever has it alone found this last
+abbrev pub IsSoAlone : Recorded → Found → Type 0
+IsSoAlone b (Out ticket) = ticket.cpu ≡ 0
+IsSoAlone b (Wanted whom trapped pc) = Unit {0}
+IsSoAlone b Nothing = IsIdle b.journal.entries
+IsSoAlone b Over = settled_on b ≢ Running

@@ -5,6 +5,7 @@
 #![tactic(auto)]
 
 mod alone;
+mod committed;
 mod found;
 mod holds;
 mod pace;
@@ -15,6 +16,7 @@ mod turns;
 
 pub use app_kernel::{Alone, Board, Owners, Port, Refused};
 pub use cache_board::{Quantum, Ticket};
+pub use committed::Committed;
 pub use found::Found;
 pub use pace::Pace;
 pub use processor::Processor;

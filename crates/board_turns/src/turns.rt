@@ -1,68 +1,82 @@
 //! The turn of a processor.
 
-ghost use Rattle.std.specs.Prelude.{◌≡◌, ◌≢◌, ◌<◌, true, false, Result, Err, IfOk, IfSome, IsSome, OnOk, option_copied};
+ghost use Rattle.std.specs.Prelude.{◌≡◌, ◌≢◌, ◌<◌, true, IfOk, IfSome, OnOk};
 ghost use Rattle.fault_forward.specs.declared.effects.Notice.TheVariants as notices;
-ghost use Rattle.rv32_exec.specs.declared.statuses.Access.TheVariants as accesses;
-ghost use Rattle.flat_state.specs.Call.{is_completable};
-ghost use Rattle.flat_rules.specs.Readings.{OfThread};
 ghost use Rattle.left_laws.specs.Left.{left};
-ghost use Rattle.board_ops.specs.declared.refusals.Refused.{Refused};
-ghost use Rattle.board_ops.specs.declared.refusals.Refused.TheVariants as why;
+ghost use Rattle.board_commits.specs.Tickets.{AreAllAsOf};
+ghost use Rattle.board_core.specs.board_ops.specs.declared.refusals.Refused.TheVariants as why;
 ghost use Rattle.board_core.specs.cached_machine.specs.Cached.{state_of};
-ghost use Rattle.board_commits.specs.Tickets.{AreAllAsOf, AreOfTicket};
+ghost use Rattle.app_kernel.specs.Serving.{IsInCall};
 ghost use Rattle.owner_ports.specs.Boards.{OnTold};
+ghost use Rattle.owners.specs.Known.{Known};
 ghost use Rattle.board_turns.specs.declared.found.Found.TheVariants as found_so;
-ghost use Rattle.board_turns.specs.declared.pace.Pace.{Pace};
-ghost use Rattle.board_turns.specs.Holds.{HasHealed};
-ghost use Rattle.board_turns.specs.Looks.{IsIdle};
-ghost use Rattle.board_turns.specs.Paces.{must_bring};
-ghost use Rattle.board_turns.specs.Turning.{turns_left, IsAtRest, IsLeftBy, IsNext, IsReadyFor};
+ghost use Rattle.board_turns.specs.Paces.{beat_of, must_bring, Beat};
+ghost use Rattle.board_turns.specs.Turning.{turns_left, IsAtRest, IsAtRestBut, IsLeftBy, IsNext, IsOnQuantum, IsOwned, IsToStep};
 
 use crate::found::Found;
 use crate::pace::Pace;
 use crate::processor::Processor;
-use crate::quanta::{Ran, run_quantum};
+use crate::quanta::{Ask, run_quantum};
 use app_kernel::{Notice, Owners, Refused, Served, serve};
 use cache_board::{Quantum, Ticket};
 use cache_ident::{NoMemory, ThreadNo};
 use rv32_exec::Access;
 use std::alloc::AllocError;
 
+// Whatever came of it, unless owners want memory.
+fn unless_wanting(served: Served) -> Result<(), NoMemory>
+    ensures { OnOk result (served ≢ Served.Again why.NoMemory) }
+{
+    match served {
+        Served::Again(Refused::NoMemory) => Err(AllocError),
+        _ => Ok(()),
+    }
+}
+
+// Whatever came of it, unless the board wants memory.
+fn unless_refused_memory(healed: Result<(), Refused>) -> Result<(), NoMemory>
+    ensures { OnOk result (healed ≢ Err why.NoMemory) }
+{
+    match healed {
+        Err(Refused::NoMemory) => Err(AllocError),
+        _ => Ok(()),
+    }
+}
+
+// Asks a thread's owners for what its notice says. A call that can be completed is, or memory is wanted.
 fn ask_owners<P: Processor>(
     port: &mut P,
     owners: &mut Owners,
     thread: ThreadNo,
     notice: Notice,
 ) -> Result<(), NoMemory>
-    ensures followed { P.follows port.old port.new }
-    ensures told { OnTold (P.board port.old) (P.board port.new) (λ old new. IsAtRest old owners.old → IsAtRest new owners.new) }
-    ensures completed { OnTold (P.board port.old) (P.board port.new) (λ old new. IsAtRest old owners.old → notice ≡ notices.Trap → OfThread (state_of old.machine) thread.0 (λ t. is_completable t ≡ true) → OnOk result (left new < left old)) }
+    ensures owned { OnTold (P.board port.old) (P.board port.new) (λ old new. IsOwned old owners.old → IsOwned new owners.new) }
+    ensures rests { OnTold (P.board port.old) (P.board port.new) (λ old new. IsAtRest old owners.old → IsAtRest new owners.new) }
+    ensures completed { OnTold (P.board port.old) (P.board port.new) (λ old new. IsOwned old owners.old → notice ≡ notices.Trap → IsInCall (state_of old.machine) thread → OnOk result (left new < left old)) }
+    ensures continued { P.continues port.old port.new }
 {
-    match serve(port, owners, thread, notice) {
-        Served::Again(Refused::NoMemory) => Err(AllocError),
-        _ => Ok(()),
-    }
+    let served = serve(port, owners, thread, notice);
+    unless_wanting(served)
 }
 
+// Heals a thread's next step, once the ticket's thread was given back, where there is a ticket. One that can be healed is, or memory
+// is wanted.
 fn heal<P: Processor>(
     port: &mut P,
-    ticket: Option<&Ticket>,
+    ticket: Option<Ticket>,
     thread: ThreadNo,
 ) -> Result<(), NoMemory>
+    requires own { IfSome ticket (λ its. P.is_so port.old (found_so.Out its)) }
+    ensures rests { OnTold (P.board port.old) (P.board port.new) (λ old new. (known : Known) → IsAtRestBut ticket old known → IsAtRest new known) }
+    ensures healed { OnTold (P.board port.old) (P.board port.new) (λ old new. (known : Known) → IsAtRestBut ticket old known → IsToStep old thread → OnOk result (left new < left old)) }
     ensures continued { P.continues port.old port.new }
-    ensures told { OnTold (P.board port.old) (P.board port.new) (λ old new. (answer : Result Unit Refused) × HasHealed 0 (option_copied ticket.entry) thread old new answer × OnOk result (answer ≢ Err why.NoMemory)) }
 {
-    match port.leave_and_heal(ticket, thread) {
-        Err(Refused::NoMemory) => Err(AllocError),
-        _ => Ok(()),
-    }
+    let healed = port.leave_and_heal(ticket, thread);
+    unless_refused_memory(healed)
 }
 
 // What a thread that isn't loaded, or is in a call, waits for.
-fn notice_of(trapped: bool, pc: u32) -> Notice
-    ensures trap { trapped ≡ true → result ≡ notices.Trap }
-    ensures fetch { trapped ≡ false → result ≡ notices.Fault pc accesses.Fetch }
-{
+fn notice_of(trapped: bool, pc: u32) -> Notice {
     if trapped {
         Notice::Trap
     } else {
@@ -70,6 +84,24 @@ fn notice_of(trapped: bool, pc: u32) -> Notice
             va: pc,
             access: Access::Fetch,
         }
+    }
+}
+
+// Does what a thread asks for behind its steps.
+fn grant<P: Processor>(
+    port: &mut P,
+    owners: &mut Owners,
+    thread: ThreadNo,
+    ask: Ask,
+) -> Result<(), NoMemory>
+    ensures owned { OnTold (P.board port.old) (P.board port.new) (λ old new. IsOwned old owners.old → IsOwned new owners.new) }
+    ensures rests { OnTold (P.board port.old) (P.board port.new) (λ old new. IsAtRest old owners.old → IsAtRest new owners.new) }
+    ensures continued { P.continues port.old port.new }
+{
+    match ask {
+        Ask::Nothing => Ok(()),
+        Ask::Owners(notice) => ask_owners(port, owners, thread, notice),
+        Ask::Healing => heal(port, None, thread),
     }
 }
 
@@ -82,20 +114,22 @@ fn run_thread<P: Processor>(
     length: u32,
     ticket: &Ticket,
 ) -> Result<Option<Found>, NoMemory>
-    requires some { 0 < length }
-    requires ready { AreOfTicket (P.seen port.old) ticket.now.thread quantum.old }
-    ensures continued { P.continues port.old port.new }
+    requires own { P.is_so port.old (found_so.Out ticket.now) }
+    requires kept { AreAllAsOf (P.seen port.old) quantum.old }
     ensures kept { AreAllAsOf (P.seen port.new) quantum.new }
-    ensures ready { IfOk result (λ next. IfSome next (IsReadyFor (P.seen port.new) quantum.new)) }
-    ensures told { OnTold (P.board port.old) (P.board port.new) (λ old new. IsNext old owners.old pace (found_so.Out ticket.now) → IfOk result (λ next. IsLeftBy new owners.new pace next × (IsSome next → left new < left old))) }
+    ensures so { IfOk result (λ next. IfSome next (P.is_so port.new)) }
+    ensures owned { OnTold (P.board port.old) (P.board port.new) (λ old new. IsOwned old owners.old → IsOwned new owners.new) }
+    ensures told { OnTold (P.board port.old) (P.board port.new) (λ old new. IsOnQuantum old owners.old ticket.now → IfOk result (IsLeftBy old new owners.new (beat_of pace))) }
+    ensures continued { P.continues port.old port.new }
 {
-    match run_quantum(port, ticket, quantum, pace, length)? {
-        Ran::Found(found) => return Ok(Some(found)),
-        Ran::Asks(notice) => ask_owners(port, owners, ticket.no, notice)?,
-        Ran::Signals => heal(port, None, ticket.no)?,
-        Ran::Left => {}
+    let ran = run_quantum(port, ticket, quantum, pace, length)?;
+    match ran.next {
+        Some(found) => Ok(Some(found)),
+        None => {
+            grant(port, owners, ticket.no, ran.ask)?;
+            Ok(None)
+        }
     }
-    Ok(None)
 }
 
 // What a turn does for whom it found.
@@ -107,12 +141,13 @@ fn act<P: Processor>(
     length: u32,
     found: Found,
 ) -> Result<Option<Found>, NoMemory>
-    requires some { 0 < length }
-    requires ready { IsReadyFor (P.seen port.old) quantum.old found }
-    ensures continued { P.continues port.old port.new }
+    requires so { P.is_so port.old found }
+    requires kept { AreAllAsOf (P.seen port.old) quantum.old }
     ensures kept { AreAllAsOf (P.seen port.new) quantum.new }
-    ensures ready { IfOk result (λ next. IfSome next (IsReadyFor (P.seen port.new) quantum.new)) }
-    ensures told { OnTold (P.board port.old) (P.board port.new) (λ old new. IsNext old owners.old pace found → IfOk result (λ next. IsLeftBy new owners.new pace next × (IsSome next → left new < left old))) }
+    ensures so { IfOk result (λ next. IfSome next (P.is_so port.new)) }
+    ensures owned { OnTold (P.board port.old) (P.board port.new) (λ old new. IsOwned old owners.old → IsOwned new owners.new) }
+    ensures told { OnTold (P.board port.old) (P.board port.new) (λ old new. IsNext old owners.old (beat_of pace) found → IfOk result (IsLeftBy old new owners.new (beat_of pace))) }
+    ensures continued { P.continues port.old port.new }
 {
     match found {
         Found::Out(ticket) => run_thread(port, owners, quantum, pace, length, &ticket),
@@ -120,24 +155,54 @@ fn act<P: Processor>(
             ask_owners(port, owners, no, notice_of(trapped, pc))?;
             Ok(None)
         }
-        Found::Nothing | Found::Over => Ok(None),
+        Found::Nothing => Ok(None),
+        Found::Over => Ok(None),
     }
 }
 
 // What a turn does that has to bring something: a call is completed, and else a step is healed.
 fn bring<P: Processor>(port: &mut P, owners: &mut Owners, found: Found) -> Result<(), NoMemory>
+    requires so { P.is_so port.old found }
+    ensures owned { OnTold (P.board port.old) (P.board port.new) (λ old new. IsOwned old owners.old → IsOwned new owners.new) }
+    ensures told { OnTold (P.board port.old) (P.board port.new) (λ old new. (beat : Beat) → must_bring beat ≡ true → IsNext old owners.old beat found → OnOk result (IsAtRest new owners.new × (found ≢ found_so.Over → left new < left old))) }
     ensures continued { P.continues port.old port.new }
-    ensures told { OnTold (P.board port.old) (P.board port.new) (λ old new. (pace : Pace) → must_bring pace ≡ true → IsNext old owners.old pace found → OnOk result (IsAtRest new owners.new × (found ≢ found_so.Over → left new < left old))) }
 {
     match found {
-        Found::Out(ticket) => heal(port, Some(&ticket), ticket.no),
-        Found::Wanted {
-            no,
-            trapped: true,
-            ..
-        } => ask_owners(port, owners, no, Notice::Trap),
-        Found::Wanted { no, .. } => heal(port, None, no),
-        Found::Nothing | Found::Over => Ok(()),
+        Found::Out(ticket) => heal(port, Some(ticket), ticket.no),
+        Found::Wanted { no, trapped, .. } => {
+            if trapped {
+                ask_owners(port, owners, no, Notice::Trap)
+            } else {
+                heal(port, None, no)
+            }
+        }
+        Found::Nothing => Ok(()),
+        Found::Over => Ok(()),
+    }
+}
+
+// What a turn does, before whom it is for next is looked for, if that isn't found by then.
+fn take<P: Processor>(
+    port: &mut P,
+    owners: &mut Owners,
+    quantum: &mut Quantum,
+    pace: Pace,
+    length: u32,
+    found: Found,
+) -> Result<Option<Found>, NoMemory>
+    requires so { P.is_so port.old found }
+    requires kept { AreAllAsOf (P.seen port.old) quantum.old }
+    ensures kept { AreAllAsOf (P.seen port.new) quantum.new }
+    ensures so { IfOk result (λ next. IfSome next (P.is_so port.new)) }
+    ensures owned { OnTold (P.board port.old) (P.board port.new) (λ old new. IsOwned old owners.old → IsOwned new owners.new) }
+    ensures told { OnTold (P.board port.old) (P.board port.new) (λ old new. IsNext old owners.old (beat_of pace) found → IfOk result (λ next. IsLeftBy old new owners.new (beat_of pace) next × (must_bring (beat_of pace) ≡ true → found ≢ found_so.Over → left new < left old))) }
+    ensures continued { P.continues port.old port.new }
+{
+    if pace.must_bring() {
+        bring(port, owners, found)?;
+        Ok(None)
+    } else {
+        act(port, owners, quantum, pace, length, found)
     }
 }
 
@@ -154,33 +219,29 @@ pub fn turn<P: Processor>(
     length: u32,
     found: Found,
 ) -> Result<Found, NoMemory>
-    requires some { 0 < length }
-    requires ready { IsReadyFor (P.seen port.old) quantum.old found }
-
-    // What comes of the processor, and what the quantum has then, also where memory is wanted.
-    ensures continued { P.continues port.old port.new }
+    // What the last look found, and what the quantum keeps, is this processor's.
+    requires so { P.is_so port.old found }
+    requires kept { AreAllAsOf (P.seen port.old) quantum.old }
+    ensures so { IfOk result (P.is_so port.new) }
     ensures kept { AreAllAsOf (P.seen port.new) quantum.new }
-    ensures ready { IfOk result (IsReadyFor (P.seen port.new) quantum.new) }
-
-    // Why it stops, where it does.
-    ensures idle { IfOk result (λ next. next ≡ found_so.Nothing → IsIdle (P.seen port.new)) }
-    ensures over { IfOk result (λ next. next ≡ found_so.Over → P.is_over port.new) }
 
     // Where the board is told, and its owners are: the next turn is one as this, and is nearer to the end.
-    ensures next { OnTold (P.board port.old) (P.board port.new) (λ old new. IsNext old owners.old pace.old found → IfOk result (IsNext new owners.new pace.new)) }
-    ensures closer { OnTold (P.board port.old) (P.board port.new) (λ old new. IsNext old owners.old pace.old found → found ≢ found_so.Over → IfOk result (λ _. turns_left new pace.new < turns_left old pace.old)) }
+    ensures owned { OnTold (P.board port.old) (P.board port.new) (λ old new. IsOwned old owners.old → IsOwned new owners.new) }
+    ensures next { OnTold (P.board port.old) (P.board port.new) (λ old new. IsNext old owners.old (beat_of pace.old) found → IfOk result (IsNext new owners.new (beat_of pace.new))) }
+    ensures closer { OnTold (P.board port.old) (P.board port.new) (λ old new. IsNext old owners.old (beat_of pace.old) found → found ≢ found_so.Over → IfOk result (λ _. turns_left new (beat_of pace.new) < turns_left old (beat_of pace.old))) }
+
+    // It comes of the processor, also where memory is wanted.
+    ensures continued { P.continues port.old port.new }
 {
     let before = port.brought();
-    let next = if pace.must_bring() {
-        bring(port, owners, found)?;
-        None
-    } else {
-        act(port, owners, quantum, *pace, length, found)?
-    };
-    let brought = next.is_some() || before < port.brought();
-    *pace = pace.after(brought);
-    match next {
-        Some(found) => Ok(found),
-        None => Ok(port.look(pace.wants_first(), quantum)),
+    match take(port, owners, quantum, *pace, length, found)? {
+        Some(next) => {
+            *pace = pace.after(true);
+            Ok(next)
+        }
+        None => {
+            *pace = pace.after(before < port.brought());
+            Ok(port.look(pace.wants_first()))
+        }
     }
 }

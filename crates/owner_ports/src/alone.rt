@@ -2,9 +2,8 @@
 
 ghost use Rattle.std.specs.Prelude.{◌≡◌, refl, None, Some};
 ghost use Rattle.std.proofs.Common.{◌∙◌};
-ghost use Rattle.cache_board.specs.board_core.specs.Going.{GoesOn};
-ghost use Rattle.owner_ports.specs.Brought.{brought_by, HasGained};
-ghost use Rattle.owner_ports.specs.Following.{gains_more, gains_nothing, goes_further, goes_nowhere};
+ghost use Rattle.owner_ports.specs.Brought.{brought_by, HasGained, IsCalledOn};
+ghost use Rattle.owner_ports.specs.Following.{called_further, called_nowhere, gains_more, gains_nothing};
 
 use crate::port::{Heard, Port, PortCall};
 use cache_board::{Board, Refused};
@@ -35,14 +34,15 @@ impl<'a> Alone<'a> {
             brought: 0,
         }
     }
+}
 
-    // A step or a completion more was brought, where a call wasn't refused.
-    fn count_brought(&mut self, answer: Result<(), Refused>)
-        ensures { self.new ≡ record self.old { brought = brought_by answer self.old.brought } }
-    {
-        if answer.is_ok() {
-            self.brought = self.brought.saturating_add(1);
-        }
+// How many calls brought a step or a completion, once one more was answered: one that was refused brings none.
+fn brought_after(answer: Result<(), Refused>, brought: u64) -> u64
+    ensures { result ≡ brought_by answer brought }
+{
+    match answer {
+        Ok(()) => brought.saturating_add(1),
+        Err(_) => brought,
     }
 }
 
@@ -51,7 +51,7 @@ impl Port for Alone<'_> {
 
     ghost heard = { λ port. port.heard };
 
-    ghost follows = { λ old new. (new.board.ghost_name ≡ old.board.ghost_name) × GoesOn 0 old.board.now new.board.now × HasGained old.board.now old.brought new.board.now new.brought };
+    ghost follows = { λ old new. (new.board.ghost_name ≡ old.board.ghost_name) × IsCalledOn old.board.now new.board.now × HasGained old.board.now old.brought new.board.now new.brought };
 
     fn load_kernel(&mut self, caller: Ident, kernel: KernelNo) -> Result<Ident, Refused> {
         let answer = self.board.load_kernel(0, caller, kernel);
@@ -99,7 +99,7 @@ impl Port for Alone<'_> {
     fn complete(&mut self, caller: Ident, thread: Ident) -> Result<(), Refused> {
         let answer = self.board.complete(0, caller, thread);
         self.heard = self.heard.with_call(PortCall::Complete(thread), &answer);
-        self.count_brought(answer);
+        self.brought = brought_after(answer, self.brought);
         answer
     }
 
@@ -108,7 +108,7 @@ impl Port for Alone<'_> {
         self.heard = self
             .heard
             .with_call(PortCall::ConfirmFault(thread), &answer);
-        self.count_brought(answer);
+        self.brought = brought_after(answer, self.brought);
         answer
     }
 
@@ -118,7 +118,9 @@ impl Port for Alone<'_> {
         status
     }
 
-    ghost stays = { λ port. (refl, goes_nowhere 0 port.board.now, gains_nothing port.board.now port.brought) };
+    ghost stays = { λ port. (refl, called_nowhere port.board.now, gains_nothing port.board.now port.brought) };
 
-    ghost goes_on = { λ first then last before after. (after.0 ∙ before.0, goes_further 0 first.board.now then.board.now last.board.now before.1 after.1, gains_more first.board.now then.board.now last.board.now first.brought then.brought last.brought before.2 after.2) };
+    ghost goes_on = { λ first then last before after. (after.0 ∙ before.0, called_further first.board.now then.board.now last.board.now before.1 after.1, gains_more first.board.now then.board.now last.board.now first.brought then.brought last.brought before.2 after.2) };
+
+    ghost tells = { λ old new follows. follows.1 };
 }
