@@ -5,3 +5,4 @@ pub mod Loading
 pub mod Plain
 pub mod Calling
 pub mod Telling
+pub mod Filling

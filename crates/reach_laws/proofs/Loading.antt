@@ -266,6 +266,11 @@ module _ (b c : Recorded) (o : Known) (owned : IsOwned b o) where
             row_asked
             ∙ ap (λ (x : Option Refused). option_or x (option_or (beyond_rights (contents_of b) row) (receivers_absent (contents_of b) row))) (sym (absent_tested (contents_of b) one_now (name.Mapping space vpn) (Some ident) live tt))
 
+        -- one that is fit, no message row and not loaded isn't refused
+        pub free_row : is_fit_row (state_of b.machine) row ≡ true → row.flags.m ≡ false → (IsNameResident (residents_of (contents_of b)) (name.Mapping space vpn) → ⊥) → for_row ≡ None
+        unfolding shown
+        free_row fit plain never = row_asked ∙ skip _ _ _ (absent (contents_of b) (name.Mapping space vpn) never) (skip _ _ _ (fit_passes (contents_of b) row fit) (plain_passes (contents_of b) row plain))
+
         -- one that is fit, and no message row, is loaded, or memory is wanted
         pub row_got : is_fit_row (state_of b.machine) row ≡ true → row.flags.m ≡ false → (r : Result Ident Refused) → IsLoadAnswer for_row (name.Mapping space vpn) b c r → IsGot c (name.Mapping space vpn) (loaded_as r)
         unfolding shown

@@ -8,6 +8,7 @@ mod calls;
 mod loads;
 mod owned;
 mod refusals;
+mod rows;
 mod stays;
 
 pub use calls::{
@@ -20,4 +21,5 @@ pub use owned::{
     owners_of_a_board_stay_owners, what_is_reached_stays, what_owners_believe_is_shown,
 };
 pub use refusals::{a_mapped_step_does_not_fault, a_row_is_refused_rightly};
+pub use rows::{a_fillable_page_is_filled, an_unfillable_page_is_told};
 pub use stays::{a_load_keeps_what_is_reached, a_plain_row_stays};
