@@ -1,6 +1,6 @@
 -- What becomes of pages whose row is to be loaded, and of pages of which nothing is.
 use Rattle.std.proofs.Common.{◌≡◌, ◌≢◌, ◌⊎◌, ℕ, true, false, List, Option, Some, None, refl, sym, ap, ◌∙◌, subst, inl, inr}
-use Rattle.std.specs.Prelude.{◌/◌, Result, Ok, Err}
+use Rattle.std.specs.Prelude.{◌/◌, Result, Ok, Err, IfErr, IfOk}
 use Rattle.std.specs.Option.{option_map}
 use Rattle.std.proofs.lemmas.Option.{same_Some}
 use Rattle.cache_ident.specs.declared.idents.Ident.{Ident}
@@ -9,7 +9,7 @@ use Rattle.cache_ident.specs.declared.names.Name.TheVariants as name
 use Rattle.cache_ident.specs.declared.names.SpaceNo.{SpaceNo}
 use Rattle.cache_ident.specs.declared.names.ThreadNo.{ThreadNo}
 use Rattle.cache_ident.specs.declared.names.Vpn.{Vpn}
-use Rattle.cache_ident.specs.Residents.{Resident, IsNameResident}
+use Rattle.cache_ident.specs.Residents.{Resident, IsNameResident, IsResident}
 use Rattle.phys_groups.specs.declared.rows.Row.{Row}
 use Rattle.phys_groups.specs.Translation.{row_of}
 use Rattle.flat_state.specs.State.{FlatState}
@@ -18,32 +18,38 @@ use Rattle.board_core.specs.desc_stores.specs.Contents.{residents_of}
 use Rattle.board_core.specs.board_ops.specs.declared.refusals.Refused.{Refused}
 use Rattle.board_core.specs.board_ops.specs.declared.refusals.Refused.TheVariants as why
 use Rattle.board_core.specs.cached_machine.specs.Cached.{state_of}
+use Rattle.board_core.specs.Answers.{IsRefused}
 use Rattle.board_core.specs.Core.{contents_of, IsSound, Recorded}
 use Rattle.board_core.specs.Growth.{IsRoomMade}
 use Rattle.board_core.proofs.RoomLaws.{same_residents}
+use Rattle.board_checks.specs.Identifiers.{space_as}
 use Rattle.board_checks.specs.Refusals.{refusal_of_load_mapping}
 use Rattle.board_loads.specs.Loads.{IsLoadedAs}
 use Rattle.board_loads.proofs.GoneLaws.{new_cases}
 use Rattle.answer_laws.specs.Given.{IsGiven}
 use Rattle.owners.specs.Known.{ident_of, Known}
-use Rattle.reach_laws.specs.Filling.{HasUnfitRow, IsFillable, IsNothingToLoad, IsUnfillable}
+use Rattle.reach_laws.specs.Filling.{HasUnfitRow, IsElse, IsFillable, IsNothingToLoad, IsUnfillable}
 use Rattle.reach_laws.specs.Reaching.{IsGot, IsLoadAnswer, IsOwned, IsPlainLoaded, IsReached}
 use Rattle.reach_laws.proofs.Keeping.{was_absent}
 use Rattle.reach_laws.proofs.Loading.{free_row, loaded_row, none_told, receiver_told, unfit_row}
-use Rattle.reach_laws.proofs.Telling.{loaded_fit, told_absent, told_loaded, told_unfit}
+use Rattle.reach_laws.proofs.Telling.{loaded_fit, space_noted, told_absent, told_loaded, told_message, told_unfit}
 
 -- ---- what isn't loaded
 
-absent_still : (old new : Recorded) → IsRoomMade old new → (m : Name) → (IsNameResident (residents_of (contents_of old)) m → ⊥) → IsNameResident (residents_of (contents_of new)) m → ⊥
+pub absent_still : (old new : Recorded) → IsRoomMade old new → (m : Name) → (IsNameResident (residents_of (contents_of old)) m → ⊥) → IsNameResident (residents_of (contents_of new)) m → ⊥
 absent_still old new room m absent r = absent (subst (λ (rs : List Resident). IsNameResident rs m) (same_residents old new room) r)
 
 -- a load brings its own name alone
-absent_kept : (cpu : ℕ) (n : Name) (ident : Ident) (old new : Recorded) → IsSound old → IsLoadedAs cpu n ident old new → (m : Name) → m ≢ n → (IsNameResident (residents_of (contents_of old)) m → ⊥) → IsNameResident (residents_of (contents_of new)) m → ⊥
+pub absent_kept : (cpu : ℕ) (n : Name) (ident : Ident) (old new : Recorded) → IsSound old → IsLoadedAs cpu n ident old new → (m : Name) → m ≢ n → (IsNameResident (residents_of (contents_of old)) m → ⊥) → IsNameResident (residents_of (contents_of new)) m → ⊥
 absent_kept cpu n ident old new sound load m apart absent r =
     elim (new_cases old.machine.held.caps (contents_of old) sound.tables.0 sound.tables.1.whole (contents_of new) n load.keep _ new.machine.held.gone ident load.load r.0 r.1) [
       | inl before ↦ absent (r.0, before, r.2)
       | inr its ↦ apart (sym r.2 ∙ its)
     ]
+
+pub absent_after : (refusal : Option Refused) (n : Name) (old new : Recorded) → IsSound old → (m : Name) → m ≢ n → (IsNameResident (residents_of (contents_of old)) m → ⊥) → (answer : Result Ident Refused) → IsLoadAnswer refusal n old new answer → IsNameResident (residents_of (contents_of new)) m → ⊥
+absent_after refusal n old new sound m apart absent (Ok ident) a = absent_kept 0 n ident old new sound a.made m apart absent
+absent_after refusal n old new sound m apart absent (Err why) a = absent_still old new a.refused.only m absent
 
 -- ---- what stays to be loaded, and what doesn't
 
@@ -103,6 +109,35 @@ module _ (b : Recorded) (o : Known) (owned : IsOwned b o) (caller parent : Ident
       absurd (cc)
   something_loads is _ tells nothing = absurd nothing
 
+  something_else : IsFillable b space vpn → (w : Refused) → refusal_of_load_mapping (contents_of b) caller parent vpn receiver ≡ Some w → IsElse w
+  something_else is (why.AlreadyLoaded ident) tells = something_loads is (why.AlreadyLoaded ident) tells tt
+  something_else is (why.NotDeclared n) tells = something_loads is (why.NotDeclared n) tells tt
+  something_else is (why.Rights frame group) tells = something_loads is (why.Rights frame group) tells tt
+  something_else is (why.ReceiversAbsent other page) tells =
+      let message = told_message b o owned caller parent space noted vpn receiver other page tells in
+      let same : message.0 ≡ is.row = same_Some message.0 is.row (sym message.1 ∙ is.here) in
+      let clash : true ≡ false = sym message.2 ∙ ap (λ (x : Row). x.flags.m) same ∙ is.plain in
+      absurd (cc)
+  something_else is _ tells = tt
+
+  -- so it is loaded, or is to be loaded still
+  module _ (c : Recorded) (r : Result Ident Refused) (refused : IfErr r (IsRefused (refusal_of_load_mapping (contents_of b) caller parent vpn receiver) b c))
+      (made : IfOk r (λ ident. (other : SpaceNo) × (space_as (contents_of b) parent ≡ Some other) × IsLoadedAs 0 (name.Mapping other vpn) ident b c)) where
+    pub noted_loads : (ident : Ident) → r ≡ Ok ident → IsResident (residents_of (contents_of c)) ident (name.Mapping space vpn)
+    noted_loads ident is =
+        let m = subst (λ (x : Result Ident Refused). IfOk x (λ i. (other : SpaceNo) × (space_as (contents_of b) parent ≡ Some other) × IsLoadedAs 0 (name.Mapping other vpn) i b c)) is made in
+        subst (λ (x : SpaceNo). IsResident (residents_of (contents_of c)) ident (name.Mapping x vpn)) (space_noted b o owned space parent noted m.0 m.1) m.2.there
+
+    pub noted_waits : IsFillable b space vpn → (w : Refused) → r ≡ Err w → IsFillable c space vpn × IsElse w
+    noted_waits fillable w is =
+        let so = subst (λ (x : Result Ident Refused). IfErr x (IsRefused (refusal_of_load_mapping (contents_of b) caller parent vpn receiver) b c)) is refused in (
+          fillable_still b c so.only space vpn fillable,
+          elim so.why [
+            | inl wants ↦ subst IsElse (sym wants) tt
+            | inr tells ↦ something_else fillable w tells
+          ],
+        )
+
 -- ---- what is asked for by what is reached
 
 module _ (b c : Recorded) (o : Known) (owned : IsOwned b o) (space : SpaceNo) (reached : IsReached b o space) (vpn : Vpn) (receiver : Option Ident) (named : Option ThreadNo) (given : IsGiven (contents_of b) receiver named) where
@@ -135,10 +170,22 @@ module _ (b c : Recorded) (o : Known) (owned : IsOwned b o) (space : SpaceNo) (r
   pub another_told : (other : IsAnother) (r : Result Ident Refused) → IsLoadAnswer asked (name.Mapping space vpn) b c r
       → (w : Refused) × (r ≡ Err w) × ((w ≡ why.NoMemory) ⊎ (w ≡ why.WrongParent (option_map name.Thread named) (option_map name.Thread other.row.receiver)))
   another_told other (Ok ident) a = absurd (let clash : None ≡ Some (why.WrongParent (option_map name.Thread named) (option_map name.Thread other.row.receiver)) = sym a.done ∙ other.told in cc)
-  another_told other (Err w) a = (w, refl, elim (answered w a) [
-    | inl wants ↦ inl wants
-    | inr tells ↦ inr (same_Some w (why.WrongParent (option_map name.Thread named) (option_map name.Thread other.row.receiver)) (sym tells ∙ other.told))
-  ])
+  another_told other (Err w) a = (
+    w,
+    refl,
+    elim (answered w a) [
+      | inl wants ↦ inl wants
+      | inr tells ↦ inr (same_Some w (why.WrongParent (option_map name.Thread named) (option_map name.Thread other.row.receiver)) (sym tells ∙ other.told))
+    ],
+  )
+
+  -- a receiver that isn't the row's is told so
+  pub another_asked : (row : Row) → row_of (state_of b.machine).rows space vpn.0 ≡ Some row → (named ≡ row.receiver → ⊥) → (r : Result Ident Refused) → IsLoadAnswer asked (name.Mapping space vpn) b c r
+      → (w : Refused) × (r ≡ Err w) × ((w ≡ why.NoMemory) ⊎ (w ≡ why.WrongParent (option_map name.Thread named) (option_map name.Thread row.receiver)))
+  another_asked row here apart r a = elim (receiver_told b c o owned space reached vpn receiver named given row here) [
+    | inl right ↦ absurd (apart right)
+    | inr tells ↦ another_told (record { row = row; here = here; told = tells }) r a
+  ]
 
   module _ (right : IsRight) where
     -- what is to be loaded is loaded, or memory is wanted
@@ -162,8 +209,11 @@ module _ (b c : Recorded) (o : Known) (owned : IsOwned b o) (space : SpaceNo) (r
     pub nothing_told : IsUnfillable b space vpn → (r : Result Ident Refused) → IsLoadAnswer asked (name.Mapping space vpn) b c r → (w : Refused) × (r ≡ Err w) × ((w ≡ why.NoMemory) ⊎ IsNothingToLoad w)
     nothing_told is (Ok ident) a = absurd (nothing_loads 0 b c o owned space vpn ident is a.made)
     nothing_told is (Err w) a =
-        let told = nothing_asked is in
-        (w, refl, elim (answered w a) [
-          | inl wants ↦ inl wants
-          | inr tells ↦ inr (subst IsNothingToLoad (same_Some told.0 w (sym told.1 ∙ tells)) told.2)
-        ])
+        let told = nothing_asked is in (
+          w,
+          refl,
+          elim (answered w a) [
+            | inl wants ↦ inl wants
+            | inr tells ↦ inr (subst IsNothingToLoad (same_Some told.0 w (sym told.1 ∙ tells)) told.2)
+          ],
+        )

@@ -46,7 +46,7 @@ use Rattle.board_checks.proofs.IdentifierLemmas.{item_resident, thread_is}
 use Rattle.board_loads.specs.Loads.{IsLoadedAs}
 use Rattle.board_threads.specs.Refusals.{mapped_by, not_faulting, refusal_of_ending, refusal_of_fault, refusal_of_next, row_absent}
 use Rattle.answer_laws.proofs.CallAnswers.{found}
-use Rattle.answer_laws.proofs.LoadAnswers.{told}
+use Rattle.answer_laws.proofs.LoadAnswers.{plain_passes, told}
 use Rattle.owners.specs.Known.{ident_of, Known}
 use Rattle.owner_laws.proofs.Naming.{names_it}
 use Rattle.owner_laws.proofs.Receivers.{map_never}
@@ -65,6 +65,12 @@ record IsNoIdent (w : Refused) : Type 0 where
   unknown : (i : Ident) → why.Unknown i ≡ w → ⊥
   stale : (i : Ident) (at : ℕ) → why.Stale i at ≡ w → ⊥
   of_kind : (i : Ident) → why.WrongKind i ≡ w → ⊥
+
+-- .. nor that the caller isn't the owner, or another receiver was given
+record IsOfRow (w : Refused) : Type 0 where
+  idents : IsNoIdent w
+  owner : (x y : KernelNo) → why.NotOwner x y ≡ w → ⊥
+  receiver : (x y : Option Name) → why.WrongParent x y ≡ w → ⊥
 
 module _ (c : Contents) (w : Refused) where
   gone_never : IsNoIdent w → (i : Ident) (s : Standing) → gone_by i s ≡ Some w → ⊥
@@ -152,31 +158,40 @@ module _ (b : Recorded) (o : Known) (owned : IsOwned b o) where
     -- the tests of identifiers are passed
     in_space : (w : Refused) → IsNoIdent w → refusal_of_load_mapping c caller parent vpn receiver ≡ Some w → refusal_in_space c caller receiver vpn space ≡ Some w
     in_space w none tells =
-        let kernel = first_passes _ _ w (never_a c w none kind.Kernel caller) tells in
-        let live = first_passes _ _ w (never_a c w none kind.Space parent) kernel.1 in
-        let thread = first_passes _ _ w (never_receiver c w none receiver) live.1 in
+        let inside : Option Refused = option_and_then (refusal_in_space c caller receiver vpn) (space_as c parent) in
+        let kernel = first_passes (not_a kind.Kernel c caller) (option_or (not_a kind.Space c parent) (option_or (not_a_receiver c receiver) inside)) w (never_a c w none kind.Kernel caller) tells in
+        let live = first_passes (not_a kind.Space c parent) (option_or (not_a_receiver c receiver) inside) w (never_a c w none kind.Space parent) kernel.1 in
+        let thread = first_passes (not_a_receiver c receiver) inside w (never_receiver c w none receiver) live.1 in
         let its : space_as c parent ≡ Some space = stands_for b o parent space owned.sound owned.are noted live.0 in
         ap (option_and_then (refusal_in_space c caller receiver vpn)) (sym its) ∙ thread.1
 
-    -- .. and that of what stands: there is a row
-    for_row : (w : Refused) → IsNoIdent w → ((n : Name) → why.NotDeclared n ≡ w → ⊥) → refusal_of_load_mapping c caller parent vpn receiver ≡ Some w
-        → (row : Row) × (row_of (seen c).rows space vpn.0 ≡ Some row) × (refusal_of_row c caller receiver (name.Mapping space vpn) row ≡ Some w)
-    for_row w none apart tells =
-        let there = first_passes _ _ w (declared_never c w apart (name.Mapping space vpn)) (in_space w none tells) in
+    abbrev n : Name
+    n = name.Mapping space vpn
+
+    -- the tests of a row that stands are passed, but for those of the row itself
+    abbrev of_itself : Row → Option Refused
+    of_itself row = option_or (already_loaded c n) (option_or (beyond_rights c row) (receivers_absent c row))
+
+    for_itself : (w : Refused) → IsOfRow w → (row : Row) → refusal_of_row c caller receiver n row ≡ Some w → of_itself row ≡ Some w
+    for_itself w late row tells =
+        let mine = first_passes (not_owned c caller n) (option_or (wrong_receiver c receiver row) (of_itself row)) w (owner_never c w late.owner caller n) tells in
+        (first_passes (wrong_receiver c receiver row) (of_itself row) w (receiver_never c w late.receiver receiver row) mine.1).1
+
+    -- where a row is told of there is one
+    for_row : (w : Refused) → IsOfRow w → ((m : Name) → why.NotDeclared m ≡ w → ⊥) → refusal_of_load_mapping c caller parent vpn receiver ≡ Some w → (row : Row) × (row_of (seen c).rows space vpn.0 ≡ Some row) × (of_itself row ≡ Some w)
+    for_row w late apart tells =
+        let there = first_passes (not_declared c n) (option_and_then (refusal_of_row c caller receiver n) (row_of (seen c).rows space vpn.0)) w (declared_never c w apart n) (in_space w late.idents tells) in
         by (row_of (seen c).rows space vpn.0) refl there.1
       where
-        by : (x : Option Row) → row_of (seen c).rows space vpn.0 ≡ x → option_and_then (refusal_of_row c caller receiver (name.Mapping space vpn)) x ≡ Some w → (row : Row) × (row_of (seen c).rows space vpn.0 ≡ Some row) × (refusal_of_row c caller receiver (name.Mapping space vpn) row ≡ Some w)
+        by : (x : Option Row) → row_of (seen c).rows space vpn.0 ≡ x → option_and_then (refusal_of_row c caller receiver n) x ≡ Some w → (row : Row) × (row_of (seen c).rows space vpn.0 ≡ Some row) × (of_itself row ≡ Some w)
         by None is tells = absurd (cc)
-        by (Some row) is tells = (row, is, tells)
+        by (Some row) is tells = (row, is, for_itself w late row tells)
 
-    pub told_loaded : (ident : Ident) → refusal_of_load_mapping c caller parent vpn receiver ≡ Some (why.AlreadyLoaded ident) → IsResident (residents_of c) ident (name.Mapping space vpn)
+    pub told_loaded : (ident : Ident) → refusal_of_load_mapping c caller parent vpn receiver ≡ Some (why.AlreadyLoaded ident) → IsResident (residents_of c) ident n
     told_loaded ident tells =
         let w = why.AlreadyLoaded ident in
-        let n = name.Mapping space vpn in
-        let row = for_row w (record { unknown = λ i is. absurd (cc); stale = λ i at is. absurd (cc); of_kind = λ i is. absurd (cc) }) (λ m is. absurd (cc)) tells in
-        let mine = first_passes _ _ w (owner_never c w (λ x y is. absurd (cc)) caller n) row.2 in
-        let its = first_passes _ _ w (receiver_never c w (λ x y is. absurd (cc)) receiver row.0) mine.1 in
-        elim (or_cases (already_loaded c n) (option_or (beyond_rights c row.0) (receivers_absent c row.0)) w its.1) [
+        let row = for_row w (record { idents = record { unknown = λ i is. absurd (cc); stale = λ i at is. absurd (cc); of_kind = λ i is. absurd (cc) }; owner = λ x y is. absurd (cc); receiver = λ x y is. absurd (cc) }) (λ m is. absurd (cc)) tells in
+        elim (or_cases (already_loaded c n) (option_or (beyond_rights c row.0) (receivers_absent c row.0)) w row.2) [
           | inl loaded ↦
               let t = told c n w loaded in
               let same : why.AlreadyLoaded ident ≡ why.AlreadyLoaded t.0 = t.1 in
@@ -189,11 +204,8 @@ module _ (b : Recorded) (o : Known) (owned : IsOwned b o) where
     unfolding shown beyond_rights
     told_unfit frame group tells =
         let w = why.Rights frame group in
-        let n = name.Mapping space vpn in
-        let row = for_row w (record { unknown = λ i is. absurd (cc); stale = λ i at is. absurd (cc); of_kind = λ i is. absurd (cc) }) (λ m is. absurd (cc)) tells in
-        let mine = first_passes _ _ w (owner_never c w (λ x y is. absurd (cc)) caller n) row.2 in
-        let its = first_passes _ _ w (receiver_never c w (λ x y is. absurd (cc)) receiver row.0) mine.1 in
-        let fresh = first_passes _ _ w (loaded_never c w (λ i is. absurd (cc)) n) its.1 in
+        let row = for_row w (record { idents = record { unknown = λ i is. absurd (cc); stale = λ i at is. absurd (cc); of_kind = λ i is. absurd (cc) }; owner = λ x y is. absurd (cc); receiver = λ x y is. absurd (cc) }) (λ m is. absurd (cc)) tells in
+        let fresh = first_passes (already_loaded c n) (option_or (beyond_rights c row.0) (receivers_absent c row.0)) w (loaded_never c w (λ i is. absurd (cc)) n) row.2 in
         elim (or_cases (beyond_rights c row.0) (receivers_absent c row.0) w fresh.1) [
           | inl unfit ↦ (row.0, row.1, fails (is_fit_row (seen c) row.0) (why.Rights row.0.frame (row.0.frame.0 / 128)) w unfit)
           | inr rest ↦ absurd (absent_never c w (λ r is. absurd (cc)) row.0 rest.1)
@@ -203,23 +215,35 @@ module _ (b : Recorded) (o : Known) (owned : IsOwned b o) where
         fails true x w is = absurd (cc)
         fails false x w is = refl
 
+    -- a message row alone wants signal rows
+    pub told_message : (other : SpaceNo) (page : Vpn) → refusal_of_load_mapping c caller parent vpn receiver ≡ Some (why.ReceiversAbsent other page) → (row : Row) × (row_of (state_of b.machine).rows space vpn.0 ≡ Some row) × (row.flags.m ≡ true)
+    unfolding shown
+    told_message other page tells =
+        let w = why.ReceiversAbsent other page in
+        let row = for_row w (record { idents = record { unknown = λ i is. absurd (cc); stale = λ i at is. absurd (cc); of_kind = λ i is. absurd (cc) }; owner = λ x y is. absurd (cc); receiver = λ x y is. absurd (cc) }) (λ m is. absurd (cc)) tells in
+        let fresh = first_passes (already_loaded c n) (option_or (beyond_rights c row.0) (receivers_absent c row.0)) w (loaded_never c w (λ i is. absurd (cc)) n) row.2 in
+        let fit = first_passes (beyond_rights c row.0) (receivers_absent c row.0) w (rights_never c w (λ r is. absurd (cc)) row.0) fresh.1 in
+        (row.0, row.1, is_message row.0 fit.1)
+      where
+        by : (row : Row) (m : Bool) → row.flags.m ≡ m → receivers_absent c row ≡ Some (why.ReceiversAbsent other page) → row.flags.m ≡ true
+        by row true is tells = is
+        by row false is tells = absurd (let clash : None ≡ Some (why.ReceiversAbsent other page) = sym (plain_passes c row is) ∙ tells in cc)
+
+        is_message : (row : Row) → receivers_absent c row ≡ Some (why.ReceiversAbsent other page) → row.flags.m ≡ true
+        is_message row tells = by row row.flags.m refl tells
+
     pub told_absent : (m : Name) → refusal_of_load_mapping c caller parent vpn receiver ≡ Some (why.NotDeclared m) → row_of (state_of b.machine).rows space vpn.0 ≡ None
     unfolding shown not_declared stands
-    told_absent m tells =
-        let w = why.NotDeclared m in
-        let inside = in_space w (record { unknown = λ i is. absurd (cc); stale = λ i at is. absurd (cc); of_kind = λ i is. absurd (cc) }) tells in
-        by (row_of (seen c).rows space vpn.0) refl inside
+    told_absent m tells = by (row_of (seen c).rows space vpn.0) refl (in_space (why.NotDeclared m) late.idents tells)
       where
-        n : Name
-        n = name.Mapping space vpn
+        late : IsOfRow (why.NotDeclared m)
+        late = record { idents = record { unknown = λ i is. absurd (cc); stale = λ i at is. absurd (cc); of_kind = λ i is. absurd (cc) }; owner = λ x y is. absurd (cc); receiver = λ x y is. absurd (cc) }
 
         never : (row : Row) → refusal_of_row c caller receiver n row ≡ Some (why.NotDeclared m) → ⊥
         never row is =
-            let w = why.NotDeclared m in
-            let mine = first_passes _ _ w (owner_never c w (λ x y same. absurd (cc)) caller n) is in
-            let its = first_passes _ _ w (receiver_never c w (λ x y same. absurd (cc)) receiver row) mine.1 in
-            let fresh = first_passes _ _ w (loaded_never c w (λ i same. absurd (cc)) n) its.1 in
-            or_never (beyond_rights c row) (receivers_absent c row) w (rights_never c w (λ r same. absurd (cc)) row) (absent_never c w (λ r same. absurd (cc)) row) fresh.1
+            let rest = for_itself (why.NotDeclared m) late row is in
+            let fresh = first_passes (already_loaded c n) (option_or (beyond_rights c row) (receivers_absent c row)) (why.NotDeclared m) (loaded_never c (why.NotDeclared m) (λ i same. absurd (cc)) n) rest in
+            or_never (beyond_rights c row) (receivers_absent c row) (why.NotDeclared m) (rights_never c (why.NotDeclared m) (λ r same. absurd (cc)) row) (absent_never c (why.NotDeclared m) (λ r same. absurd (cc)) row) fresh.1
 
         by : (x : Option Row) → row_of (seen c).rows space vpn.0 ≡ x → refusal_in_space c caller receiver vpn space ≡ Some (why.NotDeclared m) → x ≡ None
         by None is inside = refl

@@ -10,7 +10,7 @@ use Rattle.flat_state.specs.State.{FlatState}
 use Rattle.flat_state.specs.Translation.{is_fit_row}
 use Rattle.board_core.specs.desc_stores.specs.Contents.{residents_of}
 use Rattle.board_core.specs.board_ops.specs.declared.refusals.Refused.{Refused}
-use Rattle.board_core.specs.board_ops.specs.declared.refusals.Refused.TheVariants.{AlreadyLoaded, NotDeclared, Rights}
+use Rattle.board_core.specs.board_ops.specs.declared.refusals.Refused.TheVariants.{AlreadyLoaded, NotDeclared, ReceiversAbsent, Rights}
 use Rattle.board_core.specs.cached_machine.specs.Cached.{state_of}
 use Rattle.board_core.specs.Core.{contents_of, Recorded}
 use Rattle.reach_laws.specs.Reaching.{IsPlainLoaded}
@@ -39,3 +39,11 @@ IsNothingToLoad (AlreadyLoaded ident) = Unit {0}
 IsNothingToLoad (NotDeclared name) = Unit {0}
 IsNothingToLoad (Rights frame group) = Unit {0}
 IsNothingToLoad _ = ⊥
+
+-- .. or for another reason than that, or that signal rows are wanted
+abbrev pub IsElse : Refused → Type 0
+IsElse (AlreadyLoaded ident) = ⊥
+IsElse (NotDeclared name) = ⊥
+IsElse (Rights frame group) = ⊥
+IsElse (ReceiversAbsent space vpn) = ⊥
+IsElse _ = Unit {0}
