@@ -1,6 +1,6 @@
 -- What a load keeps, and what a refusal does.
 use Rattle.std.proofs.Common.{◌≡◌, ℕ, List, [], ◌∷◌, ◌++◌, Contains, Option, Some, count_by, slice_get, refl, sym, ap, ◌∙◌, subst, arith}
-use Rattle.std.specs.Prelude.{◌==◌, ◌+◌, option_to_list, Ok, Err, Result, map}
+use Rattle.std.specs.Prelude.{◌==◌, option_to_list, Ok, Err, Result, map}
 use Rattle.std.specs.Option.{option_map}
 use Rattle.std.proofs.lemmas.Bool.{and_parts, eqb-true}
 use Rattle.cache_ident.proofs.Numbers.{same_space}
