@@ -39,7 +39,7 @@ use Rattle.owner_laws.proofs.Tests.{first_passes, not_a_never, not_a_receiver_ne
 
 -- ---- where the receiver is told
 
-map_never : {A : Type 0} (f : A → Refused) (o : Option A) (w : Refused) → ((a : A) → f a ≡ w → ⊥) → option_map f o ≡ Some w → ⊥
+pub map_never : {A : Type 0} (f : A → Refused) (o : Option A) (w : Refused) → ((a : A) → f a ≡ w → ⊥) → option_map f o ≡ Some w → ⊥
 map_never f None w never told = absurd (cc)
 map_never f (Some a) w never told = never a (same_Some (f a) w told)
 

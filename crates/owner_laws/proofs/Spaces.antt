@@ -48,7 +48,7 @@ same_rows b sound = ap (λ (s : FlatState). s.rows) (sym (state_told b.journal.e
 
 -- ---- identifiers that pass
 
-live_of : (i : Ident) (s : Standing) → gone_by i s ≡ None → s ≡ Live
+pub live_of : (i : Ident) (s : Standing) → gone_by i s ≡ None → s ≡ Live
 live_of i Live passes = refl
 live_of i (Left at) passes = absurd (cc)
 live_of i Never passes = absurd (cc)

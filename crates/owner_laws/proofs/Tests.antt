@@ -62,15 +62,15 @@ pub first_passes : (a b : Option Refused) (w : Refused) → (a ≡ Some w → �
 first_passes None b w never told = (refl, told)
 first_passes (Some x) b w never told = absurd (never told)
 
-if_never : (t : Bool) (x w : Refused) → (x ≡ w → ⊥) → (if t then None else Some x) ≡ Some w → ⊥
+pub if_never : (t : Bool) (x w : Refused) → (x ≡ w → ⊥) → (if t then None else Some x) ≡ Some w → ⊥
 if_never true x w apart told = absurd (cc)
 if_never false x w apart told = apart (same_Some x w told)
 
-or_never : (a b : Option Refused) (w : Refused) → (a ≡ Some w → ⊥) → (b ≡ Some w → ⊥) → option_or a b ≡ Some w → ⊥
+pub or_never : (a b : Option Refused) (w : Refused) → (a ≡ Some w → ⊥) → (b ≡ Some w → ⊥) → option_or a b ≡ Some w → ⊥
 or_never None b w first second told = second told
 or_never (Some x) b w first second told = first told
 
-and_then_never : {A : Type 0} (f : A → Option Refused) (o : Option A) (w : Refused) → ((a : A) → f a ≡ Some w → ⊥) → option_and_then f o ≡ Some w → ⊥
+pub and_then_never : {A : Type 0} (f : A → Option Refused) (o : Option A) (w : Refused) → ((a : A) → f a ≡ Some w → ⊥) → option_and_then f o ≡ Some w → ⊥
 and_then_never f None w never told = absurd (cc)
 and_then_never f (Some a) w never told = never a told
 

@@ -1,4 +1,5 @@
 pub use Rattle.cache_board
 pub mod Boards
+pub mod Brought
 pub mod Heards
 pub mod Following

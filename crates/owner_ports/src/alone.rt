@@ -2,19 +2,22 @@
 
 ghost use Rattle.std.specs.Prelude.{◌≡◌, refl, None, Some};
 ghost use Rattle.std.proofs.Common.{◌∙◌};
-ghost use Rattle.cache_board.specs.board_core.specs.Going.{GoesOn};
-ghost use Rattle.owner_ports.specs.Following.{goes_further, goes_nowhere};
+ghost use Rattle.owner_ports.specs.Brought.{brought_by, HasGained, IsCalledOn};
+ghost use Rattle.owner_ports.specs.Following.{called_further, called_nowhere, gains_more, gains_nothing};
 
 use crate::port::{Heard, Port, PortCall};
 use cache_board::{Board, Refused};
 use cache_ident::{Ident, KernelNo, SpaceNo, ThreadNo, Vpn};
 use rv32_exec::Status;
 
-/// A board, as processor 0 calls it. It tells its board, and of it comes the same reference, whose board went on.
+/// A board, as processor 0 calls it. It tells its board, and of it comes the same reference, whose board went on. What is left of the
+/// run falls with each call that brings a step or a completion, and rises with none.
 #[derive(Drop)]
 pub struct Alone<'a> {
     pub board: &'a mut Board,
     pub heard: Heard,
+    /// How many of its calls brought a step or a completion. It stays at its last value.
+    pub brought: u64,
 }
 
 impl<'a> Alone<'a> {
@@ -23,11 +26,23 @@ impl<'a> Alone<'a> {
         ensures same_reference { result.board.ghost_name ≡ board.entry.ghost_name }
         ensures board { result.board.now ≡ board.old }
         ensures heard { result.heard ≡ record { calls = 0; said = None; asks = 0; told = None } }
+        ensures brought { result.brought ≡ 0 }
     {
         Alone {
             board,
             heard: Heard::nothing(),
+            brought: 0,
         }
+    }
+}
+
+// How many calls brought a step or a completion, once one more was answered: one that was refused brings none.
+fn brought_after(answer: Result<(), Refused>, brought: u64) -> u64
+    ensures { result ≡ brought_by answer brought }
+{
+    match answer {
+        Ok(()) => brought.saturating_add(1),
+        Err(_) => brought,
     }
 }
 
@@ -36,7 +51,7 @@ impl Port for Alone<'_> {
 
     ghost heard = { λ port. port.heard };
 
-    ghost follows = { λ old new. (new.board.ghost_name ≡ old.board.ghost_name) × GoesOn 0 old.board.now new.board.now };
+    ghost follows = { λ old new. (new.board.ghost_name ≡ old.board.ghost_name) × IsCalledOn old.board.now new.board.now × HasGained old.board.now old.brought new.board.now new.brought };
 
     fn load_kernel(&mut self, caller: Ident, kernel: KernelNo) -> Result<Ident, Refused> {
         let answer = self.board.load_kernel(0, caller, kernel);
@@ -84,6 +99,7 @@ impl Port for Alone<'_> {
     fn complete(&mut self, caller: Ident, thread: Ident) -> Result<(), Refused> {
         let answer = self.board.complete(0, caller, thread);
         self.heard = self.heard.with_call(PortCall::Complete(thread), &answer);
+        self.brought = brought_after(answer, self.brought);
         answer
     }
 
@@ -92,6 +108,7 @@ impl Port for Alone<'_> {
         self.heard = self
             .heard
             .with_call(PortCall::ConfirmFault(thread), &answer);
+        self.brought = brought_after(answer, self.brought);
         answer
     }
 
@@ -101,7 +118,9 @@ impl Port for Alone<'_> {
         status
     }
 
-    ghost stays = { λ port. (refl, goes_nowhere 0 port.board.now) };
+    ghost stays = { λ port. (refl, called_nowhere port.board.now, gains_nothing port.board.now port.brought) };
 
-    ghost goes_on = { λ first then last before after. (after.0 ∙ before.0, goes_further 0 first.board.now then.board.now last.board.now before.1 after.1) };
+    ghost goes_on = { λ first then last before after. (after.0 ∙ before.0, called_further first.board.now then.board.now last.board.now before.1 after.1, gains_more first.board.now then.board.now last.board.now first.brought then.brought last.brought before.2 after.2) };
+
+    ghost tells = { λ old new follows. follows.1 };
 }

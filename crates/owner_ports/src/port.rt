@@ -14,6 +14,7 @@ ghost use Rattle.board_loads.specs.Holds.{IsUnloadedAs};
 ghost use Rattle.board_loads.specs.Loads.{IsLoadedAs};
 ghost use Rattle.owner_ports.specs.declared.port.Heard.{Heard};
 ghost use Rattle.owner_ports.specs.Boards.{status_in, IsCall, IsRoomyCall, OnTold};
+ghost use Rattle.owner_ports.specs.Brought.{IsCalledOn};
 ghost use Rattle.owner_ports.specs.Heards.{asked, called};
 
 use cache_board::Refused;
@@ -175,4 +176,7 @@ pub trait Port {
     ghost stays: { (port : Self) → follows port port };
 
     ghost goes_on: { (first then last : Self) → follows first then → follows then last → follows first last };
+
+    // Where it tells its board, that goes on.
+    ghost tells: { (old new : Self) → follows old new → OnTold (board old) (board new) IsCalledOn };
 }

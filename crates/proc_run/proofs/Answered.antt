@@ -7,14 +7,13 @@ use Rattle.due_text.proofs.Inputs.{not_too_long, same_input}
 use Rattle.flat_state.specs.declared.events.Decl.{Decl}
 use Rattle.flat_state.specs.declared.records.Settled.{Settled}
 use Rattle.flat_state.specs.declared.records.Settled.TheVariants as settled
-use Rattle.flat_state.specs.State.{FlatState}
 use Rattle.flat_state.specs.Events.{flat}
 use Rattle.flat_state.specs.Settling.{settled_of}
 use Rattle.scenario_reader.specs.declared.fault.ScenarioFault.{ScenarioFault}
 use Rattle.scenario_reader.specs.declared.fault.ScenarioFault.TheVariants as faults
 use Rattle.scenario_reader.specs.Scenarios.{scenario}
 use Rattle.run_journal.specs.declared.entries.Entry.{Entry}
-use Rattle.run_journal.specs.Entries.{Written, erase, steps_in}
+use Rattle.run_journal.specs.Entries.{erase, steps_in}
 use Rattle.run_words.specs.declared.options.Mode.{Mode}
 use Rattle.run_words.specs.declared.options.Mode.TheVariants.{Run, Journal, Gen, Check}
 use Rattle.run_words.specs.declared.options.Options.{Options}
@@ -27,6 +26,10 @@ use Rattle.check_mode.specs.Answers.{HasLegalJournal}
 use Rattle.check_mode.specs.Parts.{scenario_part}
 use Rattle.check_mode.proofs.Answered.{yes_so, never_no, never_bad, never_faulty}
 use Rattle.seed_scenarios.proofs.Seeded.{is_scenario}
+use Rattle.board_core.specs.cached_machine.specs.Cached.{state_of}
+use Rattle.board_core.specs.Core.{Recorded}
+use Rattle.cache_board.proofs.PastLaws.{shows_flat}
+use Rattle.board_turns.specs.Looks.{settled_on}
 use Rattle.proc_run.specs.Running.{IsRun}
 use Rattle.proc_run.specs.declared.text.Account.{Account}
 use Rattle.proc_run.specs.declared.text.Account.TheVariants as accounts
@@ -45,36 +48,45 @@ pub first_fault : (bs : List ℕ) (e : ScenarioFault) (line rule : ℕ) → e �
 first_fault bs e line rule is (inl none) = absurd (two_faults line rule (sym is ∙ none))
 first_fault bs e line rule is (inr meant) = meant ∙ ap (λ (x : ScenarioFault). Err x) is
 
--- the machine of a run to its end, and its text, are those that are due
-run_of : (account : Account) (limit : ℕ) (ds : List Decl) (bs : List ℕ) (j : List Entry) (s : FlatState) (how : Settled) (steps : ℕ) (text : List ℕ) → IsRun ds j s how steps limit → text ≡ text_of account j s how steps → IsScenario bs ds → IsRunOf account limit bs how j text
-run_of account limit ds bs j s how steps text ran written is_scenario = record {
-  decls = ds;
-  is_scenario = is_scenario;
-  rest = ran.rest;
-  begins = ran.begins;
-  fits = ran.fits;
-  settled_so = ran.status ∙ ap₂ (λ t n. settled_of t n limit) ran.state ran.count;
-  written = written ∙ ap₂ (λ t n. text_of account j t how n) ran.state ran.count;
-}
+-- the board of a run to its end, and its text, are those that are due
+run_of : (account : Account) (limit : ℕ) (ds : List Decl) (bs : List ℕ) (b : Recorded) (how : Settled) (text : List ℕ) → IsRun ds limit b → how ≡ settled_on b → text ≡ text_of account b.journal.entries (state_of b.machine) how b.steps → IsScenario bs ds → IsRunOf account limit bs how b text
+run_of account limit ds bs b how text ran is written is_scenario =
+    let state : state_of b.machine ≡ flat (erase b.journal.entries) = shows_flat b ran.sound in
+    let steps : b.steps ≡ steps_in b.journal.entries = ran.sound.steps in
+    record {
+      decls = ds;
+      is_scenario = is_scenario;
+      rest = ran.rest;
+      begins = ran.begins;
+      legal = ran.sound.told.legal;
+      sound = ran.sound;
+      limit = ran.limit;
+      settled_so = is ∙ (ap₂ (λ t n. settled_of t n b.limit) state steps ∙ ap (λ n. settled_of (flat (erase b.journal.entries)) (steps_in b.journal.entries) n) ran.limit);
+      written = written ∙ ap₂ (λ t n. text_of account b.journal.entries t how n) state steps;
+    }
 
-pub run_is_answer : (account : Account) (limit : ℕ) (ds : List Decl) (bs : List ℕ) (j : Written) (s : FlatState) (how : Settled) (steps : ℕ) (text : List ℕ) → IsRun ds j.entries s how steps limit → text ≡ text_of account j.entries s how steps → IsScenario bs ds → IsRunAnswer account limit bs (status_of how) (kept.Journal j) text
-run_is_answer account limit ds bs j s settled.Done steps text ran written is_scenario = run_of account limit ds bs j.entries s settled.Done steps text ran written is_scenario
-run_is_answer account limit ds bs j s settled.Stalled steps text ran written is_scenario = run_of account limit ds bs j.entries s settled.Stalled steps text ran written is_scenario
-run_is_answer account limit ds bs j s settled.Spent steps text ran written is_scenario = run_of account limit ds bs j.entries s settled.Spent steps text ran written is_scenario
-run_is_answer account limit ds bs j s settled.Running steps text ran written is_scenario = absurd (ran.over refl)
+pub run_is_answer : (account : Account) (limit : ℕ) (ds : List Decl) (bs : List ℕ) (b : Recorded) (how : Settled) (text : List ℕ) → IsRun ds limit b → how ≡ settled_on b → text ≡ text_of account b.journal.entries (state_of b.machine) how b.steps → IsScenario bs ds → IsRunAnswer account limit bs (status_of how) (kept.Board b) text
+run_is_answer account limit ds bs b settled.Done text ran is written is_scenario = run_of account limit ds bs b settled.Done text ran is written is_scenario
+run_is_answer account limit ds bs b settled.Stalled text ran is written is_scenario = run_of account limit ds bs b settled.Stalled text ran is written is_scenario
+run_is_answer account limit ds bs b settled.Spent text ran is written is_scenario = run_of account limit ds bs b settled.Spent text ran is written is_scenario
+run_is_answer account limit ds bs b settled.Running text ran is written is_scenario = absurd (ran.over (sym is))
 
 -- a scenario runs to its end, and any other text is answered by its first fault
 comes_out_of_run : (account : Account) (limit : ℕ) (bs : List ℕ) (status : RunStatus) (k : Kept) (text : List ℕ) → IsRunAnswer account limit bs status k text → ComesOut (scenario bs) status
-comes_out_of_run account limit bs Done (kept.Journal j) text answer = rw answer.is_scenario tt
+comes_out_of_run account limit bs Done (kept.Board b) text answer = rw answer.is_scenario tt
+comes_out_of_run account limit bs Done (kept.Journal j) text answer = absurd answer
 comes_out_of_run account limit bs Done kept.Nothing text answer = absurd answer
-comes_out_of_run account limit bs Stalled (kept.Journal j) text answer = rw answer.is_scenario tt
+comes_out_of_run account limit bs Stalled (kept.Board b) text answer = rw answer.is_scenario tt
+comes_out_of_run account limit bs Stalled (kept.Journal j) text answer = absurd answer
 comes_out_of_run account limit bs Stalled kept.Nothing text answer = absurd answer
-comes_out_of_run account limit bs Spent (kept.Journal j) text answer = rw answer.is_scenario tt
+comes_out_of_run account limit bs Spent (kept.Board b) text answer = rw answer.is_scenario tt
+comes_out_of_run account limit bs Spent (kept.Journal j) text answer = absurd answer
 comes_out_of_run account limit bs Spent kept.Nothing text answer = absurd answer
 comes_out_of_run account limit bs ReadFault k text answer = absurd answer
 comes_out_of_run account limit bs WriteFault k text answer = absurd answer
 comes_out_of_run account limit bs (BadScenario line rule) kept.Nothing text answer = rw answer.0 refl
 comes_out_of_run account limit bs (BadScenario line rule) (kept.Journal j) text answer = absurd answer
+comes_out_of_run account limit bs (BadScenario line rule) (kept.Board b) text answer = absurd answer
 comes_out_of_run account limit bs NoMemory k text answer = absurd answer
 comes_out_of_run account limit bs Usage k text answer = absurd answer
 comes_out_of_run account limit bs TooLong k text answer = absurd answer
@@ -91,15 +103,19 @@ comes_out_of_check limit bs ReadFault k text answer = absurd answer
 comes_out_of_check limit bs WriteFault k text answer = absurd answer
 comes_out_of_check limit bs (BadScenario line rule) kept.Nothing text answer = rw answer.0 refl
 comes_out_of_check limit bs (BadScenario line rule) (kept.Journal j) text answer = absurd answer
+comes_out_of_check limit bs (BadScenario line rule) (kept.Board b) text answer = absurd answer
 comes_out_of_check limit bs NoMemory k text answer = absurd answer
 comes_out_of_check limit bs Usage k text answer = absurd answer
 comes_out_of_check limit bs TooLong k text answer = absurd answer
 comes_out_of_check limit bs (Checked how) (kept.Journal j) text answer = rw answer.1 tt
 comes_out_of_check limit bs (Checked how) kept.Nothing text answer = absurd answer
+comes_out_of_check limit bs (Checked how) (kept.Board b) text answer = absurd answer
 comes_out_of_check limit bs (NotLegal at point) (kept.Journal j) text answer = rw answer.1 tt
 comes_out_of_check limit bs (NotLegal at point) kept.Nothing text answer = absurd answer
+comes_out_of_check limit bs (NotLegal at point) (kept.Board b) text answer = absurd answer
 comes_out_of_check limit bs (BadJournal line) kept.Nothing text answer = rw answer.1 tt
 comes_out_of_check limit bs (BadJournal line) (kept.Journal j) text answer = absurd answer
+comes_out_of_check limit bs (BadJournal line) (kept.Board b) text answer = absurd answer
 
 -- a legal journal is found legal
 legal_answer : (limit : ℕ) (bs : List ℕ) (status : RunStatus) (k : Kept) (text : List ℕ) (ds : List Decl) (j : List Entry) → HasLegalJournal bs ds j → IsCheckAnswer limit bs status k text
@@ -111,15 +127,19 @@ legal_answer limit bs ReadFault k text ds j has answer = absurd answer
 legal_answer limit bs WriteFault k text ds j has answer = absurd answer
 legal_answer limit bs (BadScenario line rule) kept.Nothing text ds j has answer = absurd (never_faulty bs ds j line rule has answer.0)
 legal_answer limit bs (BadScenario line rule) (kept.Journal i) text ds j has answer = absurd answer
+legal_answer limit bs (BadScenario line rule) (kept.Board b) text ds j has answer = absurd answer
 legal_answer limit bs NoMemory k text ds j has answer = tt
 legal_answer limit bs Usage k text ds j has answer = absurd answer
 legal_answer limit bs TooLong k text ds j has answer = absurd answer
 legal_answer limit bs (Checked how) (kept.Journal i) text ds j has answer = yes_so bs ds answer.0 j i.entries limit how text has answer.2
 legal_answer limit bs (Checked how) kept.Nothing text ds j has answer = absurd answer
+legal_answer limit bs (Checked how) (kept.Board b) text ds j has answer = absurd answer
 legal_answer limit bs (NotLegal at point) (kept.Journal i) text ds j has answer = absurd (never_no bs ds answer.0 j i.entries at point text has answer.1 answer.2)
 legal_answer limit bs (NotLegal at point) kept.Nothing text ds j has answer = absurd answer
+legal_answer limit bs (NotLegal at point) (kept.Board b) text ds j has answer = absurd answer
 legal_answer limit bs (BadJournal line) kept.Nothing text ds j has answer = absurd (never_bad bs ds j line text has answer.2)
 legal_answer limit bs (BadJournal line) (kept.Journal i) text ds j has answer = absurd answer
+legal_answer limit bs (BadJournal line) (kept.Board b) text ds j has answer = absurd answer
 
 comes_out : (mode : Mode) (o : Options) (bs : List ℕ) (status : RunStatus) (k : Kept) (text : List ℕ) → IsAnswerIn mode o bs status k text → ComesOutIn mode bs status
 comes_out Run o bs status k text answer = comes_out_of_run accounts.Report o.steps bs status k text answer
@@ -192,6 +212,7 @@ due_parts o bytes left NoMemory k text due = inr due
 due_parts o bytes left Usage k text due = inr due
 due_parts o bytes left TooLong kept.Nothing text due = inl (due.0, due.1)
 due_parts o bytes left TooLong (kept.Journal j) text due = inr due
+due_parts o bytes left TooLong (kept.Board b) text due = inr due
 due_parts o bytes left (Checked how) k text due = inr due
 due_parts o bytes left (NotLegal at point) k text due = inr due
 due_parts o bytes left (BadJournal line) k text due = inr due
@@ -263,6 +284,7 @@ words_parts words bytes left (BadScenario line rule) k text due = inr due
 words_parts words bytes left NoMemory k text due = inr due
 words_parts words bytes left Usage kept.Nothing text due = inl due.0
 words_parts words bytes left Usage (kept.Journal j) text due = inr due
+words_parts words bytes left Usage (kept.Board b) text due = inr due
 words_parts words bytes left TooLong k text due = inr due
 words_parts words bytes left (Checked how) k text due = inr due
 words_parts words bytes left (NotLegal at point) k text due = inr due
@@ -321,6 +343,18 @@ no_fault_in Gen o seed bytes left bs line rule text gen comes answer =
     let both : Ok made.0 ≡ Err (faults.Bad line rule) = sym made.2 ∙ (ap scenario (sym comes.1) ∙ answer.0) in
     cc
 
+-- with a first fault nothing is kept
+only_nothing : (mode : Mode) (o : Options) (bs : List ℕ) (line rule : ℕ) (k : Kept) (text : List ℕ) → (k ≡ kept.Nothing → ⊥) → IsAnswerIn mode o bs (BadScenario line rule) k text → ⊥
+only_nothing mode o bs line rule kept.Nothing text some answer = some refl
+only_nothing Run o bs line rule (kept.Journal j) text some answer = answer
+only_nothing Journal o bs line rule (kept.Journal j) text some answer = answer
+only_nothing Gen o bs line rule (kept.Journal j) text some answer = answer
+only_nothing Check o bs line rule (kept.Journal j) text some answer = answer
+only_nothing Run o bs line rule (kept.Board b) text some answer = answer
+only_nothing Journal o bs line rule (kept.Board b) text some answer = answer
+only_nothing Gen o bs line rule (kept.Board b) text some answer = answer
+only_nothing Check o bs line rule (kept.Board b) text some answer = answer
+
 pub no_fault : (words : List (List ℕ)) (o : Options) (bytes left : Option (List ℕ)) (status : RunStatus) (k : Kept) (text : List ℕ) → options words ≡ Some o → o.mode ≡ Gen
     → IsDue words bytes left status k text → IsNoFault status
 no_fault words o bytes left Done k text taken gen due = tt
@@ -341,10 +375,5 @@ no_fault words o bytes left (BadScenario line rule) k text taken gen (p, is, (bs
 
     by : (k : Kept) → IsAnswerIn p.mode p bs (BadScenario line rule) k text → ⊥
     by kept.Nothing answer = no_fault_in p.mode p p.seed bytes left bs line rule text mode comes answer
-    by (kept.Journal j) answer = none p.mode answer
-      where
-        none : (mode : Mode) → IsAnswerIn mode p bs (BadScenario line rule) (kept.Journal j) text → ⊥
-        none Run answer = answer
-        none Journal answer = answer
-        none Gen answer = answer
-        none Check answer = answer
+    by (kept.Journal j) answer = only_nothing p.mode p bs line rule (kept.Journal j) text (λ e. cc) answer
+    by (kept.Board b) answer = only_nothing p.mode p bs line rule (kept.Board b) text (λ e. cc) answer

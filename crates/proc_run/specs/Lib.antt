@@ -1,4 +1,3 @@
-pub mod Fitting
 pub mod Running
 pub mod Texts
 pub mod Outcomes

@@ -17,10 +17,11 @@ use Rattle.proc_run.specs.declared.outcome.RunStatus.TheVariants.{Done, Stalled,
 use Rattle.proc_run.specs.declared.outcome.Kept.{Kept}
 use Rattle.proc_run.specs.declared.outcome.Kept.TheVariants as kept
 use Rattle.run_journal.specs.Entries.{erase, steps_in}
+use Rattle.run_journal.specs.Legal.{IsLegal}
 use Rattle.run_journal.specs.Points.{opening}
+use Rattle.board_core.specs.Core.{IsSound, Recorded}
 use Rattle.check_mode.specs.Parts.{scenario_part, journal_part}
 use Rattle.check_mode.specs.Answers.{IsYesOn, IsNoOn, IsNoJournal}
-use Rattle.proc_run.specs.Fitting.{FitsInOrder}
 use Rattle.scenario_gen.specs.Generated.{text as generated}
 use Rattle.run_words.specs.declared.options.Mode.{Mode}
 use Rattle.run_words.specs.declared.options.Mode.TheVariants.{Run, Journal, Gen, Check}
@@ -57,23 +58,25 @@ HasFault bytes line rule = scenario bytes ≡ Err (faults.Bad line rule)
 
 -- ---- what is due
 
--- The text is a scenario. The journal begins with its declarations and the seal, and fits in order. The run is settled so, as
--- the machine with unlimited tables is on what is left of the journal, at the limit of steps; and this is the text of the
--- account of it.
-pub record IsRunOf (account : Account) (limit : ℕ) (scenario_text : List ℕ) (how : Settled) (j : List Entry) (text : List ℕ) : Type 0 where
+-- The text is a scenario. The board is sound, and so its journal is legal; it begins with the declarations and the seal, and so many
+-- steps may be taken on it. The run is settled so, as the machine with unlimited tables is on what is left of the journal, at the
+-- limit of steps; and this is the text of the account of it.
+pub record IsRunOf (account : Account) (limit : ℕ) (scenario_text : List ℕ) (how : Settled) (b : Recorded) (text : List ℕ) : Type 0 where
   pub decls : List Decl
   pub is_scenario : IsScenario scenario_text decls
   pub rest : List Entry
-  pub begins : j ≡ opening decls ++ rest
-  pub fits : FitsInOrder j
-  pub settled_so : how ≡ settled_of (flat (erase j)) (steps_in j) limit
-  pub written : text ≡ text_of account j (flat (erase j)) how (steps_in j)
+  pub begins : b.journal.entries ≡ opening decls ++ rest
+  pub legal : IsLegal b.journal.entries
+  pub sound : IsSound b
+  pub limit : b.limit ≡ limit
+  pub settled_so : how ≡ settled_of (flat (erase b.journal.entries)) (steps_in b.journal.entries) limit
+  pub written : text ≡ text_of account b.journal.entries (flat (erase b.journal.entries)) how (steps_in b.journal.entries)
 
 -- this status, what is kept and what is written are the answer to the text of a scenario that is run, at a limit of steps
 abbrev pub IsRunAnswer : Account → ℕ → List ℕ → RunStatus → Kept → List ℕ → Type 0
-IsRunAnswer account limit bs Done (kept.Journal j) text = IsRunOf account limit bs settled.Done j.entries text
-IsRunAnswer account limit bs Stalled (kept.Journal j) text = IsRunOf account limit bs settled.Stalled j.entries text
-IsRunAnswer account limit bs Spent (kept.Journal j) text = IsRunOf account limit bs settled.Spent j.entries text
+IsRunAnswer account limit bs Done (kept.Board b) text = IsRunOf account limit bs settled.Done b text
+IsRunAnswer account limit bs Stalled (kept.Board b) text = IsRunOf account limit bs settled.Stalled b text
+IsRunAnswer account limit bs Spent (kept.Board b) text = IsRunOf account limit bs settled.Spent b text
 IsRunAnswer account limit bs (BadScenario line rule) kept.Nothing text = HasFault bs line rule × (text ≡ scenario_fault_line line rule)
 IsRunAnswer account limit bs status k text = ⊥
 

@@ -6,10 +6,11 @@ mod outcome;
 mod run;
 mod text;
 
+pub use cache_board::Board;
 pub use machine::run_machine;
 pub use outcome::{Kept, Outcome, RunStatus};
 pub use run_journal::{Entry, Journal};
 pub use run_words::{Words, program_words};
 
 /// Memory ran out, and what was called is as it was before.
-pub use flat_machine::NoMemory;
+pub use cache_ident::NoMemory;

@@ -1,11 +1,13 @@
 //! The whole run.
 
-ghost use Rattle.std.specs.Prelude.{◌≡◌, ◌≢◌, ◌<◌, ◌≤◌, List, ℕ, IfOk, OnOk, Some, None, true, false, length};
+ghost use Rattle.std.specs.Prelude.{◌≡◌, ◌≢◌, ◌∷◌, List, ℕ, IfOk, Some, None, true, false};
 ghost use Rattle.std.specs.Io.KnownBytes.{Appends, Keeps};
 ghost use Rattle.byte_ports.specs.Faults.{HasRisen};
 ghost use Rattle.byte_ports.specs.Whole.{AppendsFront};
 ghost use Rattle.flat_state.specs.State.{nothing_declared};
 ghost use Rattle.flat_state.specs.declared.events.Decl.{Decl};
+ghost use Rattle.flat_state.specs.declared.events.Decl.TheVariants as declaration;
+ghost use Rattle.flat_state.specs.declared.events.Machine.{Machine};
 ghost use Rattle.flat_state.specs.Events.{AllFit, flat};
 ghost use Rattle.flat_state.specs.Settling.{settled_of};
 ghost use Rattle.run_journal.specs.declared.entries.Entry.{Entry};
@@ -19,14 +21,16 @@ ghost use Rattle.proc_run.specs.Outcomes.{IsDue, IsDueBy, IsAnswer, IsRunAnswer,
 ghost use Rattle.due_text.specs.Inputs.{OnFailed, UnlessFailed};
 ghost use Rattle.due_text.specs.Lines.{scenario_fault_line};
 ghost use Rattle.proc_run.specs.Dues.{status_of};
+ghost use Rattle.proc_run.specs.Running.{HasKernel};
 
 use crate::outcome::{Kept, Outcome, RunStatus};
 use crate::run::{Finished, run};
 use crate::text::{Account, text};
 use byte_ports::{Sink, Source, write_all};
+use cache_ident::NoMemory;
 use check_mode::{Checked, answer};
 use due_text::{Input, NoText, read_input, scenario_fault_line, too_long_line};
-use flat_machine::{Decl, NoMemory, Settled};
+use flat_state::{Decl, Settled};
 use run_words::{Mode, Options, Words, WordsFault};
 use scenario_gen::generate;
 use scenario_reader::{ScenarioFault, read};
@@ -90,20 +94,17 @@ fn answered(
     steps: u32,
     decls: &[Decl],
 ) -> Result<DueText, NoMemory>
-    requires some { 0 < length decls.now }
     requires fit { AllFit nothing_declared decls.now }
+    requires machine { (machine : Machine) × (rest : List Decl) × (decls.now ≡ declaration.Machine machine ∷ rest) }
+    requires kernel { HasKernel decls.now }
     ensures { IfOk result (λ d. (bs : List ℕ) → IsScenario bs decls.now → IsRunAnswer account steps bs d.status d.kept d.text.items) }
 {
     let run = run(alloc, decls, u64::from(steps))?;
     let text = text(alloc, account, &run)?;
-    let Finished {
-        journal,
-        settled,
-        ..
-    } = run;
+    let Finished { board, settled } = run;
     Ok(DueText {
         status: status_of(settled),
-        kept: Kept::Journal(journal),
+        kept: Kept::Board(board),
         text,
     })
 }
@@ -219,8 +220,8 @@ fn due<S: Source>(alloc: Global, words: &Words, source: &mut S) -> Result<DueTex
     }
 }
 
-/// Reads a scenario from the source to its end, or makes it from the seed in mode gen, runs it on the machine with
-/// unlimited tables until all its threads have ended, none can go on, or it has taken the steps that the words allow,
+/// Reads a scenario from the source to its end, or makes it from the seed in mode gen, runs it on a board with caches
+/// until all its threads have ended, none can go on, or it has taken the steps that the words allow,
 /// and writes the text of the mode to the sink. In mode check it reads a journal behind the scenario, and writes whether
 /// it is legal, with the report of what it leaves, or where it isn't. For a text that is no scenario it writes its first
 /// fault, and for words that aren't taken the usage line. All text is made before the first write.

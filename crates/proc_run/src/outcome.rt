@@ -3,7 +3,8 @@
 ghost use Rattle.std.specs.Prelude.{◌≡◌};
 ghost use Rattle.proc_run.specs.Outcomes.{exit_status};
 
-use flat_machine::Settled;
+use cache_board::Board;
+use flat_state::Settled;
 use run_journal::Journal;
 
 /// How the whole run came out.
@@ -65,10 +66,11 @@ impl RunStatus {
 pub enum Kept {
     Nothing,
     Journal(Journal),
+    Board(Board),
 }
 
-/// How a run came out, and what is kept of it: the journal that was made, for `Done`, `Stalled` and `Spent`, or that was read, for
-/// `Checked` and `NotLegal`; and for a `WriteFault` in place of one of them.
+/// How a run came out, and what is kept of it: the board on which it ran, for `Done`, `Stalled` and `Spent`; the journal that was read,
+/// for `Checked` and `NotLegal`; and for a `WriteFault` that of the answer in whose place it came.
 #[derive(Drop)]
 pub struct Outcome {
     pub status: RunStatus,

@@ -1,6 +1,6 @@
 //! A try that comes to its bound, over a port of which no row can be had.
 
-ghost use Rattle.std.specs.Prelude.{None};
+ghost use Rattle.std.specs.Prelude.{None, refl};
 
 use app_kernel::{Heard, Notice, Owners, Port, PortCall, Refused, Served, serve};
 use cache_ident::{Ident, KernelNo, Kind, SpaceNo, ThreadNo, Vpn};
@@ -98,6 +98,8 @@ impl Port for Wanting {
     ghost stays = { λ port. tt };
 
     ghost goes_on = { λ first then last before after. tt };
+
+    ghost tells = { λ old new follows. refl };
 }
 
 #[test]

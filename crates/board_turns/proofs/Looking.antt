@@ -1,0 +1,72 @@
+-- What a look tells.
+use Rattle.std.proofs.Common.{◌≡◌, ℕ, Bool, true, false, not, List, Option, Some, None, slice_get, refl, sym, ap, ◌∙◌, subst, inl, inr}
+use Rattle.std.specs.Prelude.{◌&&◌}
+use Rattle.cache_ident.specs.declared.names.Name.TheVariants as name
+use Rattle.cache_ident.specs.declared.names.ThreadNo.{ThreadNo}
+use Rattle.cache_ident.specs.Residents.{Resident, IsNameResident}
+use Rattle.flat_state.specs.declared.records.FlatThread.{FlatThread}
+use Rattle.flat_state.specs.declared.records.Settled.TheVariants.{Running}
+use Rattle.flat_state.specs.Call.{is_completable}
+use Rattle.flat_state.specs.Events.{flat}
+use Rattle.flat_state.specs.Signals.{is_runnable}
+use Rattle.flat_state.specs.State.{FlatState}
+use Rattle.run_journal.specs.Entries.{erase}
+use Rattle.run_journal.specs.Told.{residents}
+use Rattle.cache_board.proofs.PastLaws.{shows_residents, shows_flat}
+use Rattle.board_core.specs.desc_stores.specs.Contents.{residents_of}
+use Rattle.board_core.specs.cached_machine.specs.Cached.{is_loaded, state_of}
+use Rattle.board_core.specs.cached_machine.proofs.LoadedLaws.{loaded_by}
+use Rattle.board_core.specs.Core.{contents_of, IsSound, Recorded}
+use Rattle.board_core.specs.Going.{IsOneEvent}
+use Rattle.board_core.proofs.GoingLaws.{grew_nothing}
+use Rattle.board_threads.specs.Tests.{completes, goes_on, passes, wants_load, IsWanted}
+use Rattle.board_turns.specs.declared.found.Found.{Found}
+use Rattle.board_turns.specs.declared.found.Found.TheVariants.{Out, Wanted, Nothing, Over}
+use Rattle.board_turns.specs.Looks.{settled_on, HasLooked, IsFound, IsFoundWanted, IsIdle, IsSoAlone}
+
+pub event_nothing : (cpu : ℕ) (b : Recorded) → IsSound b → IsOneEvent cpu b b
+event_nothing cpu b sound = record { grew = grew_nothing cpu b; was = sound; sound = sound }
+
+-- a look while the run goes on
+pub looked_running : (want_first : Bool) (old new : Recorded) (found : Found) → settled_on old ≡ Running → IsFound 0 want_first old new found → HasLooked want_first old new found
+looked_running want_first old new (Out ticket) running found = record { running = running; found = found }
+looked_running want_first old new (Wanted whom trapped pc) running found = record { running = running; found = found }
+looked_running want_first old new Nothing running found = record { running = running; found = found }
+looked_running want_first old new Over running found = absurd found
+
+-- a thread that is wanted stands
+pub wanted_stands : (b : Recorded) (whom : ThreadNo) → IsWanted b (Some whom) → slice_get (state_of b.machine).threads whom.0 ≡ None → ⊥
+wanted_stands b whom wanted none = elim wanted [
+  | inl calls ↦ let never : passes is_completable (slice_get (state_of b.machine).threads whom.0) ≡ false = ap (passes is_completable) none in let goes = calls.in_it in cc
+  | inr load ↦ goes_nowhere (not (is_loaded (contents_of b) (name.Thread whom))) (goes_on b whom.0) (ap (passes (is_runnable (state_of b.machine))) none) load.1.in_it
+]
+  where
+    goes_nowhere : (x y : Bool) → y ≡ false → (x && y) ≡ true → ⊥
+    goes_nowhere true y never both = cc
+    goes_nowhere false y never both = cc
+
+-- ---- nobody is there
+
+module _ (b : Recorded) (sound : IsSound b) (wanted : IsWanted b None) where
+  there_so : (whom : ThreadNo) (t : FlatThread) → slice_get (flat (erase b.journal.entries)).threads whom.0 ≡ Some t → slice_get (state_of b.machine).threads whom.0 ≡ Some t
+  there_so whom t there = ap (λ (s : FlatState). slice_get s.threads whom.0) (shows_flat b sound) ∙ there
+
+  loaded_if : (loaded goes : Bool) → (not loaded && goes) ≡ false → goes ≡ true → loaded ≡ true
+  loaded_if true goes absent is = refl
+  loaded_if false true absent is = absurd (cc)
+  loaded_if false false absent is = absurd (cc)
+
+  pub idle : IsIdle b.journal.entries
+  idle = record {
+    calls = λ whom t there. sym (ap (passes is_completable) (there_so whom t there)) ∙ wanted.0 whom.0;
+    loaded = λ whom t there runs.
+        let here : goes_on b whom.0 ≡ true = ap (passes (is_runnable (state_of b.machine))) (there_so whom t there) ∙ ap (λ (s : FlatState). is_runnable s t) (shows_flat b sound) ∙ runs in
+        subst (λ (rs : List Resident). IsNameResident rs (name.Thread whom)) (shows_residents b sound)
+        (loaded_by (residents_of (contents_of b)) (name.Thread whom) (loaded_if (is_loaded (contents_of b) (name.Thread whom)) (goes_on b whom.0) (wanted.1 whom.0) here));
+  }
+
+pub so_alone : (want_first : Bool) (old new : Recorded) (found : Found) → IsSound old → IsFound 0 want_first old new found → IsSoAlone new found
+so_alone want_first old new (Out ticket) sound is = is.ticket_for.processor
+so_alone want_first old new (Wanted whom trapped pc) sound is = tt
+so_alone want_first old new Nothing sound is = subst (λ (b : Recorded). IsIdle b.journal.entries) (sym is.same) (idle old sound is.wanted)
+so_alone want_first old new Over sound is = absurd is

@@ -1,0 +1,16 @@
+use Rattle.std.proofs.Common.{◌<◌, Some, ap, ◌∙◌, arith, inl, inr}
+use Rattle.board_core.specs.board_ops.specs.declared.refusals.Refused.{Refused}
+use Rattle.board_turns.proofs.Fewer.{fewer_left}
+use Rattle.board_turns.proofs.holds.commit.Goals as goal
+
+few : (c : goal.After-row_known-1) → c.in-Err-Over.left < c.args.quantum.now.steps
+few c = elim c.in-Err-Over.ensures.refused.why [
+  | inl none ↦ absurd (let is = c.in-Err-Over.field-0-is in cc)
+  | inr some ↦ fewer_left c.in-Err-Over.left c.args.board.now c.args.ticket.now c.args.quantum.now (some ∙ ap (λ (x : Refused). Some x) c.in-Err-Over.field-0-is)
+]
+
+pub overflow_cast-result : goal.overflow_cast-result
+overflow_cast-result c = rw c.in-Err-Over.field-0-is (let left = few c in omega (arith, left, c.steps-steps.ensures.steps, c.steps-steps.type_inv))
+
+pub returns-in-Err-Over-clause-fewer : goal.returns-in-Err-Over-clause-fewer
+returns-in-Err-Over-clause-fewer c = rw c.in-Err-Over.field-0-is (few c)

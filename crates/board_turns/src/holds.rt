@@ -1,0 +1,157 @@
+//! What whoever has the board alone does with it.
+
+ghost use Rattle.std.specs.Prelude.{◌≡◌, ◌<◌, ◌≤◌, ◌+◌, None, IfNone, IfOk, IfSome, OnErr, OnOk};
+ghost use Rattle.std.specs.Bool.{OnTrue};
+ghost use Rattle.board_commits.specs.Tickets.{AreOfTicket};
+ghost use Rattle.board_core.specs.Core.{IsSound};
+ghost use Rattle.board_core.specs.Going.{IsOneEvent};
+ghost use Rattle.board_threads.specs.Tests.{IsWanted};
+ghost use Rattle.board_turns.specs.Holds.{found_by, taken_by, AreFewer, HasCommitted, HasHealed, HasLookedIf};
+ghost use Rattle.board_turns.specs.Looks.{Allows, HasLooked, IsFound, IsFoundWanted, IsSoAlone};
+
+use crate::committed::Committed;
+use crate::found::Found;
+use cache_board::{Board, Quantum, Refused, Ticket};
+use cache_ident::{Name, NoMemory, ThreadNo, Vpn};
+use flat_rules::wants;
+use flat_state::Settled;
+use rv32_exec::{Access, Status};
+use std::alloc::AllocError;
+
+// The next thread that waits for its owners.
+fn find_wanted(board: &Board) -> Option<Found>
+    ensures found { IfSome result (IsFoundWanted board.now) }
+    ensures none { IfNone result (IsWanted board.now None) }
+{
+    let no = board.want()?;
+    let Some(record) = board.flat_thread(no) else {
+        unreachable!()
+    };
+    Some(Found::Wanted {
+        no,
+        trapped: matches!(record.status, Status::Trapped),
+        pc: record.context.pc,
+    })
+}
+
+// Finds a thread that can come to the processor, or else one that waits for its owners, or in the other order.
+fn find(board: &mut Board, want_first: bool) -> Found
+    ensures found { IsFound 0 want_first board.old board.new result }
+    ensures event { IsOneEvent 0 board.old board.new }
+{
+    board.holds();
+    if want_first {
+        return match find_wanted(board) {
+            Some(found) => found,
+            None => match board.checkout(0) {
+                Some(ticket) => Found::Out(ticket),
+                None => Found::Nothing,
+            },
+        };
+    }
+    match board.checkout(0) {
+        Some(ticket) => Found::Out(ticket),
+        None => match find_wanted(board) {
+            Some(found) => found,
+            None => Found::Nothing,
+        },
+    }
+}
+
+/// Looks for the next thread, unless the run is over.
+#[tactic(auto, using(crate::proofs::Looking::event_nothing, crate::proofs::Looking::looked_running, crate::proofs::Looking::so_alone))]
+pub(crate) fn look(board: &mut Board, want_first: bool) -> Found
+    ensures looked { HasLooked want_first board.old board.new result }
+    ensures so { IsSoAlone board.new result }
+    ensures event { IsOneEvent 0 board.old board.new }
+{
+    board.holds();
+    match board.settled() {
+        Settled::Running => find(board, want_first),
+        _ => Found::Over,
+    }
+}
+
+// A look behind something else, if an order is given.
+#[tactic(auto, using(crate::proofs::Looking::event_nothing))]
+fn look_if(board: &mut Board, want_first: Option<bool>) -> Option<Found>
+    ensures looked { HasLookedIf want_first board.old board.new result }
+    ensures so { IfSome result (IsSoAlone board.new) }
+    ensures event { IsOneEvent 0 board.old board.new }
+{
+    board.holds();
+    match want_first {
+        Some(want_first) => Some(look(board, want_first)),
+        None => None,
+    }
+}
+
+/// Makes the steps of a quantum happen, and gives the thread back, but where they are too many and some are left; and then looks, if
+/// an order is given.
+pub(crate) fn commit(
+    board: &mut Board,
+    ticket: &Ticket,
+    quantum: &Quantum,
+    want_first: Option<bool>,
+) -> Result<Committed, NoMemory>
+    requires own { ticket.now.cpu ≡ 0 }
+    requires views { AreOfTicket board.old.journal.entries ticket.now.thread quantum.now }
+    ensures committed { IfOk result (HasCommitted ticket.now quantum.now want_first board.old board.new) }
+    ensures so { IfOk result (λ committed. IfSome (found_by committed) (IsSoAlone board.new)) }
+    ensures fewer { IfOk result (AreFewer quantum.now.steps) }
+    ensures taken { IfOk result (λ committed. board.old.steps + taken_by committed quantum.now.steps ≤ board.new.steps) }
+    ensures event { IsOneEvent 0 board.old board.new }
+{
+    // Fewer steps are left than these where they are too many.
+    let _steps = quantum.steps();
+    match board.commit(ticket, quantum) {
+        Ok(_) => Ok(Committed::Taken(look_if(board, want_first))),
+        Err(Refused::Over { left }) if left > 0 => Ok(Committed::TooMany(left as u32)),
+        Err(refused) => {
+            board.leave(ticket);
+            match refused {
+                Refused::NoMemory => Err(AllocError),
+                _ => Ok(Committed::Lost),
+            }
+        }
+    }
+}
+
+/// Whether the row of a page of the ticket's thread is loaded, and allows the access.
+pub(crate) fn allows(board: &Board, ticket: &Ticket, vpn: Vpn, access: Access) -> bool
+    ensures { OnTrue result (Allows board.now ticket.now.no vpn access) }
+{
+    let Some(thread) = board.flat_thread(ticket.no) else {
+        return false;
+    };
+    let space = thread.space;
+    let Some(row) = board.flat_row(space, vpn) else {
+        return false;
+    };
+    wants(access, row.flags)
+        && board
+            .machine()
+            .tables()
+            .resident(Name::Mapping(space, vpn))
+            .is_some()
+}
+
+/// Gives the thread of a ticket back, where there is one, and heals the next step of a thread.
+pub(crate) fn leave_and_heal(
+    board: &mut Board,
+    ticket: Option<Ticket>,
+    thread: ThreadNo,
+) -> Result<(), Refused>
+    requires own { IfSome ticket (λ its. its.cpu ≡ 0) }
+    ensures healed { HasHealed ticket thread board.old board.new result }
+    ensures stepped { OnOk result (board.old.steps + 1 ≤ board.new.steps) }
+    ensures event { IsOneEvent 0 board.old board.new }
+{
+    match ticket {
+        Some(ticket) => {
+            board.leave(&ticket);
+            board.heal_step(0, thread)
+        }
+        None => board.heal_step(0, thread),
+    }
+}

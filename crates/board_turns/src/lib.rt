@@ -1,0 +1,23 @@
+//! Turns of a processor: whom it finds, what it does for that thread, and whom it finds next.
+//!
+//! A turn is written once, over whatever lets a processor reach the board: each call of that is one hold of the board. Whoever
+//! has the board alone meets it here.
+#![tactic(auto)]
+
+mod alone;
+mod committed;
+mod found;
+mod holds;
+mod pace;
+mod pacing;
+mod processor;
+mod quanta;
+mod turns;
+
+pub use app_kernel::{Alone, Board, Owners, Port, Refused};
+pub use cache_board::{Quantum, Ticket};
+pub use committed::Committed;
+pub use found::Found;
+pub use pace::Pace;
+pub use processor::Processor;
+pub use turns::turn;

@@ -1,0 +1,247 @@
+//! The turn of a processor.
+
+ghost use Rattle.std.specs.Prelude.{◌≡◌, ◌≢◌, ◌<◌, true, IfOk, IfSome, OnOk};
+ghost use Rattle.fault_forward.specs.declared.effects.Notice.TheVariants as notices;
+ghost use Rattle.left_laws.specs.Left.{left};
+ghost use Rattle.board_commits.specs.Tickets.{AreAllAsOf};
+ghost use Rattle.board_core.specs.board_ops.specs.declared.refusals.Refused.TheVariants as why;
+ghost use Rattle.board_core.specs.cached_machine.specs.Cached.{state_of};
+ghost use Rattle.app_kernel.specs.Serving.{IsInCall};
+ghost use Rattle.owner_ports.specs.Boards.{OnTold};
+ghost use Rattle.owners.specs.Known.{Known};
+ghost use Rattle.board_turns.specs.declared.found.Found.TheVariants as found_so;
+ghost use Rattle.board_turns.specs.Paces.{beat_of, must_bring, Beat};
+ghost use Rattle.board_turns.specs.Turning.{turns_left, IsAtRest, IsAtRestBut, IsLeftBy, IsNext, IsOnQuantum, IsOwned, IsToStep};
+
+use crate::found::Found;
+use crate::pace::Pace;
+use crate::processor::Processor;
+use crate::quanta::{Ask, run_quantum};
+use app_kernel::{Notice, Owners, Refused, Served, serve};
+use cache_board::{Quantum, Ticket};
+use cache_ident::{NoMemory, ThreadNo};
+use rv32_exec::Access;
+use std::alloc::AllocError;
+
+// Whatever came of it, unless owners want memory.
+fn unless_wanting(served: Served) -> Result<(), NoMemory>
+    ensures { OnOk result (served ≢ Served.Again why.NoMemory) }
+{
+    match served {
+        Served::Again(Refused::NoMemory) => Err(AllocError),
+        _ => Ok(()),
+    }
+}
+
+// Whatever came of it, unless the board wants memory.
+fn unless_refused_memory(healed: Result<(), Refused>) -> Result<(), NoMemory>
+    ensures { OnOk result (healed ≢ Err why.NoMemory) }
+{
+    match healed {
+        Err(Refused::NoMemory) => Err(AllocError),
+        _ => Ok(()),
+    }
+}
+
+// Asks a thread's owners for what its notice says. A call that can be completed is, or memory is wanted.
+fn ask_owners<P: Processor>(
+    port: &mut P,
+    owners: &mut Owners,
+    thread: ThreadNo,
+    notice: Notice,
+) -> Result<(), NoMemory>
+    ensures owned { OnTold (P.board port.old) (P.board port.new) (λ old new. IsOwned old owners.old → IsOwned new owners.new) }
+    ensures rests { OnTold (P.board port.old) (P.board port.new) (λ old new. IsAtRest old owners.old → IsAtRest new owners.new) }
+    ensures completed { OnTold (P.board port.old) (P.board port.new) (λ old new. IsOwned old owners.old → notice ≡ notices.Trap → IsInCall (state_of old.machine) thread → OnOk result (left new < left old)) }
+    ensures continued { P.continues port.old port.new }
+{
+    let served = serve(port, owners, thread, notice);
+    unless_wanting(served)
+}
+
+// Heals a thread's next step, once the ticket's thread was given back, where there is a ticket. One that can be healed is, or memory
+// is wanted.
+fn heal<P: Processor>(
+    port: &mut P,
+    ticket: Option<Ticket>,
+    thread: ThreadNo,
+) -> Result<(), NoMemory>
+    requires own { IfSome ticket (λ its. P.is_so port.old (found_so.Out its)) }
+    ensures rests { OnTold (P.board port.old) (P.board port.new) (λ old new. (known : Known) → IsAtRestBut ticket old known → IsAtRest new known) }
+    ensures healed { OnTold (P.board port.old) (P.board port.new) (λ old new. (known : Known) → IsAtRestBut ticket old known → IsToStep old thread → OnOk result (left new < left old)) }
+    ensures continued { P.continues port.old port.new }
+{
+    let healed = port.leave_and_heal(ticket, thread);
+    unless_refused_memory(healed)
+}
+
+// What a thread that isn't loaded, or is in a call, waits for.
+fn notice_of(trapped: bool, pc: u32) -> Notice {
+    if trapped {
+        Notice::Trap
+    } else {
+        Notice::Fault {
+            va: pc,
+            access: Access::Fetch,
+        }
+    }
+}
+
+// Does what a thread asks for behind its steps.
+fn grant<P: Processor>(
+    port: &mut P,
+    owners: &mut Owners,
+    thread: ThreadNo,
+    ask: Ask,
+) -> Result<(), NoMemory>
+    ensures owned { OnTold (P.board port.old) (P.board port.new) (λ old new. IsOwned old owners.old → IsOwned new owners.new) }
+    ensures rests { OnTold (P.board port.old) (P.board port.new) (λ old new. IsAtRest old owners.old → IsAtRest new owners.new) }
+    ensures continued { P.continues port.old port.new }
+{
+    match ask {
+        Ask::Nothing => Ok(()),
+        Ask::Owners(notice) => ask_owners(port, owners, thread, notice),
+        Ask::Healing => heal(port, None, thread),
+    }
+}
+
+// Runs a thread that came to the processor, and does what it asks for then. What was found in the same hold is handed on.
+fn run_thread<P: Processor>(
+    port: &mut P,
+    owners: &mut Owners,
+    quantum: &mut Quantum,
+    pace: Pace,
+    length: u32,
+    ticket: &Ticket,
+) -> Result<Option<Found>, NoMemory>
+    requires own { P.is_so port.old (found_so.Out ticket.now) }
+    requires kept { AreAllAsOf (P.seen port.old) quantum.old }
+    ensures kept { AreAllAsOf (P.seen port.new) quantum.new }
+    ensures so { IfOk result (λ next. IfSome next (P.is_so port.new)) }
+    ensures owned { OnTold (P.board port.old) (P.board port.new) (λ old new. IsOwned old owners.old → IsOwned new owners.new) }
+    ensures told { OnTold (P.board port.old) (P.board port.new) (λ old new. IsOnQuantum old owners.old ticket.now → IfOk result (IsLeftBy old new owners.new (beat_of pace))) }
+    ensures continued { P.continues port.old port.new }
+{
+    let ran = run_quantum(port, ticket, quantum, pace, length)?;
+    match ran.next {
+        Some(found) => Ok(Some(found)),
+        None => {
+            grant(port, owners, ticket.no, ran.ask)?;
+            Ok(None)
+        }
+    }
+}
+
+// What a turn does for whom it found.
+fn act<P: Processor>(
+    port: &mut P,
+    owners: &mut Owners,
+    quantum: &mut Quantum,
+    pace: Pace,
+    length: u32,
+    found: Found,
+) -> Result<Option<Found>, NoMemory>
+    requires so { P.is_so port.old found }
+    requires kept { AreAllAsOf (P.seen port.old) quantum.old }
+    ensures kept { AreAllAsOf (P.seen port.new) quantum.new }
+    ensures so { IfOk result (λ next. IfSome next (P.is_so port.new)) }
+    ensures owned { OnTold (P.board port.old) (P.board port.new) (λ old new. IsOwned old owners.old → IsOwned new owners.new) }
+    ensures told { OnTold (P.board port.old) (P.board port.new) (λ old new. IsNext old owners.old (beat_of pace) found → IfOk result (IsLeftBy old new owners.new (beat_of pace))) }
+    ensures continued { P.continues port.old port.new }
+{
+    match found {
+        Found::Out(ticket) => run_thread(port, owners, quantum, pace, length, &ticket),
+        Found::Wanted { no, trapped, pc } => {
+            ask_owners(port, owners, no, notice_of(trapped, pc))?;
+            Ok(None)
+        }
+        Found::Nothing => Ok(None),
+        Found::Over => Ok(None),
+    }
+}
+
+// What a turn does that has to bring something: a call is completed, and else a step is healed.
+fn bring<P: Processor>(port: &mut P, owners: &mut Owners, found: Found) -> Result<(), NoMemory>
+    requires so { P.is_so port.old found }
+    ensures owned { OnTold (P.board port.old) (P.board port.new) (λ old new. IsOwned old owners.old → IsOwned new owners.new) }
+    ensures told { OnTold (P.board port.old) (P.board port.new) (λ old new. (beat : Beat) → must_bring beat ≡ true → IsNext old owners.old beat found → OnOk result (IsAtRest new owners.new × (found ≢ found_so.Over → left new < left old))) }
+    ensures continued { P.continues port.old port.new }
+{
+    match found {
+        Found::Out(ticket) => heal(port, Some(ticket), ticket.no),
+        Found::Wanted { no, trapped, .. } => {
+            if trapped {
+                ask_owners(port, owners, no, Notice::Trap)
+            } else {
+                heal(port, None, no)
+            }
+        }
+        Found::Nothing => Ok(()),
+        Found::Over => Ok(()),
+    }
+}
+
+// What a turn does, before whom it is for next is looked for, if that isn't found by then.
+fn take<P: Processor>(
+    port: &mut P,
+    owners: &mut Owners,
+    quantum: &mut Quantum,
+    pace: Pace,
+    length: u32,
+    found: Found,
+) -> Result<Option<Found>, NoMemory>
+    requires so { P.is_so port.old found }
+    requires kept { AreAllAsOf (P.seen port.old) quantum.old }
+    ensures kept { AreAllAsOf (P.seen port.new) quantum.new }
+    ensures so { IfOk result (λ next. IfSome next (P.is_so port.new)) }
+    ensures owned { OnTold (P.board port.old) (P.board port.new) (λ old new. IsOwned old owners.old → IsOwned new owners.new) }
+    ensures told { OnTold (P.board port.old) (P.board port.new) (λ old new. IsNext old owners.old (beat_of pace) found → IfOk result (λ next. IsLeftBy old new owners.new (beat_of pace) next × (must_bring (beat_of pace) ≡ true → found ≢ found_so.Over → left new < left old))) }
+    ensures continued { P.continues port.old port.new }
+{
+    if pace.must_bring() {
+        bring(port, owners, found)?;
+        Ok(None)
+    } else {
+        act(port, owners, quantum, pace, length, found)
+    }
+}
+
+/// Takes a turn for whom the last look found, in quanta of at most so many steps, and answers whom the next turn is for.
+///
+/// A thread that came to the processor runs a quantum, and its steps are committed. Its owners are asked for its call, and for a page
+/// that it misses, unless only no view was free for it; a step that signals is healed. For a thread that waits its owners are
+/// asked. The turn after three that brought neither a step nor a completion heals a step, or has a call completed.
+pub fn turn<P: Processor>(
+    port: &mut P,
+    owners: &mut Owners,
+    quantum: &mut Quantum,
+    pace: &mut Pace,
+    length: u32,
+    found: Found,
+) -> Result<Found, NoMemory>
+    // What the last look found, and what the quantum keeps, is this processor's.
+    requires so { P.is_so port.old found }
+    requires kept { AreAllAsOf (P.seen port.old) quantum.old }
+    ensures so { IfOk result (P.is_so port.new) }
+    ensures kept { AreAllAsOf (P.seen port.new) quantum.new }
+
+    // Where the board is told, and its owners are: the next turn is one as this, and is nearer to the end.
+    ensures owned { OnTold (P.board port.old) (P.board port.new) (λ old new. IsOwned old owners.old → IsOwned new owners.new) }
+    ensures next { OnTold (P.board port.old) (P.board port.new) (λ old new. IsNext old owners.old (beat_of pace.old) found → IfOk result (IsNext new owners.new (beat_of pace.new))) }
+    ensures closer { OnTold (P.board port.old) (P.board port.new) (λ old new. IsNext old owners.old (beat_of pace.old) found → found ≢ found_so.Over → IfOk result (λ _. turns_left new (beat_of pace.new) < turns_left old (beat_of pace.old))) }
+
+    // It comes of the processor, also where memory is wanted.
+    ensures continued { P.continues port.old port.new }
+{
+    let before = port.brought();
+    match take(port, owners, quantum, *pace, length, found)? {
+        Some(next) => {
+            *pace = pace.after(true);
+            Ok(next)
+        }
+        None => {
+            *pace = pace.after(before < port.brought());
+            Ok(port.look(pace.wants_first()))
+        }
+    }
+}
