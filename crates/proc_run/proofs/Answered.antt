@@ -60,8 +60,8 @@ run_of account limit ds bs b how text ran is written is_scenario =
       begins = ran.begins;
       legal = ran.sound.told.legal;
       sound = ran.sound;
-      limit = ran.limit;
-      settled_so = is ∙ (ap₂ (λ t n. settled_of t n b.limit) state steps ∙ ap (λ n. settled_of (flat (erase b.journal.entries)) (steps_in b.journal.entries) n) ran.limit);
+      its_limit = ran.its_limit;
+      settled_so = is ∙ (ap₂ (λ t n. settled_of t n b.limit) state steps ∙ ap (λ n. settled_of (flat (erase b.journal.entries)) (steps_in b.journal.entries) n) ran.its_limit);
       written = written ∙ ap₂ (λ t n. text_of account b.journal.entries t how n) state steps;
     }
 
@@ -186,21 +186,21 @@ from_source Gen seed bytes left bs reads whole = absurd cc
 pub from_seed : (mode : Mode) (seed : ℕ) (bytes : Option (List ℕ)) (bs : List ℕ) → mode ≡ Gen → bs ≡ generated seed → ComesFrom mode seed bytes bytes bs
 from_seed mode seed bytes bs is made = subst (λ (m : Mode). ComesFrom m seed bytes bytes bs) (sym is) (Keeps-refl bytes, made)
 
-same_text : (mode : Mode) (seed : ℕ) (bytes left : Option (List ℕ)) (bs told : List ℕ) → IsToldIn mode seed bytes told → ComesFrom mode seed bytes left bs → bs ≡ told
+pub same_text : (mode : Mode) (seed : ℕ) (bytes left : Option (List ℕ)) (bs told : List ℕ) → IsToldIn mode seed bytes told → ComesFrom mode seed bytes left bs → bs ≡ told
 same_text Run seed bytes left bs told is from = same_input bytes left bs told is.0 from
 same_text Journal seed bytes left bs told is from = same_input bytes left bs told is.0 from
 same_text Check seed bytes left bs told is from = same_input bytes left bs told is.0 from
 same_text Gen seed bytes left bs told is from = from.1 ∙ sym is
 
 -- a text that is told isn't too long
-never_too_long : (mode : Mode) (seed : ℕ) (bytes left : Option (List ℕ)) (told : List ℕ) → IsToldIn mode seed bytes told → reads_in mode ≡ true → IsTooLong bytes left → ⊥
+pub never_too_long : (mode : Mode) (seed : ℕ) (bytes left : Option (List ℕ)) (told : List ℕ) → IsToldIn mode seed bytes told → reads_in mode ≡ true → IsTooLong bytes left → ⊥
 never_too_long Run seed bytes left told is reads long = not_too_long bytes left told is.0 is.1 long
 never_too_long Journal seed bytes left told is reads long = not_too_long bytes left told is.0 is.1 long
 never_too_long Check seed bytes left told is reads long = not_too_long bytes left told is.0 is.1 long
 never_too_long Gen seed bytes left told is reads long = absurd cc
 
 -- the input was too long, or it is answered
-due_parts : (o : Options) (bytes left : Option (List ℕ)) (status : RunStatus) (k : Kept) (text : List ℕ) → IsDueBy o bytes left status k text
+pub due_parts : (o : Options) (bytes left : Option (List ℕ)) (status : RunStatus) (k : Kept) (text : List ℕ) → IsDueBy o bytes left status k text
     → ((reads_in o.mode ≡ true) × IsTooLong bytes left) ⊎ ((bs : List ℕ) × ComesFrom o.mode o.seed bytes left bs × IsAnswer o bs status k text)
 due_parts o bytes left Done k text due = inr due
 due_parts o bytes left Stalled k text due = inr due
@@ -291,7 +291,7 @@ words_parts words bytes left (NotLegal at point) k text due = inr due
 words_parts words bytes left (BadJournal line) k text due = inr due
 
 -- by the options that the words are known to ask for
-due_by_these : (words : List (List ℕ)) (o : Options) (bytes left : Option (List ℕ)) (status : RunStatus) (k : Kept) (text : List ℕ) → options words ≡ Some o → IsDue words bytes left status k text → IsDueBy o bytes left status k text
+pub due_by_these : (words : List (List ℕ)) (o : Options) (bytes left : Option (List ℕ)) (status : RunStatus) (k : Kept) (text : List ℕ) → options words ≡ Some o → IsDue words bytes left status k text → IsDueBy o bytes left status k text
 due_by_these words o bytes left status k text taken due =
     elim (words_parts words bytes left status k text due) [
       | inl none ↦ taken_or_not words o _ none taken

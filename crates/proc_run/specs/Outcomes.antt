@@ -68,7 +68,7 @@ pub record IsRunOf (account : Account) (limit : ℕ) (scenario_text : List ℕ) 
   pub begins : b.journal.entries ≡ opening decls ++ rest
   pub legal : IsLegal b.journal.entries
   pub sound : IsSound b
-  pub limit : b.limit ≡ limit
+  pub its_limit : b.limit ≡ limit
   pub settled_so : how ≡ settled_of (flat (erase b.journal.entries)) (steps_in b.journal.entries) limit
   pub written : text ≡ text_of account b.journal.entries (flat (erase b.journal.entries)) how (steps_in b.journal.entries)
 

@@ -20,5 +20,5 @@ pub record IsRun (ds : List Decl) (limit : ℕ) (b : Recorded) : Type 0 where
   pub rest : List Entry
   pub begins : b.journal.entries ≡ opening ds ++ rest
   pub sound : IsSound b
-  pub limit : b.limit ≡ limit
+  pub its_limit : b.limit ≡ limit
   pub over : settled_on b ≢ Running

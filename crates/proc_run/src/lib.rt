@@ -1,12 +1,14 @@
 //! The whole run: from words and the bytes of a scenario to the text that is due.
 #![tactic(auto)]
 
+mod laws;
 mod machine;
 mod outcome;
 mod run;
 mod text;
 
 pub use cache_board::Board;
+pub use laws::what_a_run_writes_is_found_legal;
 pub use machine::run_machine;
 pub use outcome::{Kept, Outcome, RunStatus};
 pub use run_journal::{Entry, Journal};

@@ -1,6 +1,6 @@
 //! How a scenario runs on a board.
 
-ghost use Rattle.std.specs.Prelude.{◌≡◌, ◌∷◌, ◌++◌, None, IfOk, List, OnOk};
+ghost use Rattle.std.specs.Prelude.{◌≡◌, ◌∷◌, ◌++◌, true, None, IfOk, List, OnOk};
 ghost use Rattle.flat_state.specs.declared.events.Decl.{Decl};
 ghost use Rattle.flat_state.specs.declared.events.Decl.TheVariants as declaration;
 ghost use Rattle.flat_state.specs.declared.events.Machine.{Machine};
@@ -29,7 +29,7 @@ pub struct Finished {
     pub settled: Settled,
 }
 
-// Ends the declarations of a board with a first kernel, which weren't ended.
+// Ends the declarations of a board with a first kernel. Nothing but want of memory is in the way.
 fn seal(board: &mut Board) -> Result<(), NoMemory>
     requires { refusal_of_seal board.old ≡ None }
     ensures { OnOk result (IsSealing board.old board.new first_ident) }
@@ -42,12 +42,16 @@ fn seal(board: &mut Board) -> Result<(), NoMemory>
 
 // Runs the board of these declarations on one processor until its run is over. It waits for nobody.
 fn run_on_one(alloc: Global, board: &mut Board, decls: &[Decl]) -> Result<(), NoMemory>
-    requires sealed { (rest : List Entry) × (board.old.journal.entries ≡ opening decls.now ++ rest) }
+    requires sealed { board.old.sealed ≡ true }
+    requires begins { (rest : List Entry) × (board.old.journal.entries ≡ opening decls.now ++ rest) }
     ensures { OnOk result (IsRun decls.now board.old.limit board.new) }
 {
+    board.holds();
     let mut owners = Owners::new(alloc, decls)?;
     let mut quantum = Quantum::new(alloc, VIEWS)?;
-    run_alone(board, &mut owners, &mut quantum)
+    run_alone(board, &mut owners, &mut quantum)?;
+    board.holds();
+    Ok(())
 }
 
 /// Runs the scenario of these declarations on a board until all its threads have ended, none can go on, or it has taken

@@ -6,3 +6,5 @@
 mod calls_tests;
 #[cfg(test)]
 mod ends_tests;
+#[cfg(test)]
+mod runs_tests;
