@@ -54,8 +54,10 @@ fn take_turns(
 {
     let mut pace = Pace::new();
     let mut found = port.look(pace.wants_first());
-    while !matches!(found, Found::Over) {
-        found = turn(port, owners, quantum, &mut pace, QUANTUM, found)?;
+    'turns: loop {
+        match found {
+            Found::Over => return Ok(()),
+            _ => found = turn(port, owners, quantum, &mut pace, QUANTUM, found)?,
+        }
     }
-    Ok(())
 }

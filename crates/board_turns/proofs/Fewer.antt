@@ -1,5 +1,5 @@
 -- A commit that is refused for want of steps has more of them than are left.
-use Rattle.std.proofs.Common.{◌≡◌, ◌⊎◌, ℕ, ◌-◌, ◌<◌, Bool, true, false, List, Option, Some, None, refl, sym, ap, ◌∙◌, subst, inl, inr}
+use Rattle.std.proofs.Common.{◌≡◌, ◌⊎◌, ℕ, ◌-◌, ◌<◌, Bool, true, false, List, Option, Some, None, refl, subst, inl, inr}
 use Rattle.std.specs.Prelude.{if◌then◌else◌, find, nat_lt}
 use Rattle.std.specs.Option.{option_and_then, option_map, option_or}
 use Rattle.std.proofs.lemmas.Bool.{ltb-true}

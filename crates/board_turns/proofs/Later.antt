@@ -1,5 +1,5 @@
 -- What a quantum has, as its processor sees more of the journal.
-use Rattle.std.proofs.Common.{◌≡◌, List, ◌++◌, subst}
+use Rattle.std.proofs.Common.{List, subst}
 use mathlib.Core.List.{IsPrefix}
 use Rattle.cache_ident.specs.declared.idents.Ident.{Ident}
 use Rattle.run_journal.specs.declared.entries.Entry.{Entry}

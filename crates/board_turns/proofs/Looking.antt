@@ -1,5 +1,5 @@
 -- What a look tells.
-use Rattle.std.proofs.Common.{◌≡◌, ℕ, Bool, true, false, not, List, Option, Some, None, slice_get, refl, sym, ap, ◌∙◌, subst, inl, inr}
+use Rattle.std.proofs.Common.{◌≡◌, ℕ, Bool, true, false, not, List, Some, None, slice_get, refl, sym, ap, ◌∙◌, subst, inl, inr}
 use Rattle.std.specs.Prelude.{◌&&◌}
 use Rattle.cache_ident.specs.declared.names.Name.TheVariants as name
 use Rattle.cache_ident.specs.declared.names.ThreadNo.{ThreadNo}
@@ -11,7 +11,6 @@ use Rattle.flat_state.specs.Events.{flat}
 use Rattle.flat_state.specs.Signals.{is_runnable}
 use Rattle.flat_state.specs.State.{FlatState}
 use Rattle.run_journal.specs.Entries.{erase}
-use Rattle.run_journal.specs.Told.{residents}
 use Rattle.cache_board.proofs.PastLaws.{shows_residents, shows_flat}
 use Rattle.board_core.specs.desc_stores.specs.Contents.{residents_of}
 use Rattle.board_core.specs.cached_machine.specs.Cached.{is_loaded, state_of}
@@ -19,10 +18,10 @@ use Rattle.board_core.specs.cached_machine.proofs.LoadedLaws.{loaded_by}
 use Rattle.board_core.specs.Core.{contents_of, IsSound, Recorded}
 use Rattle.board_core.specs.Going.{IsOneEvent}
 use Rattle.board_core.proofs.GoingLaws.{grew_nothing}
-use Rattle.board_threads.specs.Tests.{completes, goes_on, passes, wants_load, IsWanted}
+use Rattle.board_threads.specs.Tests.{goes_on, passes, IsWanted}
 use Rattle.board_turns.specs.declared.found.Found.{Found}
 use Rattle.board_turns.specs.declared.found.Found.TheVariants.{Out, Wanted, Nothing, Over}
-use Rattle.board_turns.specs.Looks.{settled_on, HasLooked, IsFound, IsFoundWanted, IsIdle, IsSoAlone}
+use Rattle.board_turns.specs.Looks.{settled_on, HasLooked, IsFound, IsIdle, IsSoAlone}
 
 pub event_nothing : (cpu : ℕ) (b : Recorded) → IsSound b → IsOneEvent cpu b b
 event_nothing cpu b sound = record { grew = grew_nothing cpu b; was = sound; sound = sound }

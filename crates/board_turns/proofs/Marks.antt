@@ -1,12 +1,11 @@
 -- Who is on a processor once something was done.
 use Rattle.std.proofs.Common.{◌≡◌, ℕ, Bool, true, false, Option, Some, None, refl, sym, ap, ◌∙◌, subst}
-use Rattle.std.specs.Prelude.{if◌then◌else◌, ◌==◌, IfErr, OnOk, List, Contains, Result, Ok, Err}
+use Rattle.std.specs.Prelude.{if◌then◌else◌, ◌==◌, IfErr, OnOk, List, Result, Ok, Err}
 use Rattle.std.proofs.lemmas.Bool.{eq-eqb, eqb-true}
 use Rattle.cache_ident.specs.declared.names.Name.TheVariants as name
 use Rattle.cache_ident.specs.declared.names.ThreadNo.{ThreadNo}
 use Rattle.cache_ident.specs.Residents.{Resident, IsResident}
 use Rattle.board_core.specs.board_ops.specs.declared.refusals.Refused.{Refused}
-use Rattle.board_core.specs.desc_stores.specs.Contents.{residents_of}
 use Rattle.board_core.specs.cached_machine.specs.Posts.{but_at, mark_of}
 use Rattle.board_core.specs.quantum.specs.Ahead.{Ahead}
 use Rattle.board_core.specs.Answers.{IsRefused}

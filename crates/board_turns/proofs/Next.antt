@@ -1,13 +1,12 @@
 -- What a turn's deeds leave on a board with its owners.
-use Rattle.std.proofs.Common.{◌≡◌, ◌≢◌, ◌⊎◌, ℕ, ◌+◌, ◌-◌, ◌*◌, ◌<◌, ◌≤◌, min, Bool, true, false, not, List, Option, Some, None, Result, Ok, Err, slice_get, refl, sym, ap, ◌∙◌, subst, inl, inr, arith}
-use Rattle.std.specs.Prelude.{if◌then◌else◌, ◌&&◌, ◌||◌, ◌==◌, IfErr, IfSome, OnOk}
+use Rattle.std.proofs.Common.{◌≡◌, ◌≢◌, ℕ, ◌+◌, ◌-◌, ◌*◌, ◌<◌, ◌≤◌, min, Bool, true, false, not, Option, Some, None, Result, Ok, Err, slice_get, refl, sym, ap, ◌∙◌, subst, inl, inr, arith}
+use Rattle.std.specs.Prelude.{if◌then◌else◌, ◌&&◌, ◌||◌, ◌==◌, IfSome}
 use Rattle.std.specs.Option.{is_some}
 use Rattle.std.proofs.lemmas.Bool.{eq-eqb, eqb-true}
 use Rattle.cache_ident.specs.declared.names.Name.TheVariants as name
 use Rattle.cache_ident.specs.declared.names.ThreadNo.{ThreadNo}
 use Rattle.rv32_exec.specs.declared.statuses.Status.{Status}
 use Rattle.rv32_exec.specs.declared.statuses.Status.TheVariants.{Ready, Trapped, Ended}
-use Rattle.flat_state.specs.declared.records.FlatThread.{FlatThread}
 use Rattle.flat_state.specs.declared.records.Settled.TheVariants.{Running}
 use Rattle.flat_state.specs.Call.{is_completable, waits}
 use Rattle.flat_state.specs.Signals.{full_receiver, is_held, is_runnable}
@@ -22,23 +21,23 @@ use Rattle.owner_ports.specs.Brought.{HasGained, IsCalledOn}
 use Rattle.answer_laws.proofs.Running.{somebody_waits, steps_left}
 use Rattle.board_core.specs.board_ops.specs.declared.refusals.Refused.{Refused}
 use Rattle.board_core.specs.board_ops.specs.declared.refusals.Refused.TheVariants as why
-use Rattle.board_core.specs.cached_machine.specs.Cached.{is_loaded, state_of, Cached}
+use Rattle.board_core.specs.cached_machine.specs.Cached.{is_loaded, state_of}
 use Rattle.board_core.specs.quantum.specs.Ahead.{Ahead}
 use Rattle.board_core.specs.Core.{contents_of, IsSound, Recorded}
-use Rattle.board_core.specs.Going.{Grew}
 use Rattle.board_core.proofs.AheadLaws.{same_posted}
 use Rattle.board_threads.specs.declared.tickets.Ticket.{Ticket}
-use Rattle.board_threads.specs.Tests.{completes, goes_on, passes, wants_load, IsWanted}
+use Rattle.board_threads.specs.Tests.{completes, goes_on, wants_load, IsWanted}
 use Rattle.board_threads.proofs.SettleLemmas.{found_by}
 use Rattle.board_heal.specs.Promise.{IsHealable}
+use Rattle.reach_laws.specs.Reaching.{IsOwned}
 use Rattle.board_turns.specs.declared.committed.Committed.{Committed}
 use Rattle.board_turns.specs.declared.committed.Committed.TheVariants.{Taken, TooMany, Lost}
 use Rattle.board_turns.specs.declared.found.Found.{Found}
 use Rattle.board_turns.specs.declared.found.Found.TheVariants.{Out, Wanted, Nothing, Over}
-use Rattle.board_turns.specs.Holds.{AreTaken, HasCommitted, HasHealed, HasLeft, HasLeftIf, HasLookedIf}
-use Rattle.board_turns.specs.Looks.{settled_on, HasLooked, IsFound, IsOut, StandsAt}
+use Rattle.board_turns.specs.Holds.{AreTaken, HasCommitted, HasHealed, HasLeft}
+use Rattle.board_turns.specs.Looks.{settled_on, HasLooked, StandsAt}
 use Rattle.board_turns.specs.Paces.{must_bring, paced, wants_first, Beat}
-use Rattle.board_turns.specs.Turning.{turns_left, HasGrown, IsAtRest, IsAtRestBut, IsLeftBy, IsNext, IsOnQuantum, IsOwned, IsToStep, IsTriedBy, IsUnmarked}
+use Rattle.board_turns.specs.Turning.{turns_left, HasGrown, IsAtRest, IsAtRestBut, IsLeftBy, IsNext, IsOnQuantum, IsToStep, IsTriedBy, IsUnmarked}
 use Rattle.board_turns.proofs.Marks.{called_unmarked, committed_unmarked, healed_unmarked, left_unmarked, out_alone, room_out}
 
 -- ---- boards that grew

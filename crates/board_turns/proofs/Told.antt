@@ -1,5 +1,5 @@
 -- What each step of a turn leaves, where the board is told.
-use Rattle.std.proofs.Common.{◌≡◌, ◌≢◌, ℕ, ◌<◌, ◌≤◌, Bool, true, false, Option, Some, None, Result, Ok, Err, IfSome, refl, sym, ap, ◌∙◌, subst, inl, inr, arith}
+use Rattle.std.proofs.Common.{◌≡◌, ◌≢◌, ℕ, ◌<◌, ◌≤◌, Bool, true, false, Option, Some, None, Result, Ok, Err, IfSome, sym, ◌∙◌, subst, inl, inr, arith}
 use Rattle.std.specs.Prelude.{OnOk}
 use Rattle.cache_ident.specs.declared.names.ThreadNo.{ThreadNo}
 use Rattle.fault_forward.specs.declared.effects.Notice.{Notice}
@@ -19,6 +19,7 @@ use Rattle.board_core.specs.cached_machine.specs.Cached.{state_of}
 use Rattle.board_core.specs.quantum.specs.Ahead.{Ahead}
 use Rattle.board_core.specs.Core.{Recorded}
 use Rattle.board_threads.specs.declared.tickets.Ticket.{Ticket}
+use Rattle.reach_laws.specs.Reaching.{IsOwned}
 use Rattle.board_turns.specs.declared.committed.Committed.{Committed}
 use Rattle.board_turns.specs.declared.committed.Committed.TheVariants.{Taken, TooMany, Lost}
 use Rattle.board_turns.specs.declared.found.Found.{Found}
@@ -26,8 +27,8 @@ use Rattle.board_turns.specs.declared.found.Found.TheVariants.{Out, Wanted, Noth
 use Rattle.board_turns.specs.Holds.{HasCommitted, HasHealed}
 use Rattle.board_turns.specs.Looks.{HasLooked}
 use Rattle.board_turns.specs.Paces.{must_bring, paced, wants_first, Beat}
-use Rattle.board_turns.specs.Turning.{turns_left, HasGrown, IsAtRest, IsAtRestBut, IsLeftBy, IsNext, IsOnQuantum, IsOwned, IsToStep, IsTriedBy}
-use Rattle.board_turns.proofs.Next.{at_rest_nothing, at_rest_over, at_rest_wanted, call_of_wanted, closer, closer_behind, completed_less, healed_less, healed_rests, left_sooner, never_nothing, next_looked, not_more, on_quantum, owned_called, owned_still, rests_called, step_of_out, step_of_wanted, tried}
+use Rattle.board_turns.specs.Turning.{turns_left, HasGrown, IsAtRest, IsAtRestBut, IsLeftBy, IsNext, IsOnQuantum, IsToStep, IsTriedBy}
+use Rattle.board_turns.proofs.Next.{at_rest_nothing, at_rest_over, at_rest_wanted, call_of_wanted, closer, closer_behind, completed_less, healed_less, healed_rests, left_sooner, never_nothing, next_looked, on_quantum, owned_called, owned_still, rests_called, step_of_out, step_of_wanted, tried}
 
 abbrev Change : Type 1
 Change = Recorded → Recorded → Type 0

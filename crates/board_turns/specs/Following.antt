@@ -1,5 +1,5 @@
 -- How whoever has the board alone goes on.
-use Rattle.std.specs.Prelude.{◌≡◌, ℕ}
+use Rattle.std.specs.Prelude.{ℕ}
 use Rattle.std.proofs.Common.{sym}
 use mathlib.Core.List.{IsPrefix}
 use Rattle.board_core.specs.Core.{Recorded}

@@ -9,7 +9,7 @@ use Rattle.flat_state.specs.Signals.{is_held}
 use Rattle.left_laws.specs.Left.{left}
 use Rattle.owner_ports.specs.Brought.{HasGained}
 use Rattle.owners.specs.Known.{Known}
-use Rattle.owners.specs.Owning.{AreOwnersOf}
+use Rattle.reach_laws.specs.Reaching.{IsOwned}
 use Rattle.board_core.specs.desc_stores.specs.Contents.{residents_of}
 use Rattle.board_core.specs.cached_machine.specs.Cached.{state_of}
 use Rattle.board_core.specs.cached_machine.specs.Posts.{mark_of}
@@ -33,12 +33,6 @@ pub record HasGrown (old : Recorded) (before : ℕ) (new : Recorded) (after : �
   pub grew : Grew 0 old new
   pub sound : IsSound old → IsSound new
   pub gained : HasGained old before new after
-
--- the board is sound and sealed, and owners are owners of it
-pub record IsOwned (b : Recorded) (o : Known) : Type 0 where
-  pub sound : IsSound b
-  pub sealed : b.sealed ≡ true
-  pub are : AreOwnersOf b.journal.entries o
 
 -- ---- who is on a processor
 

@@ -9,9 +9,10 @@ ghost use Rattle.board_core.specs.cached_machine.specs.Cached.{state_of};
 ghost use Rattle.app_kernel.specs.Serving.{IsInCall};
 ghost use Rattle.owner_ports.specs.Boards.{OnTold};
 ghost use Rattle.owners.specs.Known.{Known};
+ghost use Rattle.reach_laws.specs.Reaching.{IsOwned};
 ghost use Rattle.board_turns.specs.declared.found.Found.TheVariants as found_so;
 ghost use Rattle.board_turns.specs.Paces.{beat_of, must_bring, Beat};
-ghost use Rattle.board_turns.specs.Turning.{turns_left, IsAtRest, IsAtRestBut, IsLeftBy, IsNext, IsOnQuantum, IsOwned, IsToStep};
+ghost use Rattle.board_turns.specs.Turning.{turns_left, IsAtRest, IsAtRestBut, IsLeftBy, IsNext, IsOnQuantum, IsToStep};
 
 use crate::found::Found;
 use crate::pace::Pace;

@@ -1,5 +1,5 @@
 -- A completion that isn't refused is of a call that can be completed.
-use Rattle.std.proofs.Common.{◌≡◌, Bool, true, false, not, Option, Some, None, slice_get, refl, sym, ap, ◌∙◌}
+use Rattle.std.proofs.Common.{◌≡◌, Bool, true, false, not, Option, Some, None, slice_get, refl, ap, ◌∙◌}
 use Rattle.std.specs.Prelude.{if◌then◌else◌, ◌&&◌}
 use Rattle.std.specs.Option.{option_or}
 use Rattle.cache_ident.specs.declared.idents.Ident.{Ident}

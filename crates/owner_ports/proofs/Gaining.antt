@@ -1,5 +1,5 @@
 -- What is left of a run on a board falls by the calls that bring something.
-use Rattle.std.proofs.Common.{◌≡◌, ◌<◌, ◌^◌, ℕ, ◌+◌, ◌-◌, ◌≤◌, min, true, List, Option, Some, None, Result, Ok, Err, slice_get, zero, suc, subst, sym, ap, ◌∙◌, refl, arith}
+use Rattle.std.proofs.Common.{◌≡◌, ◌<◌, ◌^◌, ℕ, ◌+◌, ◌-◌, ◌≤◌, true, Some, None, Result, Ok, Err, slice_get, zero, suc, sym, ap, ◌∙◌, refl, arith}
 use Rattle.std.specs.Prelude.{OnOk}
 use Rattle.std.proofs.Math.Nat.{le_refl}
 use Rattle.cache_ident.specs.declared.idents.Ident.{Ident}
@@ -13,7 +13,7 @@ use Rattle.left_laws.proofs.Falling.{completion_left, event_falls}
 use Rattle.board_calls.specs.Calls.{IsCompletion}
 use Rattle.board_checks.specs.Refusals.{refusal_of_complete}
 use Rattle.board_threads.specs.Faults.{HasEnded}
-use Rattle.board_core.specs.Core.{contents_of, IsSound, Recorded}
+use Rattle.board_core.specs.Core.{contents_of, Recorded}
 use Rattle.board_core.specs.Going.{GoesOn, IsOneEvent}
 use Rattle.board_core.specs.Growth.{one_more}
 use Rattle.board_core.specs.board_ops.specs.declared.refusals.Refused.{Refused}

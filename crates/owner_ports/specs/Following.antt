@@ -1,5 +1,5 @@
 -- Which board may come of a board, by calls of processor 0, and what is left of its run then.
-use Rattle.std.specs.Prelude.{◌≡◌, ℕ, ◌+◌}
+use Rattle.std.specs.Prelude.{ℕ, ◌+◌}
 use Rattle.std.proofs.Math.Nat.{le_refl, le_trans}
 use Rattle.left_laws.specs.Left.{left}
 use Rattle.board_core.specs.Core.{Recorded}

@@ -1,8 +1,8 @@
-use Rattle.std.proofs.Common.{Option, None, Some, subst}
+use Rattle.std.proofs.Common.{Option, Some, subst}
 use Rattle.owner_ports.specs.Boards.{OnTold}
+use Rattle.reach_laws.specs.Reaching.{IsOwned}
 use Rattle.board_turns.specs.declared.found.Found.{Found}
 use Rattle.board_turns.specs.Paces.{beat_of}
-use Rattle.board_turns.specs.Turning.{IsOwned}
 use Rattle.board_turns.proofs.Later.{kept_later}
 use Rattle.board_turns.proofs.Told.{found_behind, granted, grown_owned, told_then, Leaves}
 use Rattle.board_turns.proofs.turns.run_thread.Goals as goal

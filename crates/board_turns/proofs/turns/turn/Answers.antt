@@ -2,7 +2,7 @@ use Rattle.std.proofs.Common.{Bool, Option, subst, sym, ap, ◌∙◌}
 use Rattle.owner_ports.specs.Boards.{OnTold}
 use Rattle.board_turns.specs.declared.found.Found.{Found}
 use Rattle.board_turns.specs.Looks.{HasLooked}
-use Rattle.board_turns.specs.Paces.{beat_of, paced, wants_first, Beat}
+use Rattle.board_turns.specs.Paces.{beat_of, wants_first, Beat}
 use Rattle.board_turns.specs.Turning.{IsNext}
 use Rattle.board_turns.proofs.Later.{kept_later}
 use Rattle.board_turns.proofs.Told.{turn_looked, Takes}
