@@ -1,5 +1,5 @@
 -- A cause that was so of a later moment is so of an earlier one.
-use Rattle.std.proofs.Common.{◌≡◌, ◌⊎◌, ℕ, Result, Ok, Err, inl, inr, arith}
+use Rattle.std.proofs.Common.{Result, Ok, Err, inl, inr, arith}
 use Rattle.std.specs.Prelude.{IfOk}
 use Rattle.cache_ident.specs.declared.names.ThreadNo.{ThreadNo}
 use Rattle.fault_forward.specs.declared.effects.Notice.{Notice}
@@ -8,7 +8,7 @@ use Rattle.owner_ports.specs.declared.port.Heard.{Heard}
 use Rattle.owners.specs.Known.{Known}
 use Rattle.app_kernel.specs.declared.serving.Served.{Served}
 use Rattle.app_kernel.specs.declared.serving.Served.TheVariants as served
-use Rattle.app_kernel.specs.Answers.{HasRisenBy, IsReason}
+use Rattle.app_kernel.specs.Answers.{HasRisenBy}
 use Rattle.app_kernel.specs.Causes.{IsCause}
 
 pub cause_from : (o : Known) (thread : ThreadNo) (notice : Notice) (old mid new : Heard) (answer : Served) → HasRisenBy 0 old.calls mid.calls → HasRisenBy 0 old.asks mid.asks → IsCause o thread notice mid new answer → IsCause o thread notice old new answer

@@ -1,1 +1,7 @@
 pub mod CauseLaws
+pub mod Changes
+pub mod ToldLoaded
+pub mod WalkLaws
+pub mod ReachLaws
+pub mod FindLaws
+pub mod ServeLaws

@@ -1,5 +1,5 @@
 -- What went through a port while owners walked, and why a walk ends.
-use Rattle.std.specs.Prelude.{◌≡◌, ℕ, ◌+◌, ◌-◌, ◌≤◌, ◌^◌, ◌⊎◌, min, Option, Some, None, Result, Ok, Err}
+use Rattle.std.specs.Prelude.{◌≡◌, ℕ, ◌+◌, ◌-◌, ◌≤◌, ◌^◌, ◌⊎◌, min, Option, Some, Result}
 use Rattle.std.specs.Result.{result_err}
 use Rattle.std.specs.Option.{option_and_then}
 use Rattle.cache_ident.specs.declared.idents.Ident.{Ident}
@@ -7,10 +7,9 @@ use Rattle.cache_ident.specs.declared.names.Name.TheVariants.{Space}
 use Rattle.cache_ident.specs.declared.names.SpaceNo.{SpaceNo}
 use Rattle.cache_ident.specs.declared.names.Vpn.{Vpn}
 use Rattle.owner_ports.specs.declared.port.Heard.{Heard}
-use Rattle.owner_ports.specs.declared.port.PortCall.{PortCall}
 use Rattle.owner_ports.specs.declared.port.PortCall.TheVariants as calls
 use Rattle.owner_ports.specs.cache_board.specs.board_ops.specs.declared.refusals.Refused.{Refused}
-use Rattle.owner_ports.specs.cache_board.specs.board_ops.specs.declared.refusals.Refused.TheVariants.{AlreadyLoaded, NoMemory}
+use Rattle.owner_ports.specs.cache_board.specs.board_ops.specs.declared.refusals.Refused.TheVariants.{NoMemory}
 use Rattle.owners.specs.Known.{ident_of, Known}
 
 -- a count rose by so many, or stands at its last value
@@ -29,12 +28,6 @@ pub record IsLastRefused (n : ℕ) (old new : Heard) (why : Refused) : Type 0 wh
 -- .. or memory is wanted
 abbrev pub IsReason : ℕ → Heard → Heard → Refused → Type 0
 IsReason n old new why = (why ≡ NoMemory) ⊎ IsLastRefused n old new why
-
--- the identifier of what is loaded, which a load gave or was refused with
-abbrev pub loaded_as : Result Ident Refused → Result Ident Refused
-loaded_as (Ok ident) = Ok ident
-loaded_as (Err (AlreadyLoaded ident)) = Ok ident
-loaded_as (Err why) = Err why
 
 -- the last call was the load of the row of a page, by the identifier noted for the space, and this is its answer
 pub record IsAsked (o : Known) (space : SpaceNo) (vpn : Vpn) (h : Heard) (answer : Result Ident Refused) : Type 0 where

@@ -1,10 +1,16 @@
 //! What owners do for a thread that can't go on.
 
-ghost use Rattle.std.specs.Prelude.{◌≡◌, true, Some, IfErr, IfOk};
+ghost use Rattle.std.specs.Prelude.{◌≡◌, ℕ, true, Some, IfErr, IfOk};
+ghost use Rattle.rv32_exec.specs.declared.statuses.Access.{Access};
 ghost use Rattle.fault_forward.specs.declared.effects.Notice.{Notice};
+ghost use Rattle.owner_ports.specs.Boards.{OnTold};
 ghost use Rattle.owners.specs.Known.{space_of};
+ghost use Rattle.owners.specs.Owning.{AreOwnersOf};
+ghost use Rattle.reach_laws.specs.Reaching.{IsOwned};
 ghost use Rattle.app_kernel.specs.Answers.{HasRisenBy, IsReason};
 ghost use Rattle.app_kernel.specs.Causes.{page_of, IsCause, IsToldEnded};
+ghost use Rattle.app_kernel.specs.Serving.{Finishes, FinishesAt, Helps, IsHelped, IsServed, IsToldOf};
+ghost use Rattle.app_kernel.specs.Walks.{AreWalked};
 
 use crate::rows::load_message_row;
 use crate::walk::{Trust, reach_kernel_of, reach_thread, reach_thread_in};
@@ -33,6 +39,7 @@ fn has_ended<P: Port>(port: &mut P, thread: ThreadNo) -> bool
     ensures calls { (P.heard port.new).calls ≡ (P.heard port.old).calls }
     ensures said { (P.heard port.new).said ≡ (P.heard port.old).said }
     ensures ended { result ≡ true → IsToldEnded thread (P.heard port.new) }
+    ensures told { OnTold (P.board port.old) (P.board port.new) (λ old new. IsToldOf thread old new result) }
 {
     matches!(port.status(thread), Some(Status::Ended(_)))
 }
@@ -49,6 +56,9 @@ fn complete<P: Port>(
     ensures asks { HasRisenBy 0 (P.heard port.old).asks (P.heard port.new).asks }
     ensures refused { IfErr result (IsReason 1 (P.heard port.old) (P.heard port.new)) }
     ensures cause { (notice : Notice) → IfOk result (IsCause owners.new thread notice (P.heard port.old) (P.heard port.new)) }
+    ensures walked { IfErr result (λ _. AreWalked (P.board port.old) (P.board port.new) owners.old owners.new) }
+    ensures helped { IfOk result (λ served. OnTold (P.board port.old) (P.board port.new) (λ old new. IsOwned old owners.old → IsHelped thread Notice.Trap old new owners.new served)) }
+    ensures finished { IfErr result (λ why. OnTold (P.board port.old) (P.board port.new) (FinishesAt owners.old space thread why)) }
 {
     let kernel = reach_kernel_of(port, owners, space, Trust::Noted)?;
     let ident = reach_thread_in(port, owners, space, thread, Trust::Noted)?;
@@ -74,6 +84,8 @@ fn confirm<P: Port>(
     ensures refused { IfErr result (IsReason 1 (P.heard port.old) (P.heard port.new)) }
     ensures threads { owners.new.threads ≡ owners.old.threads }
     ensures cause { (notice : Notice) → IfOk result (IsCause owners.new thread notice (P.heard port.old) (P.heard port.new)) }
+    ensures walked { IfErr result (λ _. AreWalked (P.board port.old) (P.board port.new) owners.old owners.new) }
+    ensures helped { (va : ℕ) (access : Access) → IfOk result (λ served. OnTold (P.board port.old) (P.board port.new) (Helps thread (Notice.Fault va access) owners.old owners.new served)) }
 {
     let kernel = reach_kernel_of(port, owners, space, Trust::Noted)?;
     let ident = reach_thread_in(port, owners, space, thread, trust)?;
@@ -99,6 +111,8 @@ fn fill<P: Port>(
     ensures asks { HasRisenBy 0 (P.heard port.old).asks (P.heard port.new).asks }
     ensures refused { IfErr result (IsReason 1 (P.heard port.old) (P.heard port.new)) }
     ensures cause { (notice : Notice) → page_of notice ≡ Some vpn → IfOk result (IsCause owners.new thread notice (P.heard port.old) (P.heard port.new)) }
+    ensures walked { IfErr result (λ _. AreWalked (P.board port.old) (P.board port.new) owners.old owners.new) }
+    ensures helped { (va : ℕ) (access : Access) → IfOk result (λ served. OnTold (P.board port.old) (P.board port.new) (Helps thread (Notice.Fault va access) owners.old owners.new served)) }
 {
     match load_message_row(port, owners, space, vpn, trust)? {
         Ok(_) => Ok(Served::Resumed),
@@ -122,6 +136,9 @@ fn walk<P: Port>(
     ensures asks { HasRisenBy 0 (P.heard port.old).asks (P.heard port.new).asks }
     ensures refused { IfErr result (IsReason 1 (P.heard port.old) (P.heard port.new)) }
     ensures cause { IfOk result (IsCause owners.new thread notice (P.heard port.old) (P.heard port.new)) }
+    ensures walked { IfErr result (λ _. AreWalked (P.board port.old) (P.board port.new) owners.old owners.new) }
+    ensures helped { IfOk result (λ served. OnTold (P.board port.old) (P.board port.new) (Helps thread notice owners.old owners.new served)) }
+    ensures finished { trust ≡ Trust.Nothing → IfErr result (λ why. OnTold (P.board port.old) (P.board port.new) (Finishes thread notice owners.old why)) }
 {
     let space = reach_thread(port, owners, thread, trust)?;
     match notice {
@@ -145,12 +162,14 @@ fn attempt<P: Port>(
     ensures asks { HasRisenBy 0 (P.heard port.old).asks (P.heard port.new).asks }
     ensures refused { IfErr result (IsReason 1 (P.heard port.old) (P.heard port.new)) }
     ensures cause { IfOk result (IsCause owners.new thread notice (P.heard port.old) (P.heard port.new)) }
+    ensures walked { IfErr result (λ _. AreWalked (P.board port.old) (P.board port.new) owners.old owners.new) }
+    ensures helped { IfOk result (λ served. OnTold (P.board port.old) (P.board port.new) (Helps thread notice owners.old owners.new served)) }
+    ensures finished { IfErr result (λ why. OnTold (P.board port.old) (P.board port.new) (Finishes thread notice owners.old why)) }
 {
     match walk(port, owners, thread, notice, Trust::Noted) {
-        Err(refused) if refused != Refused::NoMemory => {
-            walk(port, owners, thread, notice, Trust::Nothing)
-        }
-        tried => tried,
+        Ok(served) => Ok(served),
+        Err(Refused::NoMemory) => Err(Refused::NoMemory),
+        Err(_) => walk(port, owners, thread, notice, Trust::Nothing),
     }
 }
 
@@ -163,6 +182,7 @@ fn attempt<P: Port>(
 pub fn serve<P: Port>(port: &mut P, owners: &mut Owners, thread: ThreadNo, notice: Notice) -> Served
     ensures followed { P.follows port.old port.new }
     ensures cause { IsCause owners.new thread notice (P.heard port.old) (P.heard port.new) result }
+    ensures told { OnTold (P.board port.old) (P.board port.new) (λ old new. old.sealed ≡ true → AreOwnersOf old.journal.entries owners.old → IsServed thread notice old new owners.new result) }
 {
     if has_ended(port, thread) {
         return Served::Ended;

@@ -1,12 +1,22 @@
 //! Reaching a thread: its kernel, its space and the thread itself are loaded, and their identifiers noted.
 
-ghost use Rattle.std.specs.Prelude.{◌≡◌, ◌⊎◌, None, Some, Ok, Err, IfErr, IfOk, IfSome, OnErr};
+ghost use Rattle.std.specs.Prelude.{◌≡◌, ◌⊎◌, ℕ, None, Some, Ok, Err, IfErr, IfOk, OnErr, OnOk, slice_get};
+ghost use Rattle.cache_ident.specs.declared.idents.Ident.{Ident};
+ghost use Rattle.cache_ident.specs.declared.names.KernelNo.{KernelNo};
 ghost use Rattle.cache_ident.specs.declared.names.Name.{Name};
-ghost use Rattle.owner_ports.specs.cache_board.specs.board_ops.specs.declared.refusals.Refused.TheVariants.{NoMemory};
+ghost use Rattle.cache_ident.specs.declared.names.SpaceNo.{SpaceNo};
+ghost use Rattle.board_core.specs.board_ops.specs.declared.refusals.Refused.TheVariants.{NoMemory};
+ghost use Rattle.board_core.specs.cached_machine.specs.Cached.{state_of};
+ghost use Rattle.board_core.specs.Core.{Recorded};
+ghost use Rattle.owner_ports.specs.Boards.{OnTold};
 ghost use Rattle.owners.specs.Known.{ident_of, space_of, IsNoted};
-ghost use Rattle.app_kernel.specs.Answers.{loaded_as, HasRisenBy, IsReason};
+ghost use Rattle.owners.specs.Owning.{IsThreadOf};
+ghost use Rattle.reach_laws.specs.Reaching.{kernel_ident, loaded_as, IsOwned};
+ghost use Rattle.reach_laws.specs.Searching.{space_told};
+ghost use Rattle.app_kernel.specs.Answers.{HasRisenBy, IsReason};
+ghost use Rattle.app_kernel.specs.Walks.{trusted_ident, AreWalked, BothReach, Finds, IsHad, IsKernelGot, KernelReaches, SpaceReaches, SpaceTries, ThreadPasses, ThreadReaches};
 
-use cache_ident::{Ident, KernelNo, Kind, Name, SpaceNo, ThreadNo};
+use cache_ident::{Ident, KernelNo, Kind, Name, NoMemory, SpaceNo, ThreadNo};
 use owner_ports::{Port, Refused};
 use owners::Owners;
 
@@ -26,7 +36,7 @@ pub enum Trust {
 
 // What is noted for a name, where that is trusted.
 fn trusted(owners: &Owners, name: Name, trust: Trust) -> Option<Ident>
-    ensures { IfSome result (λ ident. ident_of owners.now name ≡ Some ident) }
+    ensures { result ≡ trusted_ident trust owners.now name }
 {
     match trust {
         Trust::Noted => owners.noted(name),
@@ -53,6 +63,7 @@ fn take(owners: &mut Owners, name: Name, answer: Result<Ident, Refused>) -> Resu
     ensures taken { IfOk result (λ ident. loaded_as answer ≡ Ok ident) }
     ensures same { OnErr result (owners.new ≡ owners.old) }
     ensures refused { IfErr result (λ why. (why ≡ NoMemory) ⊎ (answer ≡ Err why)) }
+    ensures failed { IfErr result (λ why. (why ≡ NoMemory) ⊎ (loaded_as answer ≡ Err why)) }
 {
     let ident = loaded_as(answer)?;
     owners.note(name, ident)?;
@@ -71,6 +82,9 @@ pub fn reach_kernel<P: Port>(
     ensures asks { HasRisenBy 0 (P.heard port.old).asks (P.heard port.new).asks }
     ensures refused { IfErr result (IsReason 1 (P.heard port.old) (P.heard port.new)) }
     ensures threads { owners.new.threads ≡ owners.old.threads }
+    ensures walked { AreWalked (P.board port.old) (P.board port.new) owners.old owners.new }
+    ensures had { trust ≡ Trust.Noted → (ident : Ident) → kernel_ident owners.old kernel ≡ Some ident → IsHad (P.board port.old) (P.board port.new) owners.old owners.new ident result }
+    ensures reached { OnTold (P.board port.old) (P.board port.new) (λ old new. IsOwned old owners.old → (n : ℕ) → slice_get (state_of old.machine).spaces n ≡ Some kernel → trust ≡ Trust.Nothing → IsKernelGot new owners.new kernel result) }
 {
     if kernel.0 == 0 {
         return Ok(FIRST);
@@ -94,6 +108,9 @@ pub fn reach_kernel_of<P: Port>(
     ensures asks { HasRisenBy 0 (P.heard port.old).asks (P.heard port.new).asks }
     ensures refused { IfErr result (IsReason 1 (P.heard port.old) (P.heard port.new)) }
     ensures threads { owners.new.threads ≡ owners.old.threads }
+    ensures walked { AreWalked (P.board port.old) (P.board port.new) owners.old owners.new }
+    ensures had { trust ≡ Trust.Noted → (its : KernelNo) (ident : Ident) → slice_get owners.old.spaces space.0 ≡ Some its → kernel_ident owners.old its ≡ Some ident → IsHad (P.board port.old) (P.board port.new) owners.old owners.new ident result }
+    ensures reached { OnTold (P.board port.old) (P.board port.new) (KernelReaches owners.old owners.new space trust result) }
 {
     let kernel = owners.kernel_of(space).unwrap_or(KernelNo(0));
     reach_kernel(port, owners, kernel, trust)
@@ -112,6 +129,10 @@ pub fn reach_space<P: Port>(
     ensures refused { IfErr result (IsReason 1 (P.heard port.old) (P.heard port.new)) }
     ensures threads { owners.new.threads ≡ owners.old.threads }
     ensures noted { IfOk result (λ ident. ident_of owners.new (Name.Space space) ≡ Some ident) }
+    ensures walked { AreWalked (P.board port.old) (P.board port.new) owners.old owners.new }
+    ensures had { trust ≡ Trust.Noted → (its : KernelNo) (caller ident : Ident) → slice_get owners.old.spaces space.0 ≡ Some its → kernel_ident owners.old its ≡ Some caller → ident_of owners.old (Name.Space space) ≡ Some ident
+        → IsHad (P.board port.old) (P.board port.new) owners.old owners.new ident result }
+    ensures reached { OnTold (P.board port.old) (P.board port.new) (SpaceReaches owners.old owners.new space trust result) }
 {
     let kernel = reach_kernel_of(port, owners, space, trust)?;
     if let Some(ident) = trusted(owners, Name::Space(space), trust) {
@@ -135,6 +156,10 @@ pub fn reach_thread_in<P: Port>(
     ensures refused { IfErr result (IsReason 1 (P.heard port.old) (P.heard port.new)) }
     ensures threads { owners.new.threads ≡ owners.old.threads }
     ensures noted { IfOk result (λ ident. ident_of owners.new (Name.Thread thread) ≡ Some ident) }
+    ensures walked { AreWalked (P.board port.old) (P.board port.new) owners.old owners.new }
+    ensures had { trust ≡ Trust.Noted → (ident : Ident) → ident_of owners.old (Name.Thread thread) ≡ Some ident → IsHad (P.board port.old) (P.board port.new) owners.old owners.new ident result }
+    ensures passed { IfOk result (λ _. OnTold (P.board port.old) (P.board port.new) (ThreadPasses owners.old space thread trust)) }
+    ensures reached { OnTold (P.board port.old) (P.board port.new) (ThreadReaches owners.old owners.new space thread trust result) }
 {
     if let Some(ident) = trusted(owners, Name::Thread(thread), trust) {
         return Ok(ident);
@@ -146,7 +171,9 @@ pub fn reach_thread_in<P: Port>(
 }
 
 // The space of a thread, or another one of its kernel, where a refusal tells of it.
-fn space_told(owners: &Owners, refused: Refused) -> Option<SpaceNo> {
+fn space_told(owners: &Owners, refused: Refused) -> Option<SpaceNo>
+    ensures { result ≡ space_told owners.now refused }
+{
     match refused {
         Refused::NotOwner { owner, .. } => owners.space_of_kernel(owner),
         Refused::WrongParent { declared, .. } => match declared {
@@ -157,7 +184,49 @@ fn space_told(owners: &Owners, refused: Refused) -> Option<SpaceNo> {
     }
 }
 
-// Reaches a thread with its space, which is known from then on; or tells of another space where it isn't one of this.
+// Learns the space of a thread that was reached by it. Where what is noted was trusted, nothing was asked for, and it is known.
+fn learn_reached(
+    owners: &mut Owners,
+    space: SpaceNo,
+    thread: ThreadNo,
+    trust: Trust,
+) -> Result<(), NoMemory>
+    requires believed { trust ≡ Trust.Noted → space_of owners.old thread ≡ Some space }
+    ensures learnt { OnOk result (space_of owners.new thread ≡ Some space) }
+    ensures owned { (b : Recorded) → IsOwned b owners.old → (trust ≡ Trust.Nothing → IsThreadOf (state_of b.machine) space thread) → IsOwned b owners.new }
+    ensures idents { owners.new.idents ≡ owners.old.idents }
+{
+    match trust {
+        Trust::Noted => Ok(()),
+        Trust::Nothing => owners.learn_space(thread, space),
+    }
+}
+
+// Reaches a thread with its space, which is known from then on. What is noted is trusted of a space that is believed to be its
+// own.
+fn reach_both<P: Port>(
+    port: &mut P,
+    owners: &mut Owners,
+    space: SpaceNo,
+    thread: ThreadNo,
+    trust: Trust,
+) -> Result<(), Refused>
+    requires believed { trust ≡ Trust.Noted → space_of owners.old thread ≡ Some space }
+    ensures followed { P.follows port.old port.new }
+    ensures calls { HasRisenBy 0 (P.heard port.old).calls (P.heard port.new).calls }
+    ensures asks { HasRisenBy 0 (P.heard port.old).asks (P.heard port.new).asks }
+    ensures refused { IfErr result (IsReason 1 (P.heard port.old) (P.heard port.new)) }
+    ensures learnt { OnOk result (space_of owners.new thread ≡ Some space) }
+    ensures walked { AreWalked (P.board port.old) (P.board port.new) owners.old owners.new }
+    ensures reached { OnTold (P.board port.old) (P.board port.new) (BothReach owners.old owners.new space thread trust result) }
+{
+    reach_space(port, owners, space, trust)?;
+    reach_thread_in(port, owners, space, thread, trust)?;
+    learn_reached(owners, space, thread, trust)?;
+    Ok(())
+}
+
+// The same; or tells of another space where it isn't one of this.
 fn try_space<P: Port>(
     port: &mut P,
     owners: &mut Owners,
@@ -165,22 +234,34 @@ fn try_space<P: Port>(
     thread: ThreadNo,
     trust: Trust,
 ) -> Result<Option<SpaceNo>, Refused>
+    requires believed { trust ≡ Trust.Noted → space_of owners.old thread ≡ Some space }
     ensures followed { P.follows port.old port.new }
     ensures calls { HasRisenBy 0 (P.heard port.old).calls (P.heard port.new).calls }
     ensures asks { HasRisenBy 0 (P.heard port.old).asks (P.heard port.new).asks }
     ensures refused { IfErr result (IsReason 1 (P.heard port.old) (P.heard port.new)) }
     ensures learnt { IfOk result (λ told. told ≡ None → space_of owners.new thread ≡ Some space) }
+    ensures walked { AreWalked (P.board port.old) (P.board port.new) owners.old owners.new }
+    ensures reached { OnTold (P.board port.old) (P.board port.new) (SpaceTries owners.old owners.new space thread trust result) }
 {
-    reach_space(port, owners, space, trust)?;
-    match reach_thread_in(port, owners, space, thread, trust) {
-        Ok(_) => {
-            owners.learn_space(thread, space)?;
-            Ok(None)
-        }
+    match reach_both(port, owners, space, thread, trust) {
+        Ok(()) => Ok(None),
         Err(refused) => match space_told(owners, refused) {
             Some(told) => Ok(Some(told)),
             None => Err(refused),
         },
+    }
+}
+
+// The space that is tried first, and whether what is noted is trusted there: that in which the thread is believed to be, or else
+// any.
+fn first_try(owners: &Owners, thread: ThreadNo, trust: Trust) -> (SpaceNo, Trust)
+    ensures believed { result.1 ≡ Trust.Noted → space_of owners.now thread ≡ Some result.0 }
+    ensures known { (space : SpaceNo) → space_of owners.now thread ≡ Some space → (result.0 ≡ space) × (result.1 ≡ trust) }
+    ensures unknown { space_of owners.now thread ≡ None → (result.0 ≡ record { 0 = 0 }) × (result.1 ≡ Trust.Nothing) }
+{
+    match owners.space_of(thread) {
+        Some(space) => (space, trust),
+        None => (SpaceNo(0), Trust::Nothing),
     }
 }
 
@@ -197,19 +278,16 @@ pub fn reach_thread<P: Port>(
     ensures asks { HasRisenBy 0 (P.heard port.old).asks (P.heard port.new).asks }
     ensures refused { IfErr result (IsReason 1 (P.heard port.old) (P.heard port.new)) }
     ensures learnt { IfOk result (λ space. space_of owners.new thread ≡ Some space) }
+    ensures walked { AreWalked (P.board port.old) (P.board port.new) owners.old owners.new }
+    ensures reached { OnTold (P.board port.old) (P.board port.new) (Finds owners.old owners.new thread trust result) }
 {
-    let (first, trust) = match owners.space_of(thread) {
-        Some(space) => (space, trust),
-        None => (SpaceNo(0), Trust::Nothing),
-    };
+    let (first, trust) = first_try(owners, thread, trust);
     let Some(second) = try_space(port, owners, first, thread, trust)? else {
         return Ok(first);
     };
     let Some(third) = try_space(port, owners, second, thread, Trust::Nothing)? else {
         return Ok(second);
     };
-    reach_space(port, owners, third, Trust::Nothing)?;
-    reach_thread_in(port, owners, third, thread, Trust::Nothing)?;
-    owners.learn_space(thread, third)?;
+    reach_both(port, owners, third, thread, Trust::Nothing)?;
     Ok(third)
 }

@@ -113,6 +113,7 @@ impl Port for Alone<'_> {
     }
 
     fn status(&mut self, thread: ThreadNo) -> Option<Status> {
+        self.board.holds();
         let status = self.board.flat_thread(thread).map(|record| record.status);
         self.heard = self.heard.with_told(thread, status);
         status

@@ -1,6 +1,6 @@
 //! How owners reach the board.
 
-ghost use Rattle.std.specs.Prelude.{◌≡◌, None, Option, Some};
+ghost use Rattle.std.specs.Prelude.{◌≡◌, IfSome, None, Option, Some};
 ghost use Rattle.std.specs.Result.{result_err};
 ghost use Rattle.cache_ident.specs.declared.names.Name.{Name};
 ghost use Rattle.cache_ident.specs.declared.names.SpaceNo.{SpaceNo};
@@ -9,7 +9,7 @@ ghost use Rattle.cache_board.specs.board_commits.specs.board_checks.specs.Identi
 ghost use Rattle.cache_board.specs.board_commits.specs.board_checks.specs.Refusals.{refusal_of_complete, refusal_of_load_kernel, refusal_of_load_mapping, refusal_of_load_space, refusal_of_load_thread, refusal_of_unload};
 ghost use Rattle.cache_board.specs.board_commits.specs.board_threads.specs.Faults.{HasEnded};
 ghost use Rattle.cache_board.specs.board_commits.specs.board_threads.specs.Refusals.{refusal_of_fault};
-ghost use Rattle.cache_board.specs.board_core.specs.Core.{contents_of, Recorded};
+ghost use Rattle.cache_board.specs.board_core.specs.Core.{contents_of, IsSound, Recorded};
 ghost use Rattle.board_loads.specs.Holds.{IsUnloadedAs};
 ghost use Rattle.board_loads.specs.Loads.{IsLoadedAs};
 ghost use Rattle.owner_ports.specs.declared.port.Heard.{Heard};
@@ -166,9 +166,11 @@ pub trait Port {
         ensures counted { heard self.new ≡ called (heard self.old) (PortCall.ConfirmFault thread) (result_err result) }
         ensures followed { follows self.old self.new };
 
-    /// The status of a thread, loaded or not; where the port tells its board, none exactly where there is no such thread.
+    /// The status of a thread, loaded or not; where the port tells its board, none exactly where there is no such thread. It
+    /// gives out what holds of every board, as each event does.
     fn status(&mut self, thread: ThreadNo) -> Option<Status>
         ensures call { OnTold (board self.old) (board self.new) (λ old new. (new ≡ old) × (result ≡ status_in old thread)) }
+        ensures sound { IfSome (board self.old) IsSound }
         ensures counted { heard self.new ≡ asked (heard self.old) thread result }
         ensures followed { follows self.old self.new };
 

@@ -1,6 +1,8 @@
-use Rattle.std.proofs.Common.{◌≡◌, ◌⊎◌, ℕ, Some}
+use Rattle.std.proofs.Common.{◌≡◌, ◌⊎◌, Some}
 use Rattle.owner_ports.specs.cache_board.specs.board_ops.specs.declared.refusals.Refused.TheVariants.{NoMemory}
 use Rattle.app_kernel.specs.Answers.{last_refusal, HasRisenBy}
+use Rattle.app_kernel.specs.Walks.{AreWalked}
+use Rattle.app_kernel.proofs.ServeLaws.{IsTried}
 use Rattle.app_kernel.proofs.serving.serve.Given as goal
 
 abbrev pub invariant-loop : goal.invariant-loop
@@ -9,4 +11,6 @@ invariant-loop g l = record {
   calls : HasRisenBy l.counter (g.P.Port.heard l.fn.port).calls (g.P.Port.heard l.port).calls;
   asks : HasRisenBy 0 (g.P.Port.heard l.fn.port).asks (g.P.Port.heard l.port).asks;
   last : (l.last ≡ NoMemory) ⊎ (last_refusal (g.P.Port.heard l.port) ≡ Some l.last);
+  walked : AreWalked (g.P.Port.board l.initial.port) (g.P.Port.board l.port) l.fn.owners l.owners;
+  tried : IsTried l.thread l.notice l.fn.owners l.last (g.P.Port.board l.fn.port);
 }
