@@ -1,7 +1,6 @@
-use Rattle.std.proofs.Common.{Bool, subst, ◌∙◌}
-use Rattle.board_turns.specs.declared.found.Found.{Found}
+use Rattle.std.proofs.Common.{Bool, subst, rules, ◌∙◌}
 use Rattle.board_turns.specs.Following.{begins_with_seen, grown_more}
-use Rattle.board_turns.specs.Looks.{HasLooked, IsSoAlone}
+use Rattle.board_turns.specs.Looks.{HasLooked}
 use Rattle.board_turns.specs.Paces.{beat_of}
 use Rattle.board_turns.proofs.Later.{kept_later}
 use Rattle.board_turns.proofs.Next.{next_looked}
@@ -20,4 +19,32 @@ turns-init c =
       next = next_looked before.board.now after.board.now before.brought after.brought grown c.args.owners.now (beat_of c.new-pace.result) look.result c.requires.rest looked;
       so = look.ensures.so;
       kept = kept_later before.board.now.journal.entries after.board.now.journal.entries c.args.quantum.now (begins_with_seen before.board.now after.board.now before.brought after.brought grown) c.requires.kept;
+    }
+
+pub turns-preserved : goal.turns-preserved
+turns-preserved c =
+    let first = c.args.port.now in
+    let before = c.turns.port in
+    let turn = c.turn in
+    let after = turn.new.port in
+    record {
+      same = turn.ensures.continued.0 ∙ c.turns.invariant.same;
+      grown = grown_more first.board.now before.board.now after.board.now first.brought before.brought after.brought c.turns.invariant.grown turn.ensures.continued.1;
+      next = c.in_ok-found-in_default.ensures.next c.turns.invariant.next;
+      so = c.in_ok-found-in_default.ensures.so;
+      kept = turn.ensures.kept;
+    }
+
+pub returns-in_err-found-in_default : goal.returns-in_err-found-in_default
+returns-in_err-found-in_default c =
+    let first = c.args.port.now in
+    let before = c.turns.port in
+    let turn = c.turn in
+    let after = turn.new.port in
+    record {
+      same_reference = turn.ensures.continued.0 ∙ c.turns.invariant.same;
+      grew = (grown_more first.board.now before.board.now after.board.now first.brought before.brought after.brought c.turns.invariant.grown turn.ensures.continued.1).grew;
+      over = search rules;
+      owners = (turn.ensures.owned c.turns.invariant.next.owned).are;
+      kept = turn.ensures.kept;
     }

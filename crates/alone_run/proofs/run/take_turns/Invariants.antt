@@ -1,5 +1,4 @@
 use Rattle.std.proofs.Common.{◌≡◌}
-use Rattle.board_core.specs.Going.{Grew}
 use Rattle.board_commits.specs.Tickets.{AreAllAsOf}
 use Rattle.board_turns.specs.Looks.{IsSoAlone}
 use Rattle.board_turns.specs.Paces.{beat_of}
