@@ -1,0 +1,2 @@
+pub use Rattle.board_turns
+pub use Rattle.board_turns.specs.cache_board

@@ -2,9 +2,9 @@
 
 ghost use Rattle.std.specs.Prelude.{◌≡◌, ◌≢◌, true, OnOk};
 ghost use Rattle.flat_state.specs.declared.records.Settled.TheVariants.{Running};
-ghost use Rattle.owners.specs.Owning.{AreOwnersOf};
-ghost use Rattle.board_core.specs.Going.{Grew};
-ghost use Rattle.board_commits.specs.Tickets.{AreAllAsOf};
+ghost use Rattle.board_turns.specs.owners.specs.Owning.{AreOwnersOf};
+ghost use Rattle.board_turns.specs.board_core.specs.Going.{Grew};
+ghost use Rattle.board_turns.specs.board_commits.specs.Tickets.{AreAllAsOf};
 ghost use Rattle.board_turns.specs.Looks.{settled_on};
 ghost use Rattle.board_turns.specs.Turning.{IsAtRest};
 

@@ -22,8 +22,8 @@ use Rattle.board_loads.specs.Loads.{IsLoadedAs}
 use Rattle.owners.specs.Known.{ident_of, IsNoted, IsSpaceLearnt, Known}
 use Rattle.owners.specs.Owning.{IsThreadOf}
 use Rattle.board_core.specs.Answers.{IsRefused}
-use Rattle.owner_laws.specs.Passing.{Passes}
-use Rattle.owner_laws.proofs.Spaces.{is_of_space}
+use Rattle.reach_laws.specs.owner_laws.specs.Passing.{Passes}
+use Rattle.reach_laws.specs.owner_laws.proofs.Spaces.{is_of_space}
 use Rattle.owner_ports.specs.Boards.{IsRoomyCall, OnTold}
 use Rattle.reach_laws.specs.Reaching.{kernel_ident, loaded_as, IsGot, IsLoadAnswer, IsOwned, IsReached}
 use Rattle.reach_laws.specs.Searching.{space_told, IsNearer}

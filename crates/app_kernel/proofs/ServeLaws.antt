@@ -36,7 +36,7 @@ use Rattle.board_threads.specs.Faults.{HasEnded}
 use Rattle.board_threads.specs.Refusals.{refusal_of_fault}
 use Rattle.owners.specs.Known.{ident_of, Known}
 use Rattle.owners.specs.Owning.{AreOwnersOf, IsThreadOf}
-use Rattle.owner_laws.proofs.Naming.{names_it}
+use Rattle.reach_laws.specs.owner_laws.proofs.Naming.{names_it}
 use Rattle.owner_ports.specs.Boards.{IsCall, IsRoomyCall, OnTold}
 use Rattle.reach_laws.specs.Reaching.{kernel_ident, IsOwned}
 use Rattle.reach_laws.proofs.Calling.{completes, completion_steps, has_ended}

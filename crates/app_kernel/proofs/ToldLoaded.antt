@@ -22,11 +22,11 @@ use Rattle.board_core.specs.desc_stores.specs.Contents.{residents_of, Contents}
 use Rattle.board_core.specs.desc_parents.specs.Seen.{seen}
 use Rattle.board_core.specs.Core.{contents_of, IsSound, Recorded}
 use Rattle.board_checks.specs.Refusals.{already_loaded, beyond_rights, is_absent, receivers_absent, refusal_in_space, refusal_of_load_kernel, refusal_of_load_mapping, refusal_of_load_space, refusal_of_load_thread, refusal_of_row, wrong_receiver, wrong_space}
-use Rattle.answer_laws.proofs.LoadAnswers.{told}
+use Rattle.reach_laws.specs.answer_laws.proofs.LoadAnswers.{told}
 use Rattle.owners.specs.Known.{ident_of, Known}
 use Rattle.owners.specs.Owning.{AreOwnersOf}
-use Rattle.owner_laws.proofs.Spaces.{stands_for}
-use Rattle.owner_laws.proofs.Tests.{first_passes, not_a_never, not_a_receiver_never, not_declared_never, not_owned_never, told_is_later}
+use Rattle.reach_laws.specs.owner_laws.proofs.Spaces.{stands_for}
+use Rattle.reach_laws.specs.owner_laws.proofs.Tests.{first_passes, not_a_never, not_a_receiver_never, not_declared_never, not_owned_never, told_is_later}
 
 -- a test that refuses for another reason
 never_if : (t : Bool) (x : Refused) (ident : Ident) → (x ≡ why.AlreadyLoaded ident → ⊥) → (if t then None else Some x) ≡ Some (why.AlreadyLoaded ident) → ⊥

@@ -26,11 +26,11 @@ use Rattle.board_loads.specs.Loads.{IsLoadedAs}
 use Rattle.owners.specs.Known.{ident_of, IsNoted, IsReceiverLearnt, Known}
 use Rattle.owners.specs.Owning.{IsThreadOf, WasLoadedAs}
 use Rattle.owners.proofs.Learning.{noted_so}
-use Rattle.owner_laws.specs.Passing.{thread_named}
-use Rattle.owner_laws.proofs.Naming.{was_given, was_loaded}
-use Rattle.owner_laws.proofs.Receivers.{is_receiver}
-use Rattle.owner_laws.proofs.Spaces.{stands_for}
-use Rattle.owner_laws.proofs.Tests.{both_pass}
+use Rattle.reach_laws.specs.owner_laws.specs.Passing.{thread_named}
+use Rattle.reach_laws.specs.owner_laws.proofs.Naming.{was_given, was_loaded}
+use Rattle.reach_laws.specs.owner_laws.proofs.Receivers.{is_receiver}
+use Rattle.reach_laws.specs.owner_laws.proofs.Spaces.{stands_for}
+use Rattle.reach_laws.specs.owner_laws.proofs.Tests.{both_pass}
 use Rattle.owner_ports.specs.Boards.{IsCall, IsRoomyCall, OnTold}
 use Rattle.reach_laws.specs.Reaching.{loaded_as, IsOwned}
 use Rattle.reach_laws.proofs.Keeping.{steps_stay}

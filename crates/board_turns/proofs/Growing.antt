@@ -2,7 +2,7 @@
 use Rattle.std.proofs.Common.{ℕ, ◌+◌, ◌≤◌}
 use Rattle.board_core.specs.Core.{Recorded}
 use Rattle.board_core.specs.Going.{IsOneEvent}
-use Rattle.owner_ports.proofs.Gaining.{call_gains, event_gains}
+use Rattle.app_kernel.specs.owner_ports.proofs.Gaining.{call_gains, event_gains}
 use Rattle.board_turns.specs.Turning.{HasGrown}
 
 module _ (old new : Recorded) (event : IsOneEvent 0 old new) where

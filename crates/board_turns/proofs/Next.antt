@@ -11,14 +11,14 @@ use Rattle.flat_state.specs.declared.records.Settled.TheVariants.{Running}
 use Rattle.flat_state.specs.Call.{is_completable, waits}
 use Rattle.flat_state.specs.Signals.{full_receiver, is_held, is_runnable}
 use Rattle.flat_state.specs.State.{FlatState, is_ready, is_trapped}
-use Rattle.left_laws.specs.Left.{left}
-use Rattle.left_laws.proofs.Falling.{completion_left, event_falls}
+use Rattle.app_kernel.specs.left_laws.specs.Left.{left}
+use Rattle.app_kernel.specs.left_laws.proofs.Falling.{completion_left, event_falls}
 use Rattle.app_kernel.specs.Serving.{IsCallCompleted, IsInCall}
-use Rattle.owners.specs.Known.{Known}
-use Rattle.owners.specs.Owning.{AreOwnersOf}
-use Rattle.owner_laws.proofs.Naming.{owners_stay}
-use Rattle.owner_ports.specs.Brought.{HasGained, IsCalledOn}
-use Rattle.answer_laws.proofs.Running.{somebody_waits, steps_left}
+use Rattle.app_kernel.specs.owners.specs.Known.{Known}
+use Rattle.app_kernel.specs.owners.specs.Owning.{AreOwnersOf}
+use Rattle.app_kernel.specs.owner_laws.proofs.Naming.{owners_stay}
+use Rattle.app_kernel.specs.owner_ports.specs.Brought.{HasGained, IsCalledOn}
+use Rattle.app_kernel.specs.answer_laws.proofs.Running.{somebody_waits, steps_left}
 use Rattle.board_core.specs.board_ops.specs.declared.refusals.Refused.{Refused}
 use Rattle.board_core.specs.board_ops.specs.declared.refusals.Refused.TheVariants as why
 use Rattle.board_core.specs.cached_machine.specs.Cached.{is_loaded, state_of}
@@ -29,7 +29,7 @@ use Rattle.board_threads.specs.declared.tickets.Ticket.{Ticket}
 use Rattle.board_threads.specs.Tests.{completes, goes_on, wants_load, IsWanted}
 use Rattle.board_threads.proofs.SettleLemmas.{found_by}
 use Rattle.board_heal.specs.Promise.{IsHealable}
-use Rattle.reach_laws.specs.Reaching.{IsOwned}
+use Rattle.app_kernel.specs.reach_laws.specs.Reaching.{IsOwned}
 use Rattle.board_turns.specs.declared.committed.Committed.{Committed}
 use Rattle.board_turns.specs.declared.committed.Committed.TheVariants.{Taken, TooMany, Lost}
 use Rattle.board_turns.specs.declared.found.Found.{Found}

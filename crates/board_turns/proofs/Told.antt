@@ -4,11 +4,11 @@ use Rattle.std.specs.Prelude.{OnOk}
 use Rattle.cache_ident.specs.declared.names.ThreadNo.{ThreadNo}
 use Rattle.fault_forward.specs.declared.effects.Notice.{Notice}
 use Rattle.fault_forward.specs.declared.effects.Notice.TheVariants.{Trap}
-use Rattle.left_laws.specs.Left.{left}
-use Rattle.owners.specs.Known.{Known}
-use Rattle.owners.specs.Owning.{AreOwnersOf}
-use Rattle.owner_ports.specs.Boards.{OnTold}
-use Rattle.owner_ports.specs.Brought.{IsCalledOn}
+use Rattle.app_kernel.specs.left_laws.specs.Left.{left}
+use Rattle.app_kernel.specs.owners.specs.Known.{Known}
+use Rattle.app_kernel.specs.owners.specs.Owning.{AreOwnersOf}
+use Rattle.app_kernel.specs.owner_ports.specs.Boards.{OnTold}
+use Rattle.app_kernel.specs.owner_ports.specs.Brought.{IsCalledOn}
 use Rattle.app_kernel.specs.declared.serving.Served.{Served}
 use Rattle.app_kernel.specs.declared.serving.Served.TheVariants.{Again}
 use Rattle.app_kernel.specs.Serving.{IsInCall, IsServed}
@@ -19,7 +19,7 @@ use Rattle.board_core.specs.cached_machine.specs.Cached.{state_of}
 use Rattle.board_core.specs.quantum.specs.Ahead.{Ahead}
 use Rattle.board_core.specs.Core.{Recorded}
 use Rattle.board_threads.specs.declared.tickets.Ticket.{Ticket}
-use Rattle.reach_laws.specs.Reaching.{IsOwned}
+use Rattle.app_kernel.specs.reach_laws.specs.Reaching.{IsOwned}
 use Rattle.board_turns.specs.declared.committed.Committed.{Committed}
 use Rattle.board_turns.specs.declared.committed.Committed.TheVariants.{Taken, TooMany, Lost}
 use Rattle.board_turns.specs.declared.found.Found.{Found}

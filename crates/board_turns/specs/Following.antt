@@ -4,8 +4,8 @@ use Rattle.std.proofs.Common.{sym}
 use mathlib.Core.List.{IsPrefix}
 use Rattle.board_core.specs.Core.{Recorded}
 use Rattle.board_core.proofs.GoingLaws.{grew_more}
-use Rattle.owner_ports.specs.Brought.{HasGained, IsCalledOn}
-use Rattle.owner_ports.specs.Following.{gains_more}
+use Rattle.app_kernel.specs.owner_ports.specs.Brought.{HasGained, IsCalledOn}
+use Rattle.app_kernel.specs.owner_ports.specs.Following.{gains_more}
 use Rattle.board_turns.specs.Turning.{HasGrown}
 
 pub begins_with_seen : (old new : Recorded) (before after : ℕ) → HasGrown old before new after → IsPrefix old.journal.entries new.journal.entries

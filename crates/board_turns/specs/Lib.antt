@@ -1,4 +1,8 @@
 pub use Rattle.app_kernel
+pub use Rattle.app_kernel.specs.owners
+pub use Rattle.board_commits
+pub use Rattle.board_core
+pub use Rattle.cache_board
 pub mod Looks
 pub mod Paces
 pub mod Holds

@@ -6,10 +6,10 @@ use Rattle.cache_ident.specs.Residents.{IsResident}
 use Rattle.rv32_exec.specs.declared.statuses.Status.TheVariants.{Ready}
 use Rattle.flat_state.specs.declared.records.FlatThread.{FlatThread}
 use Rattle.flat_state.specs.Signals.{is_held}
-use Rattle.left_laws.specs.Left.{left}
-use Rattle.owner_ports.specs.Brought.{HasGained}
-use Rattle.owners.specs.Known.{Known}
-use Rattle.reach_laws.specs.Reaching.{IsOwned}
+use Rattle.app_kernel.specs.left_laws.specs.Left.{left}
+use Rattle.app_kernel.specs.owner_ports.specs.Brought.{HasGained}
+use Rattle.app_kernel.specs.owners.specs.Known.{Known}
+use Rattle.app_kernel.specs.reach_laws.specs.Reaching.{IsOwned}
 use Rattle.board_core.specs.desc_stores.specs.Contents.{residents_of}
 use Rattle.board_core.specs.cached_machine.specs.Cached.{state_of}
 use Rattle.board_core.specs.cached_machine.specs.Posts.{mark_of}

@@ -7,7 +7,7 @@ ghost use Rattle.page_views.specs.Views.{can_fill};
 ghost use Rattle.run_journal.specs.declared.entries.Entry.{Entry};
 ghost use Rattle.board_commits.specs.Tickets.{AreAllAsOf, AreOfTicket};
 ghost use Rattle.board_threads.specs.declared.tickets.Ticket.{Ticket};
-ghost use Rattle.owner_ports.specs.Boards.{OnTold};
+ghost use Rattle.app_kernel.specs.owner_ports.specs.Boards.{OnTold};
 ghost use Rattle.board_turns.specs.declared.found.Found.{Found};
 ghost use Rattle.board_turns.specs.Holds.{found_by, AreFewer, HasCommitted, HasHealed, IsPageAnswer};
 ghost use Rattle.board_turns.specs.Looks.{Allows, HasLooked};

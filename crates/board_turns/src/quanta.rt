@@ -2,8 +2,8 @@
 
 ghost use Rattle.std.specs.Prelude.{◌≡◌, ◌<◌, ◌≤◌, true, IfOk, IfSome};
 ghost use Rattle.board_commits.specs.Tickets.{AreAllAsOf, AreOfTicket};
-ghost use Rattle.owner_ports.specs.Boards.{OnTold};
-ghost use Rattle.owners.specs.Known.{Known};
+ghost use Rattle.app_kernel.specs.owner_ports.specs.Boards.{OnTold};
+ghost use Rattle.app_kernel.specs.owners.specs.Known.{Known};
 ghost use Rattle.board_turns.specs.declared.found.Found.TheVariants as found_so;
 ghost use Rattle.board_turns.specs.Holds.{found_by, AreFewer};
 ghost use Rattle.board_turns.specs.Paces.{beat_of, paced, wants_first};

@@ -2,14 +2,14 @@
 
 ghost use Rattle.std.specs.Prelude.{◌≡◌, ◌≢◌, ◌<◌, true, IfOk, IfSome, OnOk};
 ghost use Rattle.fault_forward.specs.declared.effects.Notice.TheVariants as notices;
-ghost use Rattle.left_laws.specs.Left.{left};
+ghost use Rattle.app_kernel.specs.left_laws.specs.Left.{left};
 ghost use Rattle.board_commits.specs.Tickets.{AreAllAsOf};
 ghost use Rattle.board_core.specs.board_ops.specs.declared.refusals.Refused.TheVariants as why;
 ghost use Rattle.board_core.specs.cached_machine.specs.Cached.{state_of};
 ghost use Rattle.app_kernel.specs.Serving.{IsInCall};
-ghost use Rattle.owner_ports.specs.Boards.{OnTold};
-ghost use Rattle.owners.specs.Known.{Known};
-ghost use Rattle.reach_laws.specs.Reaching.{IsOwned};
+ghost use Rattle.app_kernel.specs.owner_ports.specs.Boards.{OnTold};
+ghost use Rattle.app_kernel.specs.owners.specs.Known.{Known};
+ghost use Rattle.app_kernel.specs.reach_laws.specs.Reaching.{IsOwned};
 ghost use Rattle.board_turns.specs.declared.found.Found.TheVariants as found_so;
 ghost use Rattle.board_turns.specs.Paces.{beat_of, must_bring, Beat};
 ghost use Rattle.board_turns.specs.Turning.{turns_left, IsAtRest, IsAtRestBut, IsLeftBy, IsNext, IsOnQuantum, IsToStep};

@@ -15,10 +15,10 @@ use Rattle.board_core.specs.desc_stores.specs.Contents.{residents_of}
 use Rattle.board_core.specs.desc_stores.specs.declared.items.Item.TheVariants as item
 use Rattle.board_core.specs.shown_state.specs.Shown.{flat_thread, shown, thread_of}
 use Rattle.board_core.specs.shown_state.proofs.LookupLemmas.{found_thread}
-use Rattle.board_checks.specs.Identifiers.{not_a}
-use Rattle.board_checks.specs.Refusals.{not_completable, not_owned_as, not_trapped, refusal_of_complete, wait_empty}
-use Rattle.board_checks.proofs.IdentifierLemmas.{call_tested}
-use Rattle.board_threads.proofs.IdentLemmas.{content_named, record_named}
+use Rattle.cache_board.specs.board_commits.specs.board_checks.specs.Identifiers.{not_a}
+use Rattle.cache_board.specs.board_commits.specs.board_checks.specs.Refusals.{not_completable, not_owned_as, not_trapped, refusal_of_complete, wait_empty}
+use Rattle.cache_board.specs.board_commits.specs.board_checks.proofs.IdentifierLemmas.{call_tested}
+use Rattle.cache_board.specs.board_commits.specs.board_threads.proofs.IdentLemmas.{content_named, record_named}
 use Rattle.board_core.specs.board_ops.specs.declared.refusals.Refused.{Refused}
 use Rattle.board_core.specs.board_ops.specs.declared.refusals.Refused.TheVariants as why
 use Rattle.board_core.specs.cached_machine.specs.Cached.{state_of}

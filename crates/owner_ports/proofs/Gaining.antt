@@ -10,9 +10,9 @@ use Rattle.flat_state.specs.Call.{is_completable}
 use Rattle.flat_state.specs.Events.{applied}
 use Rattle.left_laws.specs.Left.{left}
 use Rattle.left_laws.proofs.Falling.{completion_left, event_falls}
-use Rattle.board_calls.specs.Calls.{IsCompletion}
-use Rattle.board_checks.specs.Refusals.{refusal_of_complete}
-use Rattle.board_threads.specs.Faults.{HasEnded}
+use Rattle.cache_board.specs.board_calls.specs.Calls.{IsCompletion}
+use Rattle.cache_board.specs.board_commits.specs.board_checks.specs.Refusals.{refusal_of_complete}
+use Rattle.cache_board.specs.board_commits.specs.board_threads.specs.Faults.{HasEnded}
 use Rattle.board_core.specs.Core.{contents_of, Recorded}
 use Rattle.board_core.specs.Going.{GoesOn, IsOneEvent}
 use Rattle.board_core.specs.Growth.{one_more}

@@ -1,4 +1,5 @@
 pub use Rattle.cache_board
+pub use Rattle.left_laws
 pub mod Boards
 pub mod Brought
 pub mod Heards

@@ -7,7 +7,7 @@ mod outcome;
 mod run;
 mod text;
 
-pub use cache_board::Board;
+pub use alone_run::Board;
 pub use laws::what_a_run_writes_is_found_legal;
 pub use machine::run_machine;
 pub use outcome::{Kept, Outcome, RunStatus};

@@ -3,7 +3,7 @@
 ghost use Rattle.std.specs.Prelude.{◌≡◌};
 ghost use Rattle.proc_run.specs.Outcomes.{exit_status};
 
-use cache_board::Board;
+use alone_run::Board;
 use flat_state::Settled;
 use run_journal::Journal;
 

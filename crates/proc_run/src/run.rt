@@ -10,7 +10,7 @@ ghost use Rattle.run_journal.specs.declared.entries.Entry.{Entry};
 ghost use Rattle.run_journal.specs.Legal.{first_ident};
 ghost use Rattle.run_journal.specs.Points.{opening};
 ghost use Rattle.board_calls.specs.Calls.{refusal_of_seal, IsSealing};
-ghost use Rattle.board_turns.specs.Looks.{settled_on};
+ghost use Rattle.alone_run.specs.board_turns.specs.Looks.{settled_on};
 ghost use Rattle.proc_run.specs.Running.{HasKernel, IsRun};
 
 use alone_run::{Board, Owners, Quantum, run_alone};

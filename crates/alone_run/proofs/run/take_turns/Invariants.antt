@@ -1,5 +1,5 @@
 use Rattle.std.proofs.Common.{◌≡◌}
-use Rattle.board_commits.specs.Tickets.{AreAllAsOf}
+use Rattle.board_turns.specs.board_commits.specs.Tickets.{AreAllAsOf}
 use Rattle.board_turns.specs.Looks.{IsSoAlone}
 use Rattle.board_turns.specs.Paces.{beat_of}
 use Rattle.board_turns.specs.Turning.{turns_left, HasGrown, IsNext}

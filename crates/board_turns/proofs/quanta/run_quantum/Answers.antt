@@ -1,5 +1,5 @@
 use Rattle.std.proofs.Common.{subst}
-use Rattle.owner_ports.specs.Boards.{OnTold}
+use Rattle.app_kernel.specs.owner_ports.specs.Boards.{OnTold}
 use Rattle.board_turns.specs.declared.committed.Committed.{Committed}
 use Rattle.board_turns.specs.Paces.{beat_of}
 use Rattle.board_turns.proofs.Told.{leaves_lost, leaves_taken, stays_longer, Tries}

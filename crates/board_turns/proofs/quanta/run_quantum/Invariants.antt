@@ -1,8 +1,8 @@
 use Rattle.std.proofs.Common.{◌≤◌}
 use Rattle.board_commits.specs.Tickets.{AreAllAsOf}
-use Rattle.left_laws.specs.Left.{left}
-use Rattle.owners.specs.Known.{Known}
-use Rattle.owner_ports.specs.Boards.{OnTold}
+use Rattle.app_kernel.specs.left_laws.specs.Left.{left}
+use Rattle.app_kernel.specs.owners.specs.Known.{Known}
+use Rattle.app_kernel.specs.owner_ports.specs.Boards.{OnTold}
 use Rattle.board_turns.specs.declared.found.Found.TheVariants.{Out}
 use Rattle.board_turns.specs.Turning.{IsOnQuantum}
 use Rattle.board_turns.proofs.quanta.run_quantum.Given as goal

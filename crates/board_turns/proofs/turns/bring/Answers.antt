@@ -1,5 +1,5 @@
 use Rattle.std.proofs.Common.{Bool, subst, sym, ap, ◌∙◌}
-use Rattle.owner_ports.specs.Boards.{OnTold}
+use Rattle.app_kernel.specs.owner_ports.specs.Boards.{OnTold}
 use Rattle.board_turns.specs.declared.found.Found.{Found}
 use Rattle.board_turns.specs.declared.found.Found.TheVariants.{Wanted}
 use Rattle.board_turns.proofs.Told.{bring_nothing, bring_out, bring_step, grown_owned, Brings, Brought}

@@ -1,6 +1,6 @@
 use Rattle.std.proofs.Common.{Option, Some, subst}
-use Rattle.owner_ports.specs.Boards.{OnTold}
-use Rattle.reach_laws.specs.Reaching.{IsOwned}
+use Rattle.app_kernel.specs.owner_ports.specs.Boards.{OnTold}
+use Rattle.app_kernel.specs.reach_laws.specs.Reaching.{IsOwned}
 use Rattle.board_turns.specs.declared.found.Found.{Found}
 use Rattle.board_turns.specs.Paces.{beat_of}
 use Rattle.board_turns.proofs.Later.{kept_later}

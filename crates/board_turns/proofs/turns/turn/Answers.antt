@@ -1,5 +1,5 @@
 use Rattle.std.proofs.Common.{Bool, Option, subst, sym, ap, ◌∙◌}
-use Rattle.owner_ports.specs.Boards.{OnTold}
+use Rattle.app_kernel.specs.owner_ports.specs.Boards.{OnTold}
 use Rattle.board_turns.specs.declared.found.Found.{Found}
 use Rattle.board_turns.specs.Looks.{HasLooked}
 use Rattle.board_turns.specs.Paces.{beat_of, wants_first, Beat}
