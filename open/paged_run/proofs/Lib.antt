@@ -1,0 +1,4 @@
+pub mod Trapped
+pub mod Journeys
+pub mod Turns
+pub mod Settling
