@@ -8,7 +8,7 @@ printf -- '--steps\n5\n' > tests/few/b.args
 mkdir -p crates/v_run/src
 touch crates/v_run/src/main.rt
 stand_in bin/rt << 'END'
-[ "$1 $2 $3" = 'try --steps 1' ] && [ "${PWD##*/}" = v_run ] || exit 2
+[ "$1 $2 $3" = 'try --steps 1' ] && [ "${PWD##*/}" = many_cases ] || exit 2
 cat > "${0%/*}/given"
 printf '%s %d\n%s\n' 0 12 'answer to a' 0 15 'no such answer' 5 12 'answer to c' 0 12 'ans'
 echo 'run=ended status=0 runners=1 proved=no' >&2
