@@ -1,0 +1,9 @@
+pub mod Aheads
+pub mod Asked
+pub mod Used
+pub mod Marked
+pub mod Taking
+pub mod Sending
+pub mod Held
+pub mod Sent
+pub mod Orders

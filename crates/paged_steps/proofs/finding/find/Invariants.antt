@@ -1,0 +1,25 @@
+use Rattle.std.proofs.Common.{◌≡◌, ℕ, true, List, length, Some, slice_get}
+use Rattle.std.specs.Prelude.{count_by, not}
+use Rattle.flat_state.specs.declared.records.FlatThread.{FlatThread}
+use Rattle.flat_state.specs.Signals.{is_held}
+use Rattle.memory_laws.specs.Apart.{over}
+use Rattle.page_store.specs.Kept.{Means}
+use Rattle.paged_steps.specs.Pages.{HasFrames}
+use Rattle.paged_steps.proofs.finding.find.Given as goal
+
+-- who was found held is
+abbrev pub invariant-loop-no : goal.invariant-loop-no
+invariant-loop-no g l =
+    let store = g.K.Store in
+    record {
+      held : (n : ℕ) (t : FlatThread) → slice_get l.order.held.items n ≡ Some true → slice_get l.tables.threads n ≡ Some t → (m : List ℕ) → Means l.initial.paged (store.bytes_held l.initial.store) m → is_held (over l.tables m) t ≡ true;
+      memory : (m : List ℕ) → Means l.initial.paged (store.bytes_held l.initial.store) m → Means l.paged (store.bytes_held l.store) m;
+      many : length l.order.held.items ≡ length l.initial.order.held.items;
+      last : length l.order.last.items ≡ length l.initial.order.last.items;
+      room : l.quantum.most ≡ l.initial.quantum.most;
+      frames : HasFrames l.tables l.paged (store.frames l.store);
+      faultless : store.faults l.store ≡ store.faults l.initial.store;
+    }
+
+abbrev pub decreases-loop-no : goal.decreases-loop-no
+decreases-loop-no g l = count_by not l.order.held.items

@@ -1,0 +1,5 @@
+pub mod Pages
+pub mod Aheads
+pub mod Marks
+pub mod Nexts
+pub mod Orders
