@@ -120,7 +120,7 @@ left_sooner a m b known beat (Some found) fewer behind = let less = behind.less 
 -- ---- healing
 
 module _ (a b : Recorded) (p r : ℕ) (known : Known) (whom : ThreadNo) (answer : Result (Unit {0}) Refused) (grown : HasGrown a p b r) where
-  pub healed_rests : (ticket : Option Ticket) → IsAtRestBut ticket a known → HasHealed ticket whom a b answer → IsAtRest b known
+  pub healed_rests : (ticket : Option Ticket) → IsAtRestBut ticket a known → HasHealed 0 ticket whom a b answer → IsAtRest b known
   healed_rests None rest healed =
       let unmarked : IsUnmarked healed.between = subst (λ (x : Recorded). IsUnmarked x) (sym healed.left) rest.unmarked in
       rests a b p r grown known rest.owned (healed_unmarked healed.between b whom answer healed.refused healed.done unmarked)
@@ -144,13 +144,13 @@ healable : (b : Recorded) (whom : ThreadNo) → b.sealed ≡ true → IsUnmarked
 healable b whom sealed unmarked step = record { sealed = sealed; left = step.steps; thread = step.thread; there = step.there; ready = step.ready; away = unmarked whom; not_held = step.not_held }
 
 module _ (a b : Recorded) (p r : ℕ) (known : Known) (whom : ThreadNo) (grown : HasGrown a p b r) (step : IsToStep a whom) where
-  less_by : (ticket : Option Ticket) (answer : Result (Unit {0}) Refused) → (answer ≡ Err why.NoMemory → ⊥) → IsSound a → (healed : HasHealed ticket whom a b answer) → healed.between.steps ≡ a.steps → IsHealable healed.between whom → left b < left a
+  less_by : (ticket : Option Ticket) (answer : Result (Unit {0}) Refused) → (answer ≡ Err why.NoMemory → ⊥) → IsSound a → (healed : HasHealed 0 ticket whom a b answer) → healed.between.steps ≡ a.steps → IsHealable healed.between whom → left b < left a
   less_by ticket (Ok done) fine sound healed same can =
       let steps : b.steps ≡ healed.between.steps + 1 = (healed.promised can).1.steps in
       less_left a b p r grown sound (omega (arith, steps, same))
   less_by ticket (Err refused) fine sound healed same can = absurd (fine (ap (λ (x : Refused). let e : Result (Unit {0}) Refused = Err x in e) (healed.promised can).0))
 
-  pub healed_less : (ticket : Option Ticket) (answer : Result (Unit {0}) Refused) → (answer ≡ Err why.NoMemory → ⊥) → IsAtRestBut ticket a known → HasHealed ticket whom a b answer → left b < left a
+  pub healed_less : (ticket : Option Ticket) (answer : Result (Unit {0}) Refused) → (answer ≡ Err why.NoMemory → ⊥) → IsAtRestBut ticket a known → HasHealed 0 ticket whom a b answer → left b < left a
   healed_less None answer fine rest healed =
       let same : healed.between ≡ a = healed.left in
       let can : IsHealable healed.between whom = subst (λ (x : Recorded). IsHealable x whom) (sym same) (healable a whom rest.owned.sealed rest.unmarked step) in

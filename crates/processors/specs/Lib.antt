@@ -1,0 +1,4 @@
+pub use Rattle.alone_run
+pub use Rattle.turn_lock
+pub mod Sharing
+pub mod Following
