@@ -3,11 +3,18 @@
 
 mod gate;
 mod holds;
+mod lengths;
+mod parts;
+mod run;
 mod sharing;
+mod side_by_side;
 
-pub use alone_run::turns::Point;
+pub use alone_run::run_alone;
+pub use alone_run::turns::{Board, Owners, Point, Quantum};
 pub use gate::{Gate, NoGate};
+pub use run::{Stop, run_processor};
 pub use sharing::Sharing;
+pub use side_by_side::run_side_by_side;
 
 #[cfg(test)]
 mod tests;
