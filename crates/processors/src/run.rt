@@ -13,7 +13,6 @@ use crate::gate::Gate;
 use crate::lengths::Lengths;
 use crate::sharing::Sharing;
 use alone_run::turns::{Board, Found, Owners, Pace, Processor, Quantum, turn};
-use cache_ident::ThreadNo;
 use std::sync::Wait;
 use turn_lock::{Pass, Turn};
 
@@ -25,14 +24,6 @@ pub enum Stop {
     /// As many steps were taken as it stops with.
     Spent,
     NoMemory,
-}
-
-// The thread whose quantum the turn runs, if it runs one.
-fn runs_next(found: Found, pace: Pace) -> Option<ThreadNo> {
-    match found {
-        Found::Out(ticket) if !pace.must_bring() => Some(ticket.no),
-        _ => None,
-    }
 }
 
 // Takes turns until there is nothing to do.
@@ -55,14 +46,14 @@ fn take_turns<R: Wait, P: Processor>(
             Found::Over => return Stop::Spent,
             Found::Out(_) | Found::Wanted { .. } => {}
         }
-        let running = runs_next(found, pace);
-        let length = running.map_or(0, |thread| lengths.of(thread));
+        let length = lengths.for_turn(found);
+        let runs = !pace.must_bring();
         let before = port.brought();
         let Ok(next) = turn(port, owners, quantum, &mut pace, length, found) else {
             return Stop::NoMemory;
         };
-        if let Some(thread) = running {
-            lengths.note(thread, quantum.steps(), before < port.brought());
+        if runs {
+            lengths.note(found, quantum.steps(), before < port.brought());
         }
         found = next;
     }
