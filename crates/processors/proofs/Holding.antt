@@ -16,7 +16,7 @@ use Rattle.alone_run.specs.board_turns.specs.cache_board.proofs.PastLaws.{begins
 use Rattle.alone_run.specs.board_turns.specs.owner_ports.specs.declared.port.Heard.{Heard}
 use Rattle.processors.specs.Sharing.{end_by, first_by, seen_by, SeesMore, Sharer, Stands}
 
-Past : Type 0
+abbrev Past : Type 0
 Past = List (Entry × ℕ)
 
 -- ---- one event in the hold: the board was found so, was called so, and was left so
