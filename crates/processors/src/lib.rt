@@ -8,6 +8,3 @@ mod sharing;
 pub use alone_run::turns::Point;
 pub use gate::{Gate, NoGate};
 pub use sharing::Sharing;
-
-#[cfg(test)]
-mod tests;
