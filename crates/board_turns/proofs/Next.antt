@@ -38,6 +38,7 @@ use Rattle.board_turns.specs.Holds.{AreTaken, HasCommitted, HasHealed, HasLeft}
 use Rattle.board_turns.specs.Looks.{settled_on, HasLooked, StandsAt}
 use Rattle.board_turns.specs.Paces.{must_bring, paced, wants_first, Beat}
 use Rattle.board_turns.specs.Turning.{turns_left, HasGrown, IsAtRest, IsAtRestBut, IsLeftBy, IsNext, IsOnQuantum, IsToStep, IsTriedBy, IsUnmarked}
+use Rattle.board_turns.proofs.Looking.{steps_looked}
 use Rattle.board_turns.proofs.Marks.{called_unmarked, committed_unmarked, healed_unmarked, left_unmarked, out_alone, room_out}
 
 -- ---- boards that grew
@@ -75,13 +76,6 @@ owned_called a b known after called owned are = record { sound = called.sound ow
 
 pub rests_called : (a b : Recorded) (known after : Known) → IsCalledOn a b → IsAtRest a known → AreOwnersOf b.journal.entries after → IsAtRest b after
 rests_called a b known after called rest are = record { owned = owned_called a b known after called rest.owned are; unmarked = called_unmarked a b called.on rest.unmarked }
-
--- a look takes no steps
-steps_looked : (want_first : Bool) (a b : Recorded) (found : Found) → HasLooked want_first a b found → b.steps ≡ a.steps
-steps_looked want_first a b (Out ticket) looked = ap (λ (x : Recorded). x.steps) looked.found.out.rest
-steps_looked want_first a b (Wanted whom trapped pc) looked = ap (λ (x : Recorded). x.steps) looked.found.same
-steps_looked want_first a b Nothing looked = ap (λ (x : Recorded). x.steps) looked.found.same
-steps_looked want_first a b Over looked = ap (λ (x : Recorded). x.steps) looked.same
 
 -- ---- steps on a processor
 

@@ -131,7 +131,8 @@ pub(crate) fn commit(
 {
     match commit_steps(board, ticket, quantum)? {
         Committed::Taken(_) => Ok(Committed::Taken(look_if(board, want_first))),
-        refused => Ok(refused),
+        Committed::TooMany(left) => Ok(Committed::TooMany(left)),
+        Committed::Lost => Ok(Committed::Lost),
     }
 }
 

@@ -11,8 +11,7 @@ use Rattle.run_journal.specs.Entries.{steps_in}
 use Rattle.alone_run.specs.board_turns.specs.owner_ports.specs.declared.port.Heard.{Heard}
 use Rattle.alone_run.specs.board_turns.specs.board_core.specs.Core.{Recorded}
 use Rattle.alone_run.specs.board_turns.specs.declared.found.Found.{Found}
-use Rattle.alone_run.specs.board_turns.specs.declared.found.Found.TheVariants.{Out, Wanted, Nothing, Over}
-use Rattle.alone_run.specs.board_turns.specs.Looks.{IsIdle}
+use Rattle.alone_run.specs.board_turns.specs.Looks.{IsSoWhere}
 
 -- A processor that shares a board: behind which lock the board is; the processor's number, which its pass begins with, and where the
 -- numbers of the pass end; what it has seen of the board's past; with how many steps it stops; what went through it, and how many of
@@ -34,13 +33,9 @@ pub record SeesMore (old new : Sharer) : Type 0 where
   pub limit : new.limit ≡ old.limit
   pub seen : IsPrefix old.seen new.seen
 
--- What is so where the processor of that number, which stops with so many steps, has seen this journal and found that last: a ticket
--- is its own; nobody is there; as many steps were taken.
+-- what is so where the processor of that number, which stops with so many steps, has seen this journal and found that last
 abbrev pub IsSoOf : ℕ → ℕ → List Entry → Found → Type 0
-IsSoOf cpu limit j (Out ticket) = ticket.cpu ≡ cpu
-IsSoOf cpu limit j (Wanted whom trapped pc) = Unit {0}
-IsSoOf cpu limit j Nothing = IsIdle j
-IsSoOf cpu limit j Over = limit ≤ steps_in j
+IsSoOf cpu limit j = IsSoWhere cpu (limit ≤ steps_in j) j
 
 -- ---- the pass that it has between two holds
 

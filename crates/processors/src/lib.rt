@@ -15,6 +15,3 @@ pub use gate::{Gate, NoGate};
 pub use run::{Stop, run_processor};
 pub use sharing::Sharing;
 pub use side_by_side::run_side_by_side;
-
-#[cfg(test)]
-mod tests;

@@ -79,9 +79,9 @@ impl<'a, R, G> Sharing<'a, R, G> {
 
     /// The pass, with the numbers that it came with, and all that was seen.
     pub fn into_pass(self) -> Pass<Board>
-        ensures lock { pass_lock result ≡ self.lock }
-        ensures range { (first_of result ≡ self.cpu) × (end_of result ≡ self.end) }
-        ensures seen { seen_of result ≡ self.seen }
+        ensures lock { pass_lock result ≡ self.entry.lock }
+        ensures range { (first_of result ≡ self.entry.cpu) × (end_of result ≡ self.entry.end) }
+        ensures seen { seen_of result ≡ self.entry.seen }
     {
         match self.pass {
             Some(pass) => pass,
