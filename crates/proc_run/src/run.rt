@@ -56,6 +56,29 @@ fn run_on_one(alloc: Global, board: &mut Board, decls: &[Decl]) -> Result<(), No
     Ok(())
 }
 
+// Runs several processors side by side until none of them has anything to do. With one processor it does nothing.
+fn run_on_several<R: Threads + Wait + Sync, G: Gate + Sync>(
+    rt: &R,
+    alloc: Global,
+    board: Board,
+    decls: &[Decl],
+    cpus: u32,
+    limit: u64,
+    gate: &G,
+) -> Result<Board, NoMemory>
+    requires processors { (0 < cpus) × (cpus ≤ 8) }
+    requires sealed { board.sealed ≡ true }
+    requires begins { (rest : List Entry) × (board.journal.entries ≡ opening decls.now ++ rest) }
+    ensures sealed { IfOk result (λ after. after.sealed ≡ true) }
+    ensures begins { IfOk result (λ after. (rest : List Entry) × (after.journal.entries ≡ opening decls.now ++ rest)) }
+    ensures limit { IfOk result (λ after. after.limit ≡ board.limit) }
+{
+    if cpus == 1 {
+        return Ok(board);
+    }
+    run_side_by_side(rt, alloc, board, decls, cpus, limit, gate)
+}
+
 /// Runs the scenario of these declarations on a board until all its threads have ended, none can go on, or it has taken
 /// `limit` steps: several processors side by side until none of them has anything to do, and one for what is left then; or one alone,
 /// without a lock or a further thread.
@@ -76,9 +99,7 @@ pub fn run<R: Threads + Wait + Sync, G: Gate + Sync>(
 {
     let mut board = board_of(alloc, decls, limit)?;
     seal(&mut board)?;
-    if cpus > 1 {
-        board = run_side_by_side(rt, alloc, board, decls, cpus, limit, gate)?;
-    }
+    let mut board = run_on_several(rt, alloc, board, decls, cpus, limit, gate)?;
     run_on_one(alloc, &mut board, decls)?;
     let settled = board.settled();
     Ok(Finished { board, settled })
