@@ -137,14 +137,7 @@ fn due_for_run<R: Threads + Wait + Sync, G: Gate + Sync>(
     ensures unfailed { OnFailed result ⊥ }
 {
     match read(alloc, bytes) {
-        Ok(scenario) => Ok(answered(
-            rt,
-            alloc,
-            account,
-            options,
-            scenario.decls(),
-            gate,
-        )?),
+        Ok(scenario) => Ok(answered(rt, alloc, account, options, scenario.decls(), gate)?),
         Err(ScenarioFault::Bad { line, rule }) => Ok(faulty(alloc, line, rule)?),
         Err(ScenarioFault::NoMemory) => Err(NoText::NoMemory),
     }
