@@ -27,8 +27,8 @@ find_last_begun() {
 make_main_of_many() {
     sed -i \
         -e '/ = program_words(&rt) else {$/,/};$/d' -e 's/\bprogram_words\b/Words/' \
-        -e 's/^fn main(rt: HostRuntime) -> ExitCode {$/fn answer(alloc: Global, words: \&Words, input: \&[u8], output: \&mut Vec<u8>) -> u8 {/' \
-        -e 's/\brt\.alloc()/alloc/; s/&words/words/; s/\brt\.stdin()/input/; s/\brt\.stdout()/output/' \
+        -e 's/^fn main(rt: HostRuntime) -> ExitCode {$/fn answer(rt: \&HostRuntime, alloc: Global, words: \&Words, input: \&[u8], output: \&mut Vec<u8>) -> u8 {/' \
+        -e 's/(&rt, /(rt, /; s/\brt\.alloc()/alloc/; s/&words/words/; s/\brt\.stdin()/input/; s/\brt\.stdout()/output/' \
         -e 's/ExitCode::from(\(.*\))$/\1/; s/^use std::process::ExitCode;$/use std::alloc::Global;\nuse std::io;\nuse std::io::{BufRead, Read, Write};/' \
         -- "$1" && cat >> "$1" << 'END'
 
@@ -49,7 +49,7 @@ fn main(rt: HostRuntime) -> io::Result<()> {
         let (input, behind) = left.split_at(length);
         left = behind;
         let mut output = Vec::new(alloc);
-        let status = answer(alloc, &words, input, &mut output);
+        let status = answer(&rt, alloc, &words, input, &mut output);
         write!(written, "{status} {}\n", output.len())?;
         written.write_all(&output)?;
     }
