@@ -270,12 +270,14 @@ fn due<R: Threads + Wait + Sync, S: Source, G: Gate + Sync>(
 
 /// Reads a scenario from the source to its end, or makes it from the seed in mode gen, runs it on a board with caches
 /// until all its threads have ended, none can go on, or it has taken the steps that the words allow,
-/// and writes the text of the mode to the sink. In mode check it reads a journal behind the scenario, and writes whether
+/// by as many processors side by side as the words ask for, and writes the text of the mode to the sink. In mode check it reads a journal behind the scenario, and writes whether
 /// it is legal, with the report of what it leaves, or where it isn't. For a text that is no scenario it writes its first
 /// fault, and for words that aren't taken the usage line. All text is made before the first write.
 ///
 /// It costs the steps, each of them the logarithm of the rows, a pass over the threads for each entry of the journal,
 /// and memory for the scenario, the machine, one entry for every 256 steps and each thread call, and the text.
+/// Where there are several processors each of them tells the gate where it stands. They wait for the board, and no clause says that
+/// they end. One alone takes no lock, and starts no thread.
 pub fn run_machine<R: Threads + Wait + Sync, S: Source, W: Sink, G: Gate + Sync>(
     rt: &R,
     alloc: Global,
