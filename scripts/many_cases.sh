@@ -35,9 +35,9 @@ find_last_begun() {
 make_library_of_main() {
     sed \
         -e '/ = program_words(&rt) else {$/,/};$/d' -e 's/\bprogram_words\b/Words/' \
-        -e 's/^fn main(rt: HostRuntime) -> ExitCode {$/pub fn answer(alloc: Global, words: \&Words, input: \&[u8], output: \&mut Vec<u8>) -> u8 {/' \
-        -e 's/\brt\.alloc()/alloc/; s/&words/words/; s/\brt\.stdin()/input/; s/\brt\.stdout()/output/' \
-        -e 's/ExitCode::from(\(.*\))$/\1/; s/^use std::process::ExitCode;$/use std::alloc::Global;/' \
+        -e 's/^fn main(rt: HostRuntime) -> ExitCode {$/pub fn answer<R: Threads + Wait + Sync>(rt: \&R, alloc: Global, words: \&Words, input: \&[u8], output: \&mut Vec<u8>) -> u8 {/' \
+        -e 's/(&rt, /(rt, /; s/\brt\.alloc()/alloc/; s/&words/words/; s/\brt\.stdin()/input/; s/\brt\.stdout()/output/' \
+        -e 's/ExitCode::from(\(.*\))$/\1/; s/^use std::process::ExitCode;$/use std::alloc::Global;\nuse std::sync::Wait;\nuse std::thread::Threads;/' \
         -- "$1/main.rt" > "$1/lib.rt" && rm -- "$1/main.rt"
 }
 
@@ -64,6 +64,8 @@ use run_words::Words;
 use std::alloc::Global;
 use std::io;
 use std::io::{BufRead, Read, Write};
+use std::sync::Wait;
+use std::thread::Threads;
 
 fn main(rt: HostRuntime) -> io::Result<()> {
     let alloc = rt.alloc();
@@ -83,17 +85,24 @@ fn main(rt: HostRuntime) -> io::Result<()> {
         let (input, behind) = left.split_at(length);
         left = behind;
         let mut output = Vec::new(alloc);
-        let status = answer(alloc, program.as_str(), &words, input, &mut output);
+        let status = answer(&rt, alloc, program.as_str(), &words, input, &mut output);
         write!(written, "{status} {}\n", output.len())?;
         written.write_all(&output)?;
     }
     Ok(())
 }
 
-fn answer(alloc: Global, program: &str, words: &Words, input: &[u8], output: &mut Vec<u8>) -> u8 {
+fn answer<R: Threads + Wait + Sync>(
+    rt: &R,
+    alloc: Global,
+    program: &str,
+    words: &Words,
+    input: &[u8],
+    output: &mut Vec<u8>,
+) -> u8 {
 END
     for program in "$@"; do
-        printf '    if program == "%s" {\n        return %s::answer(alloc, words, input, output);\n    }\n' "$program" "$program"
+        printf '    if program == "%s" {\n        return %s::answer(rt, alloc, words, input, output);\n    }\n' "$program" "$program"
     done
     cat << 'END'
     unreachable!()

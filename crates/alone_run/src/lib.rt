@@ -3,5 +3,6 @@
 
 mod run;
 
+pub use board_turns as turns;
 pub use board_turns::{Board, Owners, Quantum};
 pub use run::run_alone;

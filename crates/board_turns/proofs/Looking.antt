@@ -1,5 +1,5 @@
 -- What a look tells.
-use Rattle.std.proofs.Common.{◌≡◌, ℕ, Bool, true, false, not, List, Some, None, slice_get, refl, sym, ap, ◌∙◌, subst, inl, inr}
+use Rattle.std.proofs.Common.{◌≡◌, ◌≢◌, ℕ, Bool, true, false, not, List, Option, Some, None, slice_get, refl, sym, ap, ◌∙◌, subst, inl, inr}
 use Rattle.std.specs.Prelude.{◌&&◌}
 use Rattle.cache_ident.specs.declared.names.Name.TheVariants as name
 use Rattle.cache_ident.specs.declared.names.ThreadNo.{ThreadNo}
@@ -21,7 +21,10 @@ use Rattle.board_core.proofs.GoingLaws.{grew_nothing}
 use Rattle.board_threads.specs.Tests.{goes_on, passes, IsWanted}
 use Rattle.board_turns.specs.declared.found.Found.{Found}
 use Rattle.board_turns.specs.declared.found.Found.TheVariants.{Out, Wanted, Nothing, Over}
-use Rattle.board_turns.specs.Looks.{settled_on, HasLooked, IsFound, IsIdle, IsSoAlone}
+use Rattle.board_core.specs.quantum.specs.Ahead.{Ahead}
+use Rattle.board_threads.specs.declared.tickets.Ticket.{Ticket}
+use Rattle.board_turns.specs.Holds.{AreTaken, HasLookedIf}
+use Rattle.board_turns.specs.Looks.{settled_on, HasLooked, IsFound, IsIdle, IsSoAlone, IsSoWhere}
 
 pub event_nothing : (cpu : ℕ) (b : Recorded) → IsSound b → IsOneEvent cpu b b
 event_nothing cpu b sound = record { grew = grew_nothing cpu b; was = sound; sound = sound }
@@ -64,8 +67,31 @@ module _ (b : Recorded) (sound : IsSound b) (wanted : IsWanted b None) where
         (loaded_by (residents_of (contents_of b)) (name.Thread whom) (loaded_if (is_loaded (contents_of b) (name.Thread whom)) (goes_on b whom.0) (wanted.1 whom.0) here));
   }
 
+-- whom a look by the processor found, and why nobody
+pub so_found : (cpu : ℕ) (over : Type 0) (want_first : Bool) (old new : Recorded) (found : Found) → IsSound old → IsFound cpu want_first old new found → IsSoWhere cpu over new.journal.entries found
+so_found cpu over want_first old new (Out ticket) sound is = is.ticket_for.processor
+so_found cpu over want_first old new (Wanted whom trapped pc) sound is = tt
+so_found cpu over want_first old new Nothing sound is = subst (λ (b : Recorded). IsIdle b.journal.entries) (sym is.same) (idle old sound is.wanted)
+so_found cpu over want_first old new Over sound is = absurd is
+
 pub so_alone : (want_first : Bool) (old new : Recorded) (found : Found) → IsSound old → IsFound 0 want_first old new found → IsSoAlone new found
-so_alone want_first old new (Out ticket) sound is = is.ticket_for.processor
-so_alone want_first old new (Wanted whom trapped pc) sound is = tt
-so_alone want_first old new Nothing sound is = subst (λ (b : Recorded). IsIdle b.journal.entries) (sym is.same) (idle old sound is.wanted)
-so_alone want_first old new Over sound is = absurd is
+so_alone want_first old new found sound is = so_found 0 (settled_on new ≢ Running) want_first old new found sound is
+
+-- a look behind steps that happened, if one is made
+pub taken_then : (ticket : Ticket) (q : Ahead) (look : Option Bool) (old mid new : Recorded) (before next : Option Found) → AreTaken ticket q None old mid before → HasLookedIf look mid new next → AreTaken ticket q look old new next
+taken_then ticket q look old mid new None next taken looked =
+    record { passes = taken.passes; between = taken.between; committed = taken.committed; looked = subst (λ (b : Recorded). HasLookedIf look b new next) taken.looked looked }
+taken_then ticket q look old mid new (Some found) next taken looked = absurd taken.looked
+
+-- a look takes no steps
+pub steps_looked : (want_first : Bool) (a b : Recorded) (found : Found) → HasLooked want_first a b found → b.steps ≡ a.steps
+steps_looked want_first a b (Out ticket) looked = ap (λ (x : Recorded). x.steps) looked.found.out.rest
+steps_looked want_first a b (Wanted whom trapped pc) looked = ap (λ (x : Recorded). x.steps) looked.found.same
+steps_looked want_first a b Nothing looked = ap (λ (x : Recorded). x.steps) looked.found.same
+steps_looked want_first a b Over looked = ap (λ (x : Recorded). x.steps) looked.same
+
+pub steps_looked_if : (look : Option Bool) (old new : Recorded) (next : Option Found) → HasLookedIf look old new next → new.steps ≡ old.steps
+steps_looked_if None old new None looked = ap (λ (b : Recorded). b.steps) looked
+steps_looked_if (Some want_first) old new (Some found) looked = steps_looked want_first old new found looked
+steps_looked_if None old new (Some found) looked = absurd looked
+steps_looked_if (Some want_first) old new None looked = absurd looked

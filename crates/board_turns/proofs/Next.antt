@@ -38,6 +38,7 @@ use Rattle.board_turns.specs.Holds.{AreTaken, HasCommitted, HasHealed, HasLeft}
 use Rattle.board_turns.specs.Looks.{settled_on, HasLooked, StandsAt}
 use Rattle.board_turns.specs.Paces.{must_bring, paced, wants_first, Beat}
 use Rattle.board_turns.specs.Turning.{turns_left, HasGrown, IsAtRest, IsAtRestBut, IsLeftBy, IsNext, IsOnQuantum, IsToStep, IsTriedBy, IsUnmarked}
+use Rattle.board_turns.proofs.Looking.{steps_looked}
 use Rattle.board_turns.proofs.Marks.{called_unmarked, committed_unmarked, healed_unmarked, left_unmarked, out_alone, room_out}
 
 -- ---- boards that grew
@@ -76,13 +77,6 @@ owned_called a b known after called owned are = record { sound = called.sound ow
 pub rests_called : (a b : Recorded) (known after : Known) → IsCalledOn a b → IsAtRest a known → AreOwnersOf b.journal.entries after → IsAtRest b after
 rests_called a b known after called rest are = record { owned = owned_called a b known after called rest.owned are; unmarked = called_unmarked a b called.on rest.unmarked }
 
--- a look takes no steps
-steps_looked : (want_first : Bool) (a b : Recorded) (found : Found) → HasLooked want_first a b found → b.steps ≡ a.steps
-steps_looked want_first a b (Out ticket) looked = ap (λ (x : Recorded). x.steps) looked.found.out.rest
-steps_looked want_first a b (Wanted whom trapped pc) looked = ap (λ (x : Recorded). x.steps) looked.found.same
-steps_looked want_first a b Nothing looked = ap (λ (x : Recorded). x.steps) looked.found.same
-steps_looked want_first a b Over looked = ap (λ (x : Recorded). x.steps) looked.same
-
 -- ---- steps on a processor
 
 module _ (a b : Recorded) (p r : ℕ) (known : Known) (beat : Beat) (ticket : Ticket) (q : Ahead) (on : IsOnQuantum a known ticket) (grown : HasGrown a p b r) where
@@ -120,7 +114,7 @@ left_sooner a m b known beat (Some found) fewer behind = let less = behind.less 
 -- ---- healing
 
 module _ (a b : Recorded) (p r : ℕ) (known : Known) (whom : ThreadNo) (answer : Result (Unit {0}) Refused) (grown : HasGrown a p b r) where
-  pub healed_rests : (ticket : Option Ticket) → IsAtRestBut ticket a known → HasHealed ticket whom a b answer → IsAtRest b known
+  pub healed_rests : (ticket : Option Ticket) → IsAtRestBut ticket a known → HasHealed 0 ticket whom a b answer → IsAtRest b known
   healed_rests None rest healed =
       let unmarked : IsUnmarked healed.between = subst (λ (x : Recorded). IsUnmarked x) (sym healed.left) rest.unmarked in
       rests a b p r grown known rest.owned (healed_unmarked healed.between b whom answer healed.refused healed.done unmarked)
@@ -144,13 +138,13 @@ healable : (b : Recorded) (whom : ThreadNo) → b.sealed ≡ true → IsUnmarked
 healable b whom sealed unmarked step = record { sealed = sealed; left = step.steps; thread = step.thread; there = step.there; ready = step.ready; away = unmarked whom; not_held = step.not_held }
 
 module _ (a b : Recorded) (p r : ℕ) (known : Known) (whom : ThreadNo) (grown : HasGrown a p b r) (step : IsToStep a whom) where
-  less_by : (ticket : Option Ticket) (answer : Result (Unit {0}) Refused) → (answer ≡ Err why.NoMemory → ⊥) → IsSound a → (healed : HasHealed ticket whom a b answer) → healed.between.steps ≡ a.steps → IsHealable healed.between whom → left b < left a
+  less_by : (ticket : Option Ticket) (answer : Result (Unit {0}) Refused) → (answer ≡ Err why.NoMemory → ⊥) → IsSound a → (healed : HasHealed 0 ticket whom a b answer) → healed.between.steps ≡ a.steps → IsHealable healed.between whom → left b < left a
   less_by ticket (Ok done) fine sound healed same can =
       let steps : b.steps ≡ healed.between.steps + 1 = (healed.promised can).1.steps in
       less_left a b p r grown sound (omega (arith, steps, same))
   less_by ticket (Err refused) fine sound healed same can = absurd (fine (ap (λ (x : Refused). let e : Result (Unit {0}) Refused = Err x in e) (healed.promised can).0))
 
-  pub healed_less : (ticket : Option Ticket) (answer : Result (Unit {0}) Refused) → (answer ≡ Err why.NoMemory → ⊥) → IsAtRestBut ticket a known → HasHealed ticket whom a b answer → left b < left a
+  pub healed_less : (ticket : Option Ticket) (answer : Result (Unit {0}) Refused) → (answer ≡ Err why.NoMemory → ⊥) → IsAtRestBut ticket a known → HasHealed 0 ticket whom a b answer → left b < left a
   healed_less None answer fine rest healed =
       let same : healed.between ≡ a = healed.left in
       let can : IsHealable healed.between whom = subst (λ (x : Recorded). IsHealable x whom) (sym same) (healable a whom rest.owned.sealed rest.unmarked step) in

@@ -83,13 +83,13 @@ module _ (a b : Option Recorded) (known after : Known) (thread : ThreadNo) (noti
 
 -- ---- healing
 
-module _ (a b : Option Recorded) (p r0 : ℕ) (ticket : Option Ticket) (whom : ThreadNo) (answer : Result (Unit {0}) Refused) (grown : OnTold a b (λ x y. HasGrown x p y r0)) (healed : OnTold a b (λ x y. HasHealed ticket whom x y answer)) where
+module _ (a b : Option Recorded) (p r0 : ℕ) (ticket : Option Ticket) (whom : ThreadNo) (answer : Result (Unit {0}) Refused) (grown : OnTold a b (λ x y. HasGrown x p y r0)) (healed : OnTold a b (λ x y. HasHealed 0 ticket whom x y answer)) where
   pub heal_rests : OnTold a b (λ x y. (known : Known) → IsAtRestBut ticket x known → IsAtRest y known)
-  heal_rests = told_both a b (λ x y. HasGrown x p y r0) (λ x y. HasHealed ticket whom x y answer) (λ x y. (known : Known) → IsAtRestBut ticket x known → IsAtRest y known)
+  heal_rests = told_both a b (λ x y. HasGrown x p y r0) (λ x y. HasHealed 0 ticket whom x y answer) (λ x y. (known : Known) → IsAtRestBut ticket x known → IsAtRest y known)
       (λ x y grew heals known rest. healed_rests x y p r0 known whom answer grew ticket rest heals) grown healed
 
   pub heal_less : (answer ≡ Err why.NoMemory → ⊥) → OnTold a b (λ x y. (known : Known) → IsAtRestBut ticket x known → IsToStep x whom → left y < left x)
-  heal_less fine = told_both a b (λ x y. HasGrown x p y r0) (λ x y. HasHealed ticket whom x y answer) (λ x y. (known : Known) → IsAtRestBut ticket x known → IsToStep x whom → left y < left x)
+  heal_less fine = told_both a b (λ x y. HasGrown x p y r0) (λ x y. HasHealed 0 ticket whom x y answer) (λ x y. (known : Known) → IsAtRestBut ticket x known → IsToStep x whom → left y < left x)
       (λ x y grew heals known rest step. healed_less x y p r0 known whom grew step ticket answer fine rest heals) grown healed
 
   pub heal_less_if : {E : Type 0} (r : Result (Unit {0}) E) → OnOk r (answer ≡ Err why.NoMemory → ⊥) → OnTold a b (λ x y. (known : Known) → IsAtRestBut ticket x known → IsToStep x whom → OnOk r (left y < left x))

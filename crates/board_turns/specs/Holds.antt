@@ -93,10 +93,10 @@ abbrev pub HasLeftIf : Option Ticket → Recorded → Recorded → Type 0
 HasLeftIf None old new = new ≡ old
 HasLeftIf (Some ticket) old new = HasLeft ticket old new
 
--- A thread was given back, where there is a ticket, and the next step of one was healed, or not for this reason.
-pub record HasHealed (ticket : Option Ticket) (whom : ThreadNo) (old new : Recorded) (answer : Result Unit Refused) : Type 0 where
+-- A thread was given back, where there is a ticket, and the next step of one was healed by this processor, or not for this reason.
+pub record HasHealed (cpu : ℕ) (ticket : Option Ticket) (whom : ThreadNo) (old new : Recorded) (answer : Result Unit Refused) : Type 0 where
   pub between : Recorded
   pub left : HasLeftIf ticket old between
   pub refused : IfErr answer (IsRefused (refusal_of_heal between whom) between new)
-  pub done : OnOk answer (IsHealed 0 whom between new)
+  pub done : OnOk answer (IsHealed cpu whom between new)
   pub promised : IsHealable between whom → IfErr answer (λ reason. reason ≡ why.NoMemory) × OnOk answer (HasStepped whom between new)

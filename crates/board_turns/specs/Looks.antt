@@ -108,9 +108,14 @@ pub record IsIdle (j : List Entry) : Type 0 where
   pub calls : (whom : ThreadNo) (t : FlatThread) → slice_get (flat (erase j)).threads whom.0 ≡ Some t → is_completable t ≡ false
   pub loaded : (whom : ThreadNo) (t : FlatThread) → slice_get (flat (erase j)).threads whom.0 ≡ Some t → is_runnable (flat (erase j)) t ≡ true → IsNameResident (residents j) (name.Thread whom)
 
+-- What is so where the processor of that number found this last, and has seen this journal: a ticket is its own; nobody is there, and
+-- why; and this, where the run is over for it.
+abbrev pub IsSoWhere : ℕ → Type 0 → List Entry → Found → Type 0
+IsSoWhere cpu over j (Out ticket) = ticket.cpu ≡ cpu
+IsSoWhere cpu over j (Wanted whom trapped pc) = Unit {0}
+IsSoWhere cpu over j Nothing = IsIdle j
+IsSoWhere cpu over j Over = over
+
 -- what is so of the board on which whoever has it alone found this last
 abbrev pub IsSoAlone : Recorded → Found → Type 0
-IsSoAlone b (Out ticket) = ticket.cpu ≡ 0
-IsSoAlone b (Wanted whom trapped pc) = Unit {0}
-IsSoAlone b Nothing = IsIdle b.journal.entries
-IsSoAlone b Over = settled_on b ≢ Running
+IsSoAlone b = IsSoWhere 0 (settled_on b ≢ Running) b.journal.entries

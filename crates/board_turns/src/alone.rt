@@ -10,6 +10,7 @@ ghost use Rattle.board_turns.specs.Turning.{HasGrown};
 use crate::committed::Committed;
 use crate::found::Found;
 use crate::holds::{allows, commit, leave_and_heal, look};
+use crate::point::Point;
 use crate::processor::Processor;
 use app_kernel::{Alone, Refused};
 use cache_board::{Quantum, Ticket};
@@ -40,6 +41,8 @@ impl Processor for Alone<'_> {
         self.brought
     }
 
+    fn at(&self, _point: Point) {}
+
     fn look(&mut self, want_first: bool) -> Found {
         look(self.board, want_first)
     }
@@ -64,7 +67,7 @@ impl Processor for Alone<'_> {
     }
 
     fn leave_and_heal(&mut self, ticket: Option<Ticket>, thread: ThreadNo) -> Result<(), Refused> {
-        leave_and_heal(self.board, ticket, thread)?;
+        leave_and_heal(self.board, 0, ticket, thread)?;
         self.brought = self.brought.saturating_add(1);
         Ok(())
     }

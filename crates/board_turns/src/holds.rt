@@ -1,4 +1,4 @@
-//! What whoever has the board alone does with it.
+//! What a processor does with the board while it holds it, and whoever has the board alone.
 
 ghost use Rattle.std.specs.Prelude.{◌≡◌, ◌<◌, ◌≤◌, ◌+◌, None, IfNone, IfOk, IfSome, OnErr, OnOk};
 ghost use Rattle.std.specs.Bool.{OnTrue};
@@ -34,22 +34,23 @@ fn find_wanted(board: &Board) -> Option<Found>
     })
 }
 
-// Finds a thread that can come to the processor, or else one that waits for its owners, or in the other order.
-fn find(board: &mut Board, want_first: bool) -> Found
-    ensures found { IsFound 0 want_first board.old board.new result }
-    ensures event { IsOneEvent 0 board.old board.new }
+/// Finds a thread that can come to the processor, or else one that waits for its owners, or in the other order.
+pub fn find(board: &mut Board, cpu: u32, want_first: bool) -> Found
+    requires processor { cpu < 8 }
+    ensures found { IsFound cpu want_first board.old board.new result }
+    ensures event { IsOneEvent cpu board.old board.new }
 {
     board.holds();
     if want_first {
         return match find_wanted(board) {
             Some(found) => found,
-            None => match board.checkout(0) {
+            None => match board.checkout(cpu) {
                 Some(ticket) => Found::Out(ticket),
                 None => Found::Nothing,
             },
         };
     }
-    match board.checkout(0) {
+    match board.checkout(cpu) {
         Some(ticket) => Found::Out(ticket),
         None => match find_wanted(board) {
             Some(found) => found,
@@ -67,7 +68,7 @@ pub(crate) fn look(board: &mut Board, want_first: bool) -> Found
 {
     board.holds();
     match board.settled() {
-        Settled::Running => find(board, want_first),
+        Settled::Running => find(board, 0, want_first),
         _ => Found::Over,
     }
 }
@@ -86,8 +87,34 @@ fn look_if(board: &mut Board, want_first: Option<bool>) -> Option<Found>
     }
 }
 
-/// Makes the steps of a quantum happen, and gives the thread back, but where they are too many and some are left; and then looks, if
-/// an order is given.
+/// Makes the steps of a quantum happen, and gives the thread back, but where they are too many and some are left. Nobody is looked for.
+pub fn commit_steps(
+    board: &mut Board,
+    ticket: &Ticket,
+    quantum: &Quantum,
+) -> Result<Committed, NoMemory>
+    requires views { AreOfTicket board.old.journal.entries ticket.now.thread quantum.now }
+    ensures committed { IfOk result (HasCommitted ticket.now quantum.now None board.old board.new) }
+    ensures fewer { IfOk result (AreFewer quantum.now.steps) }
+    ensures taken { IfOk result (λ committed. board.old.steps + taken_by committed quantum.now.steps ≤ board.new.steps) }
+    ensures event { IsOneEvent ticket.now.cpu board.old board.new }
+{
+    // Fewer steps are left than these where they are too many.
+    let _steps = quantum.steps();
+    match board.commit(ticket, quantum) {
+        Ok(_) => Ok(Committed::Taken(None)),
+        Err(Refused::Over { left }) if left > 0 => Ok(Committed::TooMany(left as u32)),
+        Err(refused) => {
+            board.leave(ticket);
+            match refused {
+                Refused::NoMemory => Err(AllocError),
+                _ => Ok(Committed::Lost),
+            }
+        }
+    }
+}
+
+/// The same, and then looks, if an order is given.
 pub(crate) fn commit(
     board: &mut Board,
     ticket: &Ticket,
@@ -102,23 +129,15 @@ pub(crate) fn commit(
     ensures taken { IfOk result (λ committed. board.old.steps + taken_by committed quantum.now.steps ≤ board.new.steps) }
     ensures event { IsOneEvent 0 board.old board.new }
 {
-    // Fewer steps are left than these where they are too many.
-    let _steps = quantum.steps();
-    match board.commit(ticket, quantum) {
-        Ok(_) => Ok(Committed::Taken(look_if(board, want_first))),
-        Err(Refused::Over { left }) if left > 0 => Ok(Committed::TooMany(left as u32)),
-        Err(refused) => {
-            board.leave(ticket);
-            match refused {
-                Refused::NoMemory => Err(AllocError),
-                _ => Ok(Committed::Lost),
-            }
-        }
+    match commit_steps(board, ticket, quantum)? {
+        Committed::Taken(_) => Ok(Committed::Taken(look_if(board, want_first))),
+        Committed::TooMany(left) => Ok(Committed::TooMany(left)),
+        Committed::Lost => Ok(Committed::Lost),
     }
 }
 
 /// Whether the row of a page of the ticket's thread is loaded, and allows the access.
-pub(crate) fn allows(board: &Board, ticket: &Ticket, vpn: Vpn, access: Access) -> bool
+pub fn allows(board: &Board, ticket: &Ticket, vpn: Vpn, access: Access) -> bool
     ensures { OnTrue result (Allows board.now ticket.now.no vpn access) }
 {
     let Some(thread) = board.flat_thread(ticket.no) else {
@@ -137,21 +156,23 @@ pub(crate) fn allows(board: &Board, ticket: &Ticket, vpn: Vpn, access: Access) -
 }
 
 /// Gives the thread of a ticket back, where there is one, and heals the next step of a thread.
-pub(crate) fn leave_and_heal(
+pub fn leave_and_heal(
     board: &mut Board,
+    cpu: u32,
     ticket: Option<Ticket>,
     thread: ThreadNo,
 ) -> Result<(), Refused>
-    requires own { IfSome ticket (λ its. its.cpu ≡ 0) }
-    ensures healed { HasHealed ticket thread board.old board.new result }
+    requires processor { cpu < 8 }
+    requires own { IfSome ticket (λ its. its.cpu ≡ cpu) }
+    ensures healed { HasHealed cpu ticket thread board.old board.new result }
     ensures stepped { OnOk result (board.old.steps + 1 ≤ board.new.steps) }
-    ensures event { IsOneEvent 0 board.old board.new }
+    ensures event { IsOneEvent cpu board.old board.new }
 {
     match ticket {
         Some(ticket) => {
             board.leave(&ticket);
-            board.heal_step(0, thread)
+            board.heal_step(cpu, thread)
         }
-        None => board.heal_step(0, thread),
+        None => board.heal_step(cpu, thread),
     }
 }

@@ -10,14 +10,17 @@ mod found;
 mod holds;
 mod pace;
 mod pacing;
+mod point;
 mod processor;
 mod quanta;
 mod turns;
 
-pub use app_kernel::{Alone, Board, Owners, Port, Refused};
+pub use app_kernel::{Alone, Board, Heard, Owners, Port, PortCall, Refused};
 pub use cache_board::{Quantum, Ticket};
 pub use committed::Committed;
 pub use found::Found;
+pub use holds::{allows, commit_steps, find, leave_and_heal};
 pub use pace::Pace;
+pub use point::Point;
 pub use processor::Processor;
 pub use turns::turn;

@@ -15,6 +15,7 @@ ghost use Rattle.board_turns.specs.Turning.{HasGrown};
 
 use crate::committed::Committed;
 use crate::found::Found;
+use crate::point::Point;
 use app_kernel::{Port, Refused};
 use cache_board::{Quantum, Ticket};
 use cache_ident::{NoMemory, ThreadNo, Vpn};
@@ -40,6 +41,9 @@ pub trait Processor: Port {
     /// completions. The count stays at its last value.
     fn brought(&self) -> u64
         ensures { result ≡ progress self.now };
+
+    /// It stands here in its turn, and doesn't hold the board.
+    fn at(&self, point: Point);
 
     /// Looks for the next thread: for one that can come to the processor, and where there is none for one that waits for its
     /// owners, or in the other order.
@@ -84,7 +88,7 @@ pub trait Processor: Port {
     /// Gives the ticket's thread back, where there is a ticket, and heals the next step of a thread.
     fn leave_and_heal(&mut self, ticket: Option<Ticket>, thread: ThreadNo) -> Result<(), Refused>
         requires own { IfSome ticket (λ its. is_so self.old (Found.Out its)) }
-        ensures told { OnTold (Self.board self.old) (Self.board self.new) (λ old new. HasHealed ticket thread old new result) }
+        ensures told { OnTold (Self.board self.old) (Self.board self.new) (λ old new. HasHealed 0 ticket thread old new result) }
         ensures continued { continues self.old self.new };
 
     // What may come of a port may come of a processor, and so may what comes of what comes of it.

@@ -12,6 +12,7 @@ ghost use Rattle.board_turns.specs.Turning.{IsLeftBy, IsOnQuantum, IsTriedBy};
 use crate::committed::Committed;
 use crate::found::Found;
 use crate::pace::Pace;
+use crate::point::Point;
 use crate::processor::Processor;
 use app_kernel::Notice;
 use cache_board::{Quantum, Ticket};
@@ -122,9 +123,11 @@ fn try_steps<P: Processor>(
     ensures continued { P.continues port.old port.new }
 {
     quantum.begin(ticket.context);
+    port.at(Point::InQuantum);
     let paused = run_ahead(port, ticket, quantum, most);
     let ask = ask_of(port, ticket, quantum, paused);
     let look = look_behind(ask, quantum.steps(), pace);
+    port.at(Point::BeforeCommit);
     let committed = port.commit(ticket, quantum, look)?;
     Ok(Tried { ask, committed })
 }

@@ -2,6 +2,7 @@
 use Rattle.std.proofs.Common.{◌≡◌, ℕ, false, List, [], ◌∷◌, ◌++◌, map, length, Option, None, Ok, refl, sym, ap, ◌∙◌, append-nil, append_assoc, arith}
 use Rattle.std.specs.Prelude.{◌≢◌, unwrap_or}
 use Rattle.std.proofs.lemmas.Bool.{ne_eqb}
+use mathlib.Core.List.{IsPrefix}
 use Rattle.flat_state.specs.declared.events.Decl.{Decl}
 use Rattle.flat_state.specs.declared.events.Decl.TheVariants as decls
 use Rattle.flat_state.specs.declared.events.Event.TheVariants.{Declare}
@@ -22,8 +23,8 @@ use Rattle.board_core.specs.Core.{IsSound, Recorded}
 use Rattle.board_core.specs.Going.{Grew}
 use Rattle.board_calls.specs.Calls.{refusal_of_seal, IsSealing}
 use Rattle.board_opening.specs.Openings.{AreDeclared, IsBoardOf}
-use Rattle.alone_run.specs.board_turns.specs.Looks.{settled_on}
-use Rattle.alone_run.specs.cache_board.proofs.PastLaws.{shows_flat}
+use Rattle.processors.specs.alone_run.specs.board_turns.specs.Looks.{settled_on}
+use Rattle.processors.specs.alone_run.specs.cache_board.proofs.PastLaws.{shows_flat}
 use Rattle.scenario_reader.specs.Scenarios.{scenario}
 use Rattle.scenario_reader.proofs.OpeningLaws.{answer_begins, opening_alike, BeginsWithMachine}
 use Rattle.proc_run.specs.Running.{HasKernel, IsRun}
@@ -107,7 +108,11 @@ sealed_begins ds limit old new ident made sealing =
 pub sealed_limit : (ds : List Decl) (limit : ℕ) (old new : Recorded) (ident : Ident) → IsBoardOf ds limit old → IsSealing old new ident → new.limit ≡ limit
 sealed_limit ds limit old new ident made sealing = sealing.grows.limit ∙ (is_open ds limit old made).its_limit
 
--- what a board grew by stands behind what it began with
+-- what a board went on with stands behind what it began with
+pub begins_still : (ds : List Decl) (old new : Recorded) → (rest : List Entry) × (old.journal.entries ≡ opening ds ++ rest) → IsPrefix old.journal.entries new.journal.entries → (rest : List Entry) × (new.journal.entries ≡ opening ds ++ rest)
+begins_still ds old new began more = (began.0 ++ more.0, sym more.1 ∙ (ap (λ (es : List Entry). es ++ more.0) began.1 ∙ append_assoc (opening ds) began.0 more.0))
+
+-- .. and so does what it grew by
 pub run_on : (ds : List Decl) (cpu : ℕ) (old new : Recorded) → (rest : List Entry) × (old.journal.entries ≡ opening ds ++ rest) → Grew cpu old new → IsSound new → settled_on new ≢ Running → IsRun ds old.limit new
 run_on ds cpu old new began grew sound over = record {
   rest = began.0 ++ grew.entries;

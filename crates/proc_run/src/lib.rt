@@ -7,10 +7,10 @@ mod outcome;
 mod run;
 mod text;
 
-pub use alone_run::Board;
 pub use laws::what_a_run_writes_is_found_legal;
 pub use machine::run_machine;
 pub use outcome::{Kept, Outcome, RunStatus};
+pub use processors::{Board, Gate, NoGate, Point};
 pub use run_journal::{Entry, Journal};
 pub use run_words::{Words, program_words};
 

@@ -15,6 +15,7 @@ ghost use Rattle.run_journal.specs.Entries.{erase, steps_in};
 ghost use Rattle.check_mode.specs.Answers.{IsChecked, HasLegalJournal};
 ghost use Rattle.run_words.specs.declared.options.Options.{Options};
 ghost use Rattle.run_words.specs.Options.{options};
+ghost use Rattle.run_words.specs.Ranges.{cpus_range, IsIn};
 ghost use Rattle.proc_run.specs.declared.outcome.RunStatus.{RunStatus};
 ghost use Rattle.proc_run.specs.declared.outcome.Kept.TheVariants.{Nothing};
 ghost use Rattle.proc_run.specs.Outcomes.{IsDue, IsDueBy, IsAnswer, IsRunAnswer, IsCheckAnswer, IsScenario, IsTold, IsFaultless, reads_source, OnWritten, OnWriteFault, OnReadFault, OnNothingDue, UnlessReadFault, UnlessWriteFault, ComesOutOrNoMemory, IsLegalAt, IsNoFault, IsRefusal, usage_line};
@@ -31,10 +32,13 @@ use cache_ident::NoMemory;
 use check_mode::{Checked, answer};
 use due_text::{Input, NoText, read_input, scenario_fault_line, too_long_line};
 use flat_state::{Decl, Settled};
+use processors::Gate;
 use run_words::{Mode, Options, Words, WordsFault};
 use scenario_gen::generate;
 use scenario_reader::{ScenarioFault, read};
 use std::alloc::{AllocError, Global};
+use std::sync::Wait;
+use std::thread::Threads;
 
 const USAGE: &[u8] =
     b"usage: v_run [--mode run|journal|gen|check|page] [--cpus N] [--steps N] [--seed N] [--frames N]\n";
@@ -88,18 +92,28 @@ fn faulty(alloc: Global, number: u64, rule: u32) -> Result<DueText, AllocError>
 }
 
 // What is due for the run of a scenario.
-fn answered(
+fn answered<R: Threads + Wait + Sync, G: Gate + Sync>(
+    rt: &R,
     alloc: Global,
     account: Account,
-    steps: u32,
+    options: &Options,
     decls: &[Decl],
+    gate: &G,
 ) -> Result<DueText, NoMemory>
     requires fit { AllFit nothing_declared decls.now }
     requires machine { (machine : Machine) × (rest : List Decl) × (decls.now ≡ declaration.Machine machine ∷ rest) }
     requires kernel { HasKernel decls.now }
-    ensures { IfOk result (λ d. (bs : List ℕ) → IsScenario bs decls.now → IsRunAnswer account steps bs d.status d.kept d.text.items) }
+    requires processors { IsIn cpus_range options.now.cpus }
+    ensures { IfOk result (λ d. (bs : List ℕ) → IsScenario bs decls.now → IsRunAnswer account options.now.steps bs d.status d.kept d.text.items) }
 {
-    let run = run(alloc, decls, u64::from(steps))?;
+    let run = run(
+        rt,
+        alloc,
+        decls,
+        options.cpus,
+        u64::from(options.steps),
+        gate,
+    )?;
     let text = text(alloc, account, &run)?;
     let Finished { board, settled } = run;
     Ok(DueText {
@@ -110,12 +124,20 @@ fn answered(
 }
 
 // What is due for the run of a scenario whose bytes were read to their end.
-fn due_for_run(alloc: Global, account: Account, steps: u32, bytes: &[u8]) -> Result<DueText, NoText>
-    ensures due { IfOk result (λ d. IsRunAnswer account steps bytes.now d.status d.kept d.text.items) }
+fn due_for_run<R: Threads + Wait + Sync, G: Gate + Sync>(
+    rt: &R,
+    alloc: Global,
+    account: Account,
+    options: &Options,
+    bytes: &[u8],
+    gate: &G,
+) -> Result<DueText, NoText>
+    requires processors { IsIn cpus_range options.now.cpus }
+    ensures due { IfOk result (λ d. IsRunAnswer account options.now.steps bytes.now d.status d.kept d.text.items) }
     ensures unfailed { OnFailed result ⊥ }
 {
     match read(alloc, bytes) {
-        Ok(scenario) => Ok(answered(alloc, account, steps, scenario.decls())?),
+        Ok(scenario) => Ok(answered(rt, alloc, account, options, scenario.decls(), gate)?),
         Err(ScenarioFault::Bad { line, rule }) => Ok(faulty(alloc, line, rule)?),
         Err(ScenarioFault::NoMemory) => Err(NoText::NoMemory),
     }
@@ -166,55 +188,81 @@ fn due_for_check(alloc: Global, steps: u32, bytes: &[u8]) -> Result<DueText, NoT
 }
 
 // What is due for the bytes of an input, read to their end.
-fn due_for(alloc: Global, options: &Options, bytes: &[u8]) -> Result<DueText, NoText>
+fn due_for<R: Threads + Wait + Sync, G: Gate + Sync>(
+    rt: &R,
+    alloc: Global,
+    options: &Options,
+    bytes: &[u8],
+    gate: &G,
+) -> Result<DueText, NoText>
+    requires processors { IsIn cpus_range options.now.cpus }
     ensures due { IfOk result (λ d. IsAnswer options.now bytes.now d.status d.kept d.text.items) }
     ensures unfailed { OnFailed result ⊥ }
 {
-    let steps = options.steps;
     let seed = options.seed;
     match options.mode {
-        Mode::Run => due_for_run(alloc, Account::Report, steps, bytes),
-        Mode::Journal => due_for_run(alloc, Account::Journal, steps, bytes),
-        Mode::Gen => due_for_run(alloc, Account::Summary { seed }, steps, bytes),
-        Mode::Check => due_for_check(alloc, steps, bytes),
+        Mode::Run => due_for_run(rt, alloc, Account::Report, options, bytes, gate),
+        Mode::Journal => due_for_run(rt, alloc, Account::Journal, options, bytes, gate),
+        Mode::Gen => due_for_run(rt, alloc, Account::Summary { seed }, options, bytes, gate),
+        Mode::Check => due_for_check(alloc, options.steps, bytes),
     }
 }
 
 // Reads the source to its end, and says what is due.
-fn due_of<S: Source>(alloc: Global, options: &Options, source: &mut S) -> Result<DueText, NoText>
-    requires { reads_source (Some options.now) ≡ true }
+fn due_of<R: Threads + Wait + Sync, S: Source, G: Gate + Sync>(
+    rt: &R,
+    alloc: Global,
+    options: &Options,
+    source: &mut S,
+    gate: &G,
+) -> Result<DueText, NoText>
+    requires processors { IsIn cpus_range options.now.cpus }
+    requires reads { reads_source (Some options.now) ≡ true }
     ensures due { IfOk result (λ d. IsDueBy options.now (S.bytes_left source.old) (S.bytes_left source.new) d.status d.kept d.text.items) }
     ensures fault { OnFailed result (HasRisen (S.faults source.old) (S.faults source.new)) }
     ensures faultless { UnlessFailed result (S.faults source.new ≡ S.faults source.old) }
 {
     match read_input(alloc, source)? {
-        Input::Whole(bytes) => due_for(alloc, options, &bytes),
+        Input::Whole(bytes) => due_for(rt, alloc, options, &bytes, gate),
         Input::TooLong => Ok(line(alloc, RunStatus::TooLong, too_long_line())?),
     }
 }
 
 // Says what is due by the words that were taken.
-fn due_by<S: Source>(alloc: Global, options: &Options, source: &mut S) -> Result<DueText, NoText>
+fn due_by<R: Threads + Wait + Sync, S: Source, G: Gate + Sync>(
+    rt: &R,
+    alloc: Global,
+    options: &Options,
+    source: &mut S,
+    gate: &G,
+) -> Result<DueText, NoText>
+    requires processors { IsIn cpus_range options.now.cpus }
     ensures due { IfOk result (λ d. IsDueBy options.now (S.bytes_left source.old) (S.bytes_left source.new) d.status d.kept d.text.items) }
     ensures unread { reads_source (Some options.now) ≡ false → Keeps (S.bytes_left source.old) (S.bytes_left source.new) }
     ensures fault { OnFailed result (HasRisen (S.faults source.old) (S.faults source.new) × (reads_source (Some options.now) ≡ true)) }
     ensures faultless { UnlessFailed result (S.faults source.new ≡ S.faults source.old) }
 {
     match options.mode {
-        Mode::Run | Mode::Journal | Mode::Check => due_of(alloc, options, source),
-        Mode::Gen => due_for(alloc, options, &generate(alloc, options.seed)?),
+        Mode::Run | Mode::Journal | Mode::Check => due_of(rt, alloc, options, source, gate),
+        Mode::Gen => due_for(rt, alloc, options, &generate(alloc, options.seed)?, gate),
     }
 }
 
 // Reads the words and what they ask for, and says what is to be written.
-fn due<S: Source>(alloc: Global, words: &Words, source: &mut S) -> Result<DueText, NoText>
+fn due<R: Threads + Wait + Sync, S: Source, G: Gate + Sync>(
+    rt: &R,
+    alloc: Global,
+    words: &Words,
+    source: &mut S,
+    gate: &G,
+) -> Result<DueText, NoText>
     ensures due { IfOk result (λ d. IsDue words.now (S.bytes_left source.old) (S.bytes_left source.new) d.status d.kept d.text.items) }
     ensures unread { reads_source (options words.now) ≡ false → Keeps (S.bytes_left source.old) (S.bytes_left source.new) }
     ensures fault { OnFailed result (HasRisen (S.faults source.old) (S.faults source.new) × (reads_source (options words.now) ≡ true)) }
     ensures faultless { UnlessFailed result (S.faults source.new ≡ S.faults source.old) }
 {
     match run_words::read(alloc, words) {
-        Ok(options) => due_by(alloc, &options, source),
+        Ok(options) => due_by(rt, alloc, &options, source, gate),
         Err(WordsFault::Refused) => Ok(line(alloc, RunStatus::Usage, USAGE)?),
         Err(WordsFault::NoMemory) => Err(NoText::NoMemory),
     }
@@ -222,17 +270,21 @@ fn due<S: Source>(alloc: Global, words: &Words, source: &mut S) -> Result<DueTex
 
 /// Reads a scenario from the source to its end, or makes it from the seed in mode gen, runs it on a board with caches
 /// until all its threads have ended, none can go on, or it has taken the steps that the words allow,
-/// and writes the text of the mode to the sink. In mode check it reads a journal behind the scenario, and writes whether
+/// by as many processors side by side as the words ask for, and writes the text of the mode to the sink. In mode check it reads a journal behind the scenario, and writes whether
 /// it is legal, with the report of what it leaves, or where it isn't. For a text that is no scenario it writes its first
 /// fault, and for words that aren't taken the usage line. All text is made before the first write.
 ///
 /// It costs the steps, each of them the logarithm of the rows, a pass over the threads for each entry of the journal,
 /// and memory for the scenario, the machine, one entry for every 256 steps and each thread call, and the text.
-pub fn run_machine<S: Source, W: Sink>(
+/// Where there are several processors each of them tells the gate where it stands. They wait for the board, and no clause says that
+/// they end. One alone takes no lock, and starts no thread.
+pub fn run_machine<R: Threads + Wait + Sync, S: Source, W: Sink, G: Gate + Sync>(
+    rt: &R,
     alloc: Global,
     words: &Words,
     source: &mut S,
     sink: &mut W,
+    gate: &G,
 ) -> Outcome
     // What was written is the text that is due.
     ensures written { OnWritten result.status ((text : List ℕ)
@@ -273,7 +325,7 @@ pub fn run_machine<S: Source, W: Sink>(
         → (HasRisen (W.faults sink.old) (W.faults sink.new) → ⊥) → (ds : List Decl) (j : List Entry) → HasLegalJournal text ds j
         → IsLegalAt (settled_of (flat (erase j)) (steps_in j) o.steps) result.status }
 {
-    match due(alloc, words, source) {
+    match due(rt, alloc, words, source, gate) {
         Err(NoText::ReadFault) => Outcome {
             status: RunStatus::ReadFault,
             kept: Kept::Nothing,

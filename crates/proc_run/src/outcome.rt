@@ -3,8 +3,8 @@
 ghost use Rattle.std.specs.Prelude.{◌≡◌};
 ghost use Rattle.proc_run.specs.Outcomes.{exit_status};
 
-use alone_run::Board;
 use flat_state::Settled;
+use processors::Board;
 use run_journal::Journal;
 
 /// How the whole run came out.

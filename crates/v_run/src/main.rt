@@ -2,7 +2,7 @@
 #![tactic(auto)]
 
 use byte_ports::{FromRead, ToWrite};
-use proc_run::{RunStatus, program_words, run_machine};
+use proc_run::{NoGate, RunStatus, program_words, run_machine};
 use std::process::ExitCode;
 
 fn main(rt: HostRuntime) -> ExitCode {
@@ -11,6 +11,6 @@ fn main(rt: HostRuntime) -> ExitCode {
     };
     let mut source = FromRead::new(rt.stdin());
     let mut sink = ToWrite::new(rt.stdout());
-    let outcome = run_machine(rt.alloc(), &words, &mut source, &mut sink);
+    let outcome = run_machine(&rt, rt.alloc(), &words, &mut source, &mut sink, &NoGate);
     ExitCode::from(outcome.status.exit_status())
 }

@@ -3,11 +3,13 @@
 
 use byte_ports::{MemSink, MemSource};
 use cache_ident::Cause;
-use proc_run::{Board, Kept, RunStatus, Words, run_machine};
+use proc_run::{Board, Kept, NoGate, RunStatus, Words, run_machine};
 use run_journal::Entry;
 use std::alloc::Global;
 use std::process::Abort;
+use std::sync::Wait;
 use std::test::Fail;
+use std::thread::Threads;
 
 // What came of a run.
 #[derive(Drop)]
@@ -35,11 +37,11 @@ fn count_displaced(board: &Board) -> u32 {
 }
 
 // A run by no words.
-fn run_text(alloc: Global, scenario: &str) -> Result<Ran, Fail> {
+fn run_text<R: Threads + Wait + Sync>(rt: &R, alloc: Global, scenario: &str) -> Result<Ran, Fail> {
     let words = Words::new(alloc);
     let mut source = MemSource::new(alloc, scenario.as_bytes(), 4096, &[])?;
     let mut sink = MemSink::new(alloc, 4096, 4096, &[])?;
-    let outcome = run_machine(alloc, &words, &mut source, &mut sink);
+    let outcome = run_machine(rt, alloc, &words, &mut source, &mut sink, &NoGate);
     let status = outcome.status;
     let displaced = match &outcome.kept {
         Kept::Board(board) => count_displaced(board),
@@ -55,8 +57,13 @@ fn run_text(alloc: Global, scenario: &str) -> Result<Ran, Fail> {
 }
 
 // Whether all threads of a run ended, and its report ends with these lines.
-fn ends_with(alloc: Global, scenario: &str, lines: &str) -> Result<bool, Fail> {
-    let ran = run_text(alloc, scenario)?;
+fn ends_with<R: Threads + Wait + Sync>(
+    rt: &R,
+    alloc: Global,
+    scenario: &str,
+    lines: &str,
+) -> Result<bool, Fail> {
+    let ran = run_text(rt, alloc, scenario)?;
     Ok(matches!(ran.status, RunStatus::Done) && ran.text.as_slice().ends_with(lines.as_bytes()))
 }
 
@@ -98,12 +105,12 @@ looks:\nlw a0, 0(t0)\nbne a0, t1, looks\naddi a7, zero, 2\necall\naddi a0, zero,
 fn threads_that_wait_by_turning_round_end(rt: HostRuntime) -> Result<(), Fail> {
     let sum =
         "space 0 rows 2 referenced 2 modified 1\nthread 0 exit 0 out 0\nthread 1 exit 0 out 0\nthread 2 exit 0 out 3\n400\n";
-    assert!(rt; ends_with(rt.alloc(), PETERSON, sum)?);
-    assert!(rt; ends_with(rt.alloc(), LOCK, sum)?);
+    assert!(rt; ends_with(&rt, rt.alloc(), PETERSON, sum)?);
+    assert!(rt; ends_with(&rt, rt.alloc(), LOCK, sum)?);
     let taken = "thread 0 exit 0 out 0\nthread 1 exit 0 out 4\n1275\n";
-    assert!(rt; ends_with(rt.alloc(), RING, taken)?);
+    assert!(rt; ends_with(&rt, rt.alloc(), RING, taken)?);
     let twenty = "thread 0 exit 0 out 0\nthread 1 exit 0 out 0\nthread 2 exit 0 out 2\n20\n";
-    assert!(rt; ends_with(rt.alloc(), ADDITIONS, twenty)?);
+    assert!(rt; ends_with(&rt, rt.alloc(), ADDITIONS, twenty)?);
     Ok(())
 }
 
@@ -118,7 +125,7 @@ endcode\nend\n";
 
 #[test]
 fn rows_are_displaced(rt: HostRuntime) -> Result<(), Fail> {
-    let ran = run_text(rt.alloc(), NINE_PAGES)?;
+    let ran = run_text(&rt, rt.alloc(), NINE_PAGES)?;
     assert!(rt; ran.displaced >= 3);
     Ok(())
 }

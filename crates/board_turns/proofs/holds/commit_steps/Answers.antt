@@ -1,7 +1,7 @@
 use Rattle.std.proofs.Common.{◌<◌, Some, ap, ◌∙◌, arith, inl, inr}
 use Rattle.board_core.specs.board_ops.specs.declared.refusals.Refused.{Refused}
 use Rattle.board_turns.proofs.Fewer.{fewer_left}
-use Rattle.board_turns.proofs.holds.commit.Goals as goal
+use Rattle.board_turns.proofs.holds.commit_steps.Goals as goal
 
 few : (c : goal.After-row_known-1) → c.in-Err-Over.left < c.args.quantum.now.steps
 few c = elim c.in-Err-Over.ensures.refused.why [

@@ -1,0 +1,18 @@
+use Rattle.std.proofs.Common.{◌∙◌}
+use Rattle.turn_lock.specs.Passes.{found_by, holder_first, seen_of, value_of}
+use Rattle.processors.specs.Sharing.{seen_by}
+use Rattle.processors.proofs.Holding.{seen_on, sees_more, signed}
+use Rattle.processors.proofs.sharing.SharingPort.unload.Goals as goal
+
+pub release-requires : goal.release-requires
+release-requires g c =
+    let at = c.self.inside in
+    let held = c.hold-held in
+    record { signed = signed at.cpu (value_of held.result) c.value_mut.result.now c.unload-answer.new.self c.value_mut.ensures.value c.unload-answer.ensures.event (holder_first held.result) (found_by held.result) held.ensures.found (held.ensures.range.0 ∙ c.self.invariant.number) }
+
+pub returns-clause-followed : goal.returns-clause-followed
+returns-clause-followed g c =
+    let at = c.self.inside in
+    let held = c.hold-held in
+    let seen = seen_on at.cpu (value_of held.result) c.value_mut.result.now c.unload-answer.new.self c.value_mut.ensures.value c.unload-answer.ensures.event (seen_by at.pass) (seen_of c.release.result) held.ensures.begins c.release.ensures.seen in
+    sees_more at.lock.now at.cpu at.pass c.release.result at.limit at.heard _ at.brought _ (c.release.ensures.range.1 ∙ held.ensures.range.1) seen c.args.self.now c.self.view_is

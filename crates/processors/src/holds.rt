@@ -1,0 +1,84 @@
+//! What one of several processors does while it holds the board.
+
+ghost use Rattle.std.specs.Prelude.{◌≡◌, ◌<◌, IfOk, IfSome};
+ghost use mathlib.Core.List.{IsPrefix};
+ghost use Rattle.turn_lock.specs.Passes.{found_by, held_lock, holder_end, holder_first, lock_of, value_of};
+ghost use Rattle.alone_run.specs.board_turns.specs.board_commits.specs.Tickets.{AreOfTicket};
+ghost use Rattle.alone_run.specs.board_turns.specs.board_core.specs.Going.{IsOneEvent};
+ghost use Rattle.alone_run.specs.board_turns.specs.cache_board.specs.Events.{past_of};
+ghost use Rattle.alone_run.specs.board_turns.specs.Holds.{AreFewer};
+ghost use Rattle.alone_run.specs.board_turns.specs.Holds as holds;
+ghost use Rattle.processors.specs.Sharing.{end_by, first_by, seen_by, IsSoOf, IsThere};
+
+use alone_run::turns::{Board, Committed, Found, Quantum, Ticket, commit_steps, find};
+use cache_ident::NoMemory;
+use std::sync::Wait;
+use turn_lock::{Held, Pass, Turn};
+
+/// Waits for the board with the pass that is there. It isn't there any more then.
+pub(crate) fn hold<'a, R: Wait>(
+    rt: &R,
+    lock: &'a Turn<Board>,
+    pass: &mut Option<Pass<Board>>,
+) -> Held<'a, Board>
+    requires there { IsThere lock.now pass.old }
+    ensures lock { held_lock result ≡ lock_of lock.now }
+    ensures range { (holder_first result ≡ first_by pass.old) × (holder_end result ≡ end_by pass.old) }
+    ensures found { found_by result ≡ past_of (value_of result) }
+    ensures begins { IsPrefix (seen_by pass.old) (past_of (value_of result)) }
+{
+    match pass.take() {
+        Some(pass) => lock.hold(rt, pass),
+        None => unreachable!(),
+    }
+}
+
+/// Looks for the next thread, unless as many steps were taken as the processor stops with.
+#[tactic(auto, using(crate::proofs::Seeing::so_of, crate::proofs::Seeing::so_over, alone_run::specs::board_turns::proofs::Looking::event_nothing))]
+pub(crate) fn look(board: &mut Board, cpu: u32, limit: u64, want_first: bool) -> Found
+    requires processor { cpu < 8 }
+    ensures so { IsSoOf cpu limit board.new.journal.entries result }
+    ensures event { IsOneEvent cpu board.old board.new }
+{
+    board.holds();
+    if board.steps() >= limit {
+        return Found::Over;
+    }
+    find(board, cpu, want_first)
+}
+
+// A look behind something else, if an order is given.
+#[tactic(auto, using(alone_run::specs::board_turns::proofs::Looking::event_nothing))]
+fn look_if(board: &mut Board, cpu: u32, limit: u64, want_first: Option<bool>) -> Option<Found>
+    requires processor { cpu < 8 }
+    ensures so { IfSome result (IsSoOf cpu limit board.new.journal.entries) }
+    ensures event { IsOneEvent cpu board.old board.new }
+{
+    board.holds();
+    match want_first {
+        Some(want_first) => Some(look(board, cpu, limit, want_first)),
+        None => None,
+    }
+}
+
+/// Makes the steps of a quantum happen, and gives the thread back, but where they are too many and some are left; and then looks, if
+/// an order is given.
+pub(crate) fn commit(
+    board: &mut Board,
+    ticket: &Ticket,
+    quantum: &Quantum,
+    limit: u64,
+    want_first: Option<bool>,
+) -> Result<Committed, NoMemory>
+    requires processor { ticket.now.cpu < 8 }
+    requires views { AreOfTicket board.old.journal.entries ticket.now.thread quantum.now }
+    ensures so { IfOk result (λ committed. IfSome (holds.found_by committed) (IsSoOf ticket.now.cpu limit board.new.journal.entries)) }
+    ensures fewer { IfOk result (AreFewer quantum.now.steps) }
+    ensures event { IsOneEvent ticket.now.cpu board.old board.new }
+{
+    match commit_steps(board, ticket, quantum)? {
+        Committed::Taken(_) => Ok(Committed::Taken(look_if(board, ticket.cpu, limit, want_first))),
+        Committed::TooMany(left) => Ok(Committed::TooMany(left)),
+        Committed::Lost => Ok(Committed::Lost),
+    }
+}

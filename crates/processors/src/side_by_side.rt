@@ -1,0 +1,103 @@
+//! Several processors on one board.
+
+ghost use Rattle.std.specs.Prelude.{◌≡◌, ◌<◌, ◌≤◌, true, All, IfOk, OnOk};
+ghost use Rattle.std.specs.List.{AllZip};
+ghost use Rattle.std.specs.Thread.{IsSync};
+ghost use mathlib.Core.List.{IsPrefix};
+ghost use Rattle.turn_lock.specs.Passes.{first_of, IsPassOf};
+ghost use Rattle.alone_run.specs.board_turns.specs.board_core.specs.Core.{IsSound};
+ghost use Rattle.processors.specs.Parts.{HasGoneOn};
+
+use crate::gate::Gate;
+use crate::parts::{cut, joined};
+use crate::run::run_processor;
+use alone_run::turns::{Board, Owners, Quantum};
+use cache_ident::NoMemory;
+use flat_state::Decl;
+use std::alloc::{AllocError, Global};
+use std::sync::Wait;
+use std::thread::{Threads, map_vec};
+use turn_lock::{Pass, Turn};
+
+// How many pages a quantum may copy.
+const VIEWS: usize = 64;
+
+// Runs the processor of a pass. Its owners and its quantum are made here, in its own thread; where there is no memory for them, it does
+// nothing, and the others go on.
+fn run_with_pass<R: Wait, G: Gate>(
+    rt: &R,
+    alloc: Global,
+    lock: &Turn<Board>,
+    pass: Pass<Board>,
+    decls: &[Decl],
+    limit: u64,
+    gate: &G,
+) -> Pass<Board>
+    requires lock { IsPassOf lock.now pass }
+    requires processor { first_of pass < 8 }
+    ensures { HasGoneOn lock.now pass result }
+{
+    let Ok(mut owners) = Owners::new(alloc, decls) else {
+        return pass;
+    };
+    let Ok(mut quantum) = Quantum::new(alloc, VIEWS) else {
+        return pass;
+    };
+    let (pass, _) = run_processor(rt, lock, pass, &mut owners, &mut quantum, limit, gate);
+    pass
+}
+
+// Runs the processors of the passes side by side.
+fn run_with_passes<R: Threads + Wait + Sync, G: Gate + Sync>(
+    rt: &R,
+    alloc: Global,
+    lock: &Turn<Board>,
+    passes: Vec<Pass<Board>>,
+    decls: &[Decl],
+    limit: u64,
+    gate: &G,
+) -> Result<Vec<Pass<Board>>, NoMemory>
+    requires passes { All (λ pass. IsPassOf lock.now pass × (first_of pass < 8)) passes.items }
+    ensures { IfOk result (λ after. AllZip (HasGoneOn lock.now) passes.items after.items) }
+{
+    map_vec(
+        rt,
+        passes,
+        &|pass: Pass<Board>| -> Pass<Board>
+            requires { IsSync R.row × (IsPassOf lock.now pass × (first_of pass < 8)) }
+            ensures { HasGoneOn lock.entry.now pass result }
+        { run_with_pass(rt, alloc, lock, pass, decls, limit, gate) },
+    )
+}
+
+/// Runs so many processors side by side on a board, with owners of these declarations, until each of them has nothing to do, or the board
+/// has taken `limit` steps.
+///
+/// The board is behind a lock meanwhile. It comes back by value, and what it did before stands: where memory runs out for the
+/// threads themselves, it is lost.
+pub fn run_side_by_side<R: Threads + Wait + Sync, G: Gate + Sync>(
+    rt: &R,
+    alloc: Global,
+    board: Board,
+    decls: &[Decl],
+    cpus: u32,
+    limit: u64,
+    gate: &G,
+) -> Result<Board, NoMemory>
+    requires processors { (0 < cpus) × (cpus ≤ 8) }
+    ensures grew { IfOk result (λ after. IsPrefix board.journal.entries after.journal.entries) }
+    ensures limit { IfOk result (λ after. after.limit ≡ board.limit) }
+    ensures sealed { board.sealed ≡ true → IfOk result (λ after. after.sealed ≡ true) }
+    ensures sound { IfOk result IsSound }
+{
+    board.holds();
+    let Ok((lock, pass)) = Turn::new(alloc, board) else {
+        return Err(AllocError);
+    };
+    let passes = cut(alloc, &lock, pass, cpus)?;
+    let passes = run_with_passes(rt, alloc, &lock, passes, decls, limit, gate)?;
+    let pass = joined(&lock, passes);
+    let board = lock.close(pass);
+    board.holds();
+    Ok(board)
+}
