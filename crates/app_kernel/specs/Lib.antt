@@ -8,3 +8,4 @@ pub mod Answers
 pub mod Causes
 pub mod Walks
 pub mod Serving
+pub mod Pages
