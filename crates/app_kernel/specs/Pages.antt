@@ -197,3 +197,33 @@ Fills space vpn trust o result old new = IsOwned old o → IsFillable old space 
 
 abbrev pub Confirms : SpaceNo → ThreadNo → Trust → Known → Known → Result Served Refused → Recorded → Recorded → Type 0
 Confirms space thread trust o p result old new = IsOwned old o → IsFaulted old space thread → IsConfirmedBy space thread trust o p result old new
+
+-- the same of a walk that reaches the thread before
+pub record IsFilledThen (space : SpaceNo) (vpn : Vpn) (trust : Trust) (result : Result Served Refused) (new : Recorded) : Type 0 where
+  pub any : IsFilledOr new space vpn result
+  pub wanting : trust ≡ Nothing → IsWanting result
+
+pub record IsConfirmedThen (space : SpaceNo) (thread : ThreadNo) (trust : Trust) (o p : Known) (result : Result Served Refused) (old new : Recorded) : Type 0 where
+  pub any : IsConfirmedOr space thread o p old new result
+  pub wanting : trust ≡ Nothing → IsWanting result
+
+abbrev pub WalkFills : SpaceNo → Vpn → Trust → Known → Result Served Refused → Recorded → Recorded → Type 0
+WalkFills space vpn trust o result old new = IsOwned old o → IsFillable old space vpn → IsFilledThen space vpn trust result new
+
+abbrev pub WalkConfirms : SpaceNo → ThreadNo → Vpn → Trust → Known → Known → Result Served Refused → Recorded → Recorded → Type 0
+WalkConfirms space thread vpn trust o p result old new = IsOwned old o → IsFaulted old space thread → IsUnfillable old space vpn → IsConfirmedThen space thread trust o p result old new
+
+-- a try does it, or memory is wanted
+abbrev pub IsFilledUnless : Recorded → SpaceNo → Vpn → Result Served Refused → Type 0
+IsFilledUnless b space vpn (Ok answer) = IsFilled b space vpn answer
+IsFilledUnless b space vpn (Err why) = why ≡ NoMemory
+
+abbrev pub IsConfirmedUnless : ThreadNo → Recorded → Recorded → Result Served Refused → Type 0
+IsConfirmedUnless thread old new (Ok answer) = IsConfirmed thread old new answer
+IsConfirmedUnless thread old new (Err why) = why ≡ NoMemory
+
+abbrev pub TryFills : SpaceNo → Vpn → Known → Result Served Refused → Recorded → Recorded → Type 0
+TryFills space vpn o result old new = IsOwned old o → IsFillable old space vpn → IsFilledUnless new space vpn result
+
+abbrev pub TryConfirms : SpaceNo → ThreadNo → Vpn → Known → Result Served Refused → Recorded → Recorded → Type 0
+TryConfirms space thread vpn o result old new = IsOwned old o → IsFaulted old space thread → IsUnfillable old space vpn → IsConfirmedUnless thread old new result
