@@ -7,3 +7,4 @@ pub mod FindLaws
 pub mod GentleLaws
 pub mod RowLaws
 pub mod ServeLaws
+pub mod FaultLaws
