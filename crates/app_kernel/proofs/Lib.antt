@@ -8,3 +8,4 @@ pub mod GentleLaws
 pub mod RowLaws
 pub mod ServeLaws
 pub mod FaultLaws
+pub mod StillLaws
