@@ -25,7 +25,7 @@ use Rattle.board_core.specs.cached_machine.specs.Posts.{mark_of}
 use Rattle.board_core.specs.Core.{contents_of, Recorded}
 use Rattle.owner_ports.specs.Boards.{OnTold}
 use Rattle.reach_laws.specs.answer_laws.specs.Given.{IsGiven}
-use Rattle.owners.specs.Known.{receiver_of, Known}
+use Rattle.owners.specs.Known.{receiver_of, space_of, Known}
 use Rattle.reach_laws.specs.Filling.{IsElse, IsFillable, IsNothingToLoad, IsUnfillable}
 use Rattle.reach_laws.specs.Reaching.{IsOwned, IsPlainLoaded, IsReached}
 use Rattle.app_kernel.specs.declared.serving.Served.{Served}
@@ -207,11 +207,11 @@ pub record IsConfirmedThen (space : SpaceNo) (thread : ThreadNo) (trust : Trust)
   pub any : IsConfirmedOr space thread o p old new result
   pub wanting : trust ≡ Nothing → IsWanting result
 
-abbrev pub WalkFills : SpaceNo → Vpn → Trust → Known → Result Served Refused → Recorded → Recorded → Type 0
-WalkFills space vpn trust o result old new = IsOwned old o → IsFillable old space vpn → IsFilledThen space vpn trust result new
+abbrev pub WalkFills : SpaceNo → ThreadNo → Vpn → Trust → Known → Result Served Refused → Recorded → Recorded → Type 0
+WalkFills space thread vpn trust o result old new = space_of o thread ≡ Some space → IsOwned old o → IsFillable old space vpn → IsFilledThen space vpn trust result new
 
 abbrev pub WalkConfirms : SpaceNo → ThreadNo → Vpn → Trust → Known → Known → Result Served Refused → Recorded → Recorded → Type 0
-WalkConfirms space thread vpn trust o p result old new = IsOwned old o → IsFaulted old space thread → IsUnfillable old space vpn → IsConfirmedThen space thread trust o p result old new
+WalkConfirms space thread vpn trust o p result old new = space_of o thread ≡ Some space → IsOwned old o → IsFaulted old space thread → IsUnfillable old space vpn → IsConfirmedThen space thread trust o p result old new
 
 -- a try does it, or memory is wanted
 abbrev pub IsFilledUnless : Recorded → SpaceNo → Vpn → Result Served Refused → Type 0
@@ -222,8 +222,8 @@ abbrev pub IsConfirmedUnless : ThreadNo → Recorded → Recorded → Result Ser
 IsConfirmedUnless thread old new (Ok answer) = IsConfirmed thread old new answer
 IsConfirmedUnless thread old new (Err why) = why ≡ NoMemory
 
-abbrev pub TryFills : SpaceNo → Vpn → Known → Result Served Refused → Recorded → Recorded → Type 0
-TryFills space vpn o result old new = IsOwned old o → IsFillable old space vpn → IsFilledUnless new space vpn result
+abbrev pub TryFills : SpaceNo → ThreadNo → Vpn → Known → Result Served Refused → Recorded → Recorded → Type 0
+TryFills space thread vpn o result old new = space_of o thread ≡ Some space → IsOwned old o → IsFillable old space vpn → IsFilledUnless new space vpn result
 
 abbrev pub TryConfirms : SpaceNo → ThreadNo → Vpn → Known → Result Served Refused → Recorded → Recorded → Type 0
-TryConfirms space thread vpn o result old new = IsOwned old o → IsFaulted old space thread → IsUnfillable old space vpn → IsConfirmedUnless thread old new result
+TryConfirms space thread vpn o result old new = space_of o thread ≡ Some space → IsOwned old o → IsFaulted old space thread → IsUnfillable old space vpn → IsConfirmedUnless thread old new result

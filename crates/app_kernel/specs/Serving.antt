@@ -19,7 +19,7 @@ use Rattle.board_core.specs.board_ops.specs.declared.refusals.Refused.TheVariant
 use Rattle.board_core.specs.cached_machine.specs.Cached.{state_of}
 use Rattle.board_core.specs.Core.{IsSound, Recorded}
 use Rattle.owner_ports.specs.Boards.{status_in}
-use Rattle.owners.specs.Known.{Known}
+use Rattle.owners.specs.Known.{space_of, Known}
 use Rattle.owners.specs.Owning.{AreOwnersOf, IsThreadOf}
 use Rattle.reach_laws.specs.Filling.{IsFillable, IsUnfillable}
 use Rattle.reach_laws.specs.Reaching.{IsOwned}
@@ -94,8 +94,8 @@ Serves thread notice o p answer old new = old.sealed ≡ true → AreOwnersOf ol
 
 -- a row of its space that is to be loaded is, and a thread that hasn't ended goes on
 abbrev pub ServeFills : ThreadNo → SpaceNo → Vpn → Known → Served → Recorded → Recorded → Type 0
-ServeFills thread space vpn o answer old new = old.sealed ≡ true → AreOwnersOf old.journal.entries o → (IsEnded old thread → ⊥) → IsFillable old space vpn → UnlessWanting answer (IsFilled new space vpn answer)
+ServeFills thread space vpn o answer old new = space_of o thread ≡ Some space → old.sealed ≡ true → AreOwnersOf old.journal.entries o → (IsEnded old thread → ⊥) → IsFillable old space vpn → UnlessWanting answer (IsFilled new space vpn answer)
 
 -- a fault on a page of its space of which nothing is to be loaded is confirmed
 abbrev pub ServeConfirms : ThreadNo → SpaceNo → Vpn → Known → Served → Recorded → Recorded → Type 0
-ServeConfirms thread space vpn o answer old new = old.sealed ≡ true → AreOwnersOf old.journal.entries o → IsFaulted old space thread → IsUnfillable old space vpn → UnlessWanting answer (IsConfirmed thread old new answer)
+ServeConfirms thread space vpn o answer old new = space_of o thread ≡ Some space → old.sealed ≡ true → AreOwnersOf old.journal.entries o → IsFaulted old space thread → IsUnfillable old space vpn → UnlessWanting answer (IsConfirmed thread old new answer)

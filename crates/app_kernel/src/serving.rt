@@ -149,8 +149,8 @@ fn walk<P: Port>(
     ensures helped { IfOk result (λ served. OnTold (P.board port.old) (P.board port.new) (Helps thread notice owners.old owners.new served)) }
     ensures finished { trust ≡ Trust.Nothing → IfErr result (λ why. OnTold (P.board port.old) (P.board port.new) (Finishes thread notice owners.old why)) }
     ensures known { IsSome (space_of owners.old thread) → IsSome (space_of owners.new thread) }
-    ensures fills { (space : SpaceNo) (vpn : Vpn) → space_of owners.old thread ≡ Some space → page_of notice ≡ Some vpn → OnTold (P.board port.old) (P.board port.new) (WalkFills space vpn trust owners.old result) }
-    ensures confirms { (space : SpaceNo) (vpn : Vpn) → space_of owners.old thread ≡ Some space → page_of notice ≡ Some vpn → OnTold (P.board port.old) (P.board port.new) (WalkConfirms space thread vpn trust owners.old owners.new result) }
+    ensures fills { (space : SpaceNo) (vpn : Vpn) → page_of notice ≡ Some vpn → OnTold (P.board port.old) (P.board port.new) (WalkFills space thread vpn trust owners.old result) }
+    ensures confirms { (space : SpaceNo) (vpn : Vpn) → page_of notice ≡ Some vpn → OnTold (P.board port.old) (P.board port.new) (WalkConfirms space thread vpn trust owners.old owners.new result) }
 {
     let space = reach_thread(port, owners, thread, trust)?;
     match notice {
@@ -177,8 +177,8 @@ fn attempt<P: Port>(
     ensures walked { IfErr result (λ _. AreWalked (P.board port.old) (P.board port.new) owners.old owners.new) }
     ensures helped { IfOk result (λ served. OnTold (P.board port.old) (P.board port.new) (Helps thread notice owners.old owners.new served)) }
     ensures finished { IfErr result (λ why. OnTold (P.board port.old) (P.board port.new) (Finishes thread notice owners.old why)) }
-    ensures fills { (space : SpaceNo) (vpn : Vpn) → space_of owners.old thread ≡ Some space → page_of notice ≡ Some vpn → OnTold (P.board port.old) (P.board port.new) (TryFills space vpn owners.old result) }
-    ensures confirms { (space : SpaceNo) (vpn : Vpn) → space_of owners.old thread ≡ Some space → page_of notice ≡ Some vpn → OnTold (P.board port.old) (P.board port.new) (TryConfirms space thread vpn owners.old result) }
+    ensures fills { (space : SpaceNo) (vpn : Vpn) → page_of notice ≡ Some vpn → OnTold (P.board port.old) (P.board port.new) (TryFills space thread vpn owners.old result) }
+    ensures confirms { (space : SpaceNo) (vpn : Vpn) → page_of notice ≡ Some vpn → OnTold (P.board port.old) (P.board port.new) (TryConfirms space thread vpn owners.old result) }
 {
     match walk(port, owners, thread, notice, Trust::Noted) {
         Ok(served) => Ok(served),
@@ -197,8 +197,8 @@ pub fn serve<P: Port>(port: &mut P, owners: &mut Owners, thread: ThreadNo, notic
     ensures followed { P.follows port.old port.new }
     ensures cause { IsCause owners.new thread notice (P.heard port.old) (P.heard port.new) result }
     ensures told { OnTold (P.board port.old) (P.board port.new) (λ old new. old.sealed ≡ true → AreOwnersOf old.journal.entries owners.old → IsServed thread notice old new owners.new result) }
-    ensures filled { (space : SpaceNo) (vpn : Vpn) → space_of owners.old thread ≡ Some space → page_of notice ≡ Some vpn → OnTold (P.board port.old) (P.board port.new) (ServeFills thread space vpn owners.old result) }
-    ensures confirmed { (space : SpaceNo) (vpn : Vpn) → space_of owners.old thread ≡ Some space → page_of notice ≡ Some vpn → OnTold (P.board port.old) (P.board port.new) (ServeConfirms thread space vpn owners.old result) }
+    ensures filled { (space : SpaceNo) (vpn : Vpn) → page_of notice ≡ Some vpn → OnTold (P.board port.old) (P.board port.new) (ServeFills thread space vpn owners.old result) }
+    ensures confirmed { (space : SpaceNo) (vpn : Vpn) → page_of notice ≡ Some vpn → OnTold (P.board port.old) (P.board port.new) (ServeConfirms thread space vpn owners.old result) }
 {
     if has_ended(port, thread) {
         return Served::Ended;
