@@ -4,4 +4,6 @@ pub mod ToldLoaded
 pub mod WalkLaws
 pub mod ReachLaws
 pub mod FindLaws
+pub mod GentleLaws
+pub mod AskLaws
 pub mod ServeLaws
