@@ -1,4 +1,4 @@
--- Walks by kernels, spaces and threads, one behind another.
+-- Calls that gentle walks make, and walks to a thread whose space is known.
 use Rattle.std.proofs.Common.{◌≡◌, ◌⊎◌, List, Option, Some, None, slice_get, refl, sym, ap, ◌∙◌, subst}
 use Rattle.std.specs.Prelude.{Result, Ok, Err, IsSome, OnErr, OnOk, ℕ}
 use Rattle.std.specs.Map.{lookup}
@@ -18,7 +18,7 @@ use Rattle.owners.specs.Keys.{is_thread}
 use Rattle.owners.specs.Known.{ident_of, space_of, IsSpaceLearnt, Known}
 use Rattle.owners.specs.Owning.{IsThreadOf}
 use Rattle.owner_ports.specs.Boards.{OnTold}
-use Rattle.page_laws.proofs.Keeping.{keeps_further, keeps_kernel, keeps_same, keeps_space, keeps_thread}
+use Rattle.page_laws.proofs.Keeping.{keeps_kernel, keeps_same, keeps_space, keeps_thread}
 use Rattle.reach_laws.specs.Reaching.{IsOwned}
 use Rattle.reach_laws.specs.Searching.{space_told}
 use Rattle.reach_laws.proofs.Owning.{space_known, spaces_known}
@@ -32,7 +32,7 @@ use Rattle.app_kernel.proofs.FindLaws.{IsFirstTry}
 use Rattle.app_kernel.proofs.ReachLaws.{answer_so, KernelCall, SpaceCall, ThreadCall}
 use Rattle.app_kernel.proofs.WalkLaws.{further}
 
--- ---- nothing, and one after another
+-- ---- nothing
 
 pub gentle_here : (space : SpaceNo) (b : Option Recorded) (o : Known) → AreGentle space b b o o
 gentle_here space b o = record {
@@ -42,25 +42,6 @@ gentle_here space b o = record {
         marks = λ no cpu is. is;
         keeps = λ owned. keeps_same space x;
       });
-}
-
-pub gentle_further : (space : SpaceNo) (a b c : Recorded) (o p q : Known) → IsGentle space a b o p → IsGentle space b c p q → IsGentle space a c o q
-gentle_further space a b c o p q first second = record {
-  walked = further a b c o p q first.walked second.walked;
-  marks = λ no cpu is. first.marks no cpu (second.marks no cpu is);
-  keeps = λ owned. keeps_further space a b c (first.keeps owned) (second.keeps (first.walked.owned owned));
-}
-
-pub gentle_on : (space : SpaceNo) (a b c : Option Recorded) (o p q : Known) → AreGentle space a b o p → AreGentle space b c p q → AreGentle space a c o q
-gentle_on space a b c o p q first second = record {
-  told = told_twice a b c (λ x y. IsGentle space x y o p) (λ x y. IsGentle space x y p q) (λ x y. IsGentle space x y o q) (λ x y z. gentle_further space x y z o p q) first.told second.told;
-}
-
--- whatever owners note or learn
-pub gentle_with : (space : SpaceNo) (a b : Option Recorded) (o p q : Known) → AreGentle space a b o p → AreWalked a b o q → AreGentle space a b o q
-gentle_with space a b o p q gentle walked = record {
-  told = told_both a b (λ x y. IsGentle space x y o p) (λ x y. IsWalked x y o q) (λ x y. IsGentle space x y o q)
-      (λ x y one two. record { walked = two; marks = one.marks; keeps = one.keeps }) gentle.told walked.told;
 }
 
 -- ---- a load, of which owners took what they did

@@ -93,8 +93,8 @@ fn confirm<P: Port>(
     ensures helped { (va : ℕ) (access : Access) → IfOk result (λ served. OnTold (P.board port.old) (P.board port.new) (Helps thread (Notice.Fault va access) owners.old owners.new served)) }
     ensures confirms { OnTold (P.board port.old) (P.board port.new) (Confirms space thread trust owners.old owners.new result) }
 {
-    let kernel = reach_kernel_of(port, owners, space, Trust::Noted)?;
     let ident = reach_thread_in(port, owners, space, thread, trust)?;
+    let kernel = reach_kernel_of(port, owners, space, Trust::Noted)?;
     match port.confirm_fault(kernel, ident) {
         Ok(()) => Ok(Served::Ended),
         Err(Refused::Mapped { .. }) => Ok(Served::Resumed),

@@ -1,5 +1,5 @@
 use Rattle.app_kernel.proofs.ReachLaws.{learnt_owned}
-use Rattle.app_kernel.proofs.GentleLaws.{known_learnt}
+use Rattle.app_kernel.proofs.GentleCalls.{known_learnt}
 use Rattle.app_kernel.proofs.walk.learn_reached.Goals as goal
 
 pub returns-in-Nothing-clause-owned : goal.returns-in-Nothing-clause-owned

@@ -4,7 +4,8 @@ use Rattle.std.proofs.lemmas.Result.{err_from_is_err_and}
 use Rattle.board_core.specs.board_ops.specs.declared.refusals.Refused.{Refused}
 use Rattle.app_kernel.proofs.ReachLaws.{both_away, both_reached, both_unlearnt, both_unreached, both_walked, passed_at}
 use Rattle.app_kernel.proofs.WalkLaws.{walked_on}
-use Rattle.app_kernel.proofs.GentleLaws.{gentle_on, gentle_with, known_same}
+use Rattle.app_kernel.proofs.GentleCalls.{known_same}
+use Rattle.app_kernel.proofs.GentleLaws.{gentle_on, gentle_with}
 use Rattle.app_kernel.proofs.walk.reach_both.Goals as goal
 
 pub returns-in_err-reach_space-clause-reached : goal.returns-in_err-reach_space-clause-reached

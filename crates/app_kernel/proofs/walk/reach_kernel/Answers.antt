@@ -1,6 +1,6 @@
 use Rattle.app_kernel.proofs.ReachLaws.{first_reached, kernel_reached}
 use Rattle.app_kernel.proofs.WalkLaws.{kernel_taken}
-use Rattle.app_kernel.proofs.GentleLaws.{gentle_here, kernel_gentle}
+use Rattle.app_kernel.proofs.GentleCalls.{gentle_here, kernel_gentle}
 use Rattle.app_kernel.proofs.walk.reach_kernel.Goals as goal
 
 pub returns-then-kernel-eq0-clause-reached : goal.returns-then-kernel-eq0-clause-reached

@@ -4,7 +4,8 @@ use Rattle.std.proofs.lemmas.Result.{err_from_is_err_and}
 use Rattle.board_core.specs.board_ops.specs.declared.refusals.Refused.{Refused}
 use Rattle.app_kernel.proofs.ReachLaws.{space_reached, space_unreached}
 use Rattle.app_kernel.proofs.WalkLaws.{space_taken, walked_on}
-use Rattle.app_kernel.proofs.GentleLaws.{gentle_on, space_gentle}
+use Rattle.app_kernel.proofs.GentleCalls.{space_gentle}
+use Rattle.app_kernel.proofs.GentleLaws.{gentle_on}
 use Rattle.app_kernel.proofs.walk.reach_space.Goals as goal
 
 pub returns-in_err-kernel-clause-reached : goal.returns-in_err-kernel-clause-reached

@@ -1,7 +1,8 @@
 use Rattle.std.proofs.Common.{refl}
 use Rattle.app_kernel.proofs.ReachLaws.{here_away, thread_passed, thread_reached, up_away}
 use Rattle.app_kernel.proofs.WalkLaws.{thread_taken, walked_on}
-use Rattle.app_kernel.proofs.GentleLaws.{gentle_here, gentle_on, thread_gentle}
+use Rattle.app_kernel.proofs.GentleCalls.{gentle_here, thread_gentle}
+use Rattle.app_kernel.proofs.GentleLaws.{gentle_on}
 use Rattle.app_kernel.proofs.walk.reach_thread_in.Goals as goal
 
 pub returns-in_err-kernel-clause-reached : goal.returns-in_err-kernel-clause-reached

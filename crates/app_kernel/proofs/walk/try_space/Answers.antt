@@ -1,6 +1,6 @@
 use Rattle.std.proofs.Common.{sym, ◌∙◌}
 use Rattle.app_kernel.proofs.FindLaws.{tried_another, tried_its, tried_nothing}
-use Rattle.app_kernel.proofs.GentleLaws.{mine_found, mine_told}
+use Rattle.app_kernel.proofs.GentleCalls.{mine_found, mine_told}
 use Rattle.app_kernel.proofs.walk.try_space.Goals as goal
 
 pub returns-in-Ok-clause-reached : goal.returns-in-Ok-clause-reached
