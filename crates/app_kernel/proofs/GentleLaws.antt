@@ -1,14 +1,11 @@
 -- What gentle walks leave, one behind another.
 use Rattle.std.proofs.Common.{◌≡◌, ℕ, ◌<◌, Option, Some, None, slice_get, refl, sym, ap, ◌∙◌, subst}
 use Rattle.std.specs.Prelude.{Err, Result}
-use Rattle.cache_ident.specs.declared.names.Name.TheVariants as name
 use Rattle.cache_ident.specs.declared.names.SpaceNo.{SpaceNo}
 use Rattle.cache_ident.specs.declared.names.ThreadNo.{ThreadNo}
 use Rattle.cache_ident.specs.declared.names.Vpn.{Vpn}
-use Rattle.phys_groups.specs.Translation.{row_of}
 use Rattle.flat_state.specs.NextSteps.{faults, fetch_row}
 use Rattle.flat_state.specs.State.{FlatState}
-use Rattle.flat_state.specs.Translation.{is_fit_row}
 use Rattle.board_core.specs.board_ops.specs.declared.refusals.Refused.{Refused}
 use Rattle.board_core.specs.cached_machine.specs.Cached.{state_of}
 use Rattle.board_core.specs.cached_machine.specs.Posts.{mark_of}
@@ -17,8 +14,8 @@ use Rattle.owner_ports.specs.Boards.{IsCall}
 use Rattle.owners.specs.Known.{Known}
 use Rattle.reach_laws.specs.Filling.{IsFillable, IsUnfillable}
 use Rattle.reach_laws.specs.Reaching.{IsOwned}
-use Rattle.reach_laws.proofs.Filling.{absent_still, unfillable_where}
-use Rattle.reach_laws.proofs.Plain.{plain_still}
+use Rattle.page_laws.proofs.Keeping.{keeps_further, keeps_room}
+use Rattle.page_laws.proofs.Pages.{fillable_kept, unfillable_kept}
 use Rattle.app_kernel.specs.Pages.{AreGentle, IsFaulted, IsGentle}
 use Rattle.app_kernel.specs.Walks.{AreWalked, IsWalked}
 use Rattle.app_kernel.proofs.Changes.{told_both, told_twice}
@@ -30,8 +27,7 @@ pub gentle_further : (space : SpaceNo) (a b c : Recorded) (o p q : Known) → Is
 gentle_further space a b c o p q first second = record {
   walked = further a b c o p q first.walked second.walked;
   marks = λ no cpu is. first.marks no cpu (second.marks no cpu is);
-  rows = λ owned page vpn absent. second.rows (first.walked.owned owned) page vpn (first.rows owned page vpn absent);
-  plain = λ owned vpn is. second.plain (first.walked.owned owned) vpn (first.plain owned vpn is);
+  keeps = λ owned. keeps_further space a b c (first.keeps owned) (second.keeps (first.walked.owned owned));
 }
 
 pub gentle_on : (space : SpaceNo) (a b c : Option Recorded) (o p q : Known) → AreGentle space a b o p → AreGentle space b c p q → AreGentle space a c o q
@@ -39,7 +35,7 @@ gentle_on space a b c o p q first second = record { told = told_twice a b c (λ 
 
 -- owners who learnt something since
 pub gentle_as : (space : SpaceNo) (a b : Recorded) (o p q : Known) → IsGentle space a b o p → IsWalked a b o q → IsGentle space a b o q
-gentle_as space a b o p q gentle walked = record { walked = walked; marks = gentle.marks; rows = gentle.rows; plain = gentle.plain }
+gentle_as space a b o p q gentle walked = record { walked = walked; marks = gentle.marks; keeps = gentle.keeps }
 
 pub gentle_with : (space : SpaceNo) (a b : Option Recorded) (o p q : Known) → AreGentle space a b o p → AreWalked a b o q → AreGentle space a b o q
 gentle_with space a b o p q gentle walked = record { told = told_both a b (λ x y. IsGentle space x y o p) (λ x y. IsWalked x y o q) (λ x y. IsGentle space x y o q) (λ x y. gentle_as space x y o p q) gentle.told walked.told }
@@ -49,23 +45,16 @@ pub gentle_refused : {T : Type 0} (space : SpaceNo) (refusal : Option Refused) (
 gentle_refused space refusal does b c w o call = record {
   walked = by_refused refusal does b c w o call;
   marks = call.on.marks;
-  rows = λ owned page vpn absent. absent_still b c call.refused.only (name.Mapping page vpn) absent;
-  plain = λ owned vpn is. plain_still b c call.refused.only space vpn is;
+  keeps = λ owned. keeps_room space b c call.refused.only;
 }
 
 -- ---- what stays so
 
 pub fillable_gentle : (home : SpaceNo) (b c : Recorded) (o p : Known) (space : SpaceNo) (vpn : Vpn) → IsGentle home b c o p → IsOwned b o → IsFillable b space vpn → IsFillable c space vpn
-fillable_gentle home b c o p space vpn gentle owned is = record {
-  row = is.row;
-  here = ap (λ (s : FlatState). row_of s.rows space vpn.0) gentle.walked.state ∙ is.here;
-  fit = ap (λ (s : FlatState). is_fit_row s is.row) gentle.walked.state ∙ is.fit;
-  plain = is.plain;
-  absent = gentle.rows owned space vpn is.absent;
-}
+fillable_gentle home b c o p space vpn gentle owned is = fillable_kept b c space vpn gentle.walked.state (gentle.keeps owned).absent is
 
 pub unfillable_gentle : (b c : Recorded) (o p : Known) (space : SpaceNo) (vpn : Vpn) → IsGentle space b c o p → IsOwned b o → IsUnfillable b space vpn → IsUnfillable c space vpn
-unfillable_gentle b c o p space vpn gentle owned is = unfillable_where b c space vpn gentle.walked.state (gentle.plain owned vpn) is
+unfillable_gentle b c o p space vpn gentle owned is = unfillable_kept b c space vpn gentle.walked.state (gentle.keeps owned) is
 
 unmarked : (old new : Option ℕ) → ((cpu : ℕ) → new ≡ Some cpu → old ≡ Some cpu) → old ≡ None → new ≡ None
 unmarked old None kept none = refl
@@ -78,7 +67,7 @@ faulted_gentle b c o p space thread gentle owned is = record {
   its = is.its;
   ready = is.ready;
   faulty = ap (λ (s : FlatState). faults s is.found) gentle.walked.state ∙ is.faulty;
-  fetch = λ row through. gentle.plain owned row.vpn (is.fetch row (ap (λ (s : FlatState). fetch_row s is.found) (sym gentle.walked.state) ∙ through));
+  fetch = λ row through. (gentle.keeps owned).plain row.vpn (is.fetch row (ap (λ (s : FlatState). fetch_row s is.found) (sym gentle.walked.state) ∙ through));
   free = unmarked (mark_of (contents_of b) thread) (mark_of (contents_of c) thread) (gentle.marks thread) is.free;
   left = subst (λ (n : ℕ). n < c.limit) (sym (gentle.walked.steps owned)) (subst (λ (n : ℕ). b.steps < n) (sym gentle.walked.limit) is.left);
 }

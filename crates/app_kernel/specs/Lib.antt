@@ -1,5 +1,6 @@
 pub use Rattle.owner_ports
 pub use Rattle.owners
+pub use Rattle.page_laws
 pub use Rattle.reach_laws
 pub use Rattle.owner_ports.specs.left_laws
 pub use Rattle.reach_laws.specs.answer_laws

@@ -26,6 +26,7 @@ use Rattle.board_core.specs.Core.{contents_of, Recorded}
 use Rattle.owner_ports.specs.Boards.{OnTold}
 use Rattle.reach_laws.specs.answer_laws.specs.Given.{IsGiven}
 use Rattle.owners.specs.Known.{receiver_of, space_of, Known}
+use Rattle.page_laws.specs.Keeping.{KeepsRows}
 use Rattle.reach_laws.specs.Filling.{IsElse, IsFillable, IsNothingToLoad, IsUnfillable}
 use Rattle.reach_laws.specs.Reaching.{IsOwned, IsPlainLoaded, IsReached}
 use Rattle.app_kernel.specs.declared.serving.Served.{Served}
@@ -41,8 +42,7 @@ use Rattle.app_kernel.specs.Walks.{IsWalked}
 pub record IsGentle (space : SpaceNo) (old new : Recorded) (o p : Known) : Type 0 where
   pub walked : IsWalked old new o p
   pub marks : (no : ThreadNo) (cpu : ℕ) → mark_of (contents_of new) no ≡ Some cpu → mark_of (contents_of old) no ≡ Some cpu
-  pub rows : IsOwned old o → (page : SpaceNo) (vpn : Vpn) → (IsNameResident (residents_of (contents_of old)) (Mapping page vpn) → ⊥) → IsNameResident (residents_of (contents_of new)) (Mapping page vpn) → ⊥
-  pub plain : IsOwned old o → (vpn : Vpn) → IsPlainLoaded old space vpn → IsPlainLoaded new space vpn
+  pub keeps : IsOwned old o → KeepsRows space old new
 
 -- the same, where the board is told
 pub record AreGentle (space : SpaceNo) (old new : Option Recorded) (o p : Known) : Type 0 where

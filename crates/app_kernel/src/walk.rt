@@ -198,6 +198,7 @@ fn learn_reached(
 ) -> Result<(), NoMemory>
     requires believed { trust ≡ Trust.Noted → space_of owners.old thread ≡ Some space }
     ensures learnt { OnOk result (space_of owners.new thread ≡ Some space) }
+    ensures known { IsSome (space_of owners.old thread) → IsSome (space_of owners.new thread) }
     ensures owned { (b : Recorded) → IsOwned b owners.old → (trust ≡ Trust.Nothing → IsThreadOf (state_of b.machine) space thread) → IsOwned b owners.new }
     ensures idents { owners.new.idents ≡ owners.old.idents }
 {
