@@ -200,10 +200,10 @@ module _ (a b : Option Recorded) (answer : Result Ident Refused) (o p : Known) (
 
 -- ---- rows
 
-abbrev RowDone : Ident → Vpn → Recorded → Recorded → Ident → Type 0
+abbrev pub RowDone : Ident → Vpn → Recorded → Recorded → Ident → Type 0
 RowDone parent vpn old new ident = (space : SpaceNo) × (space_as (contents_of old) parent ≡ Some space) × IsLoadedAs 0 (name.Mapping space vpn) ident old new
 
-abbrev RowCall : Ident → Ident → Vpn → Option Ident → Result Ident Refused → Recorded → Recorded → Type 0
+abbrev pub RowCall : Ident → Ident → Vpn → Option Ident → Result Ident Refused → Recorded → Recorded → Type 0
 RowCall caller parent vpn receiver answer old new = IsRoomyCall (refusal_of_load_mapping (contents_of old) caller parent vpn receiver) (RowDone parent vpn old new) old new answer
 
 module _ (o : Known) (caller parent : Ident) (space : SpaceNo) (vpn : Vpn) (receiver : Option Ident) (noted : ident_of o (name.Space space) ≡ Some parent) where
