@@ -282,7 +282,7 @@ module _ (space : SpaceNo) (vpn : Vpn) (trust : Trust) (o s v : Known) (caller p
           | inl right ↦ answered_got (IsAnotherTold z space vpn) answer (fill_got right)
           | inr other ↦
               let t = another_told y z s mid space hand.0 vpn receiver named hand.3 other answer asked_so in
-              subst (λ (r : Result Ident Refused). IsAnswered (IsAnotherTold z space vpn) z v space (Ok r)) (sym t.1) (still, elim t.2 [ | inl wants ↦ inl wants | inr is ↦ inr (another_so t.0 other is) ])
+              subst (λ (r : Result Ident Refused). IsAnswered (IsAnotherTold z space vpn) z v space (Ok r)) (sym t.1) (still, elim t.2 [ inl wants ↦ inl wants | inr is ↦ inr (another_so t.0 other is) ])
         ]
 
       module _ (unfillable : IsUnfillable x space vpn) where
@@ -298,10 +298,10 @@ module _ (space : SpaceNo) (vpn : Vpn) (trust : Trust) (o s v : Known) (caller p
         vain_other = elim (right_or_told y z s mid space hand.0 vpn receiver named hand.3) [
           | inl right ↦
               let t = vain_told right in
-              subst (λ (r : Result Ident Refused). IsAnswered (λ w. IsNothingToLoad w ⊎ IsAnotherTold z space vpn w) z v space (Ok r)) (sym t.1) (still, elim t.2 [ | inl wants ↦ inl wants | inr none ↦ inr (inl none) ])
+              subst (λ (r : Result Ident Refused). IsAnswered (λ w. IsNothingToLoad w ⊎ IsAnotherTold z space vpn w) z v space (Ok r)) (sym t.1) (still, elim t.2 [ inl wants ↦ inl wants | inr none ↦ inr (inl none) ])
           | inr other ↦
               let t = another_told y z s mid space hand.0 vpn receiver named hand.3 other answer asked_so in
-              subst (λ (r : Result Ident Refused). IsAnswered (λ w. IsNothingToLoad w ⊎ IsAnotherTold z space vpn w) z v space (Ok r)) (sym t.1) (still, elim t.2 [ | inl wants ↦ inl wants | inr is ↦ inr (inr (another_so t.0 other is)) ])
+              subst (λ (r : Result Ident Refused). IsAnswered (λ w. IsNothingToLoad w ⊎ IsAnotherTold z space vpn w) z v space (Ok r)) (sym t.1) (still, elim t.2 [ inl wants ↦ inl wants | inr is ↦ inr (inr (another_so t.0 other is)) ])
         ]
 
   -- ---- over a port

@@ -55,8 +55,8 @@ module _ (a b : Option Recorded) (o p : Known) (answer : Result Ident Refused) (
           marks = made.call.on.marks;
           keeps = λ owned.
               keeps_kernel space (refusal_of_load_kernel (contents_of x) first_ident kernel) x y owned.sound answer kernel
-                  (λ its is. same its (ap (λ (ks : List KernelNo). slice_get ks space.0) (spaces_known x o owned) ∙ is))
-                  (answer_so (refusal_of_load_kernel (contents_of x) first_ident kernel) (name.Kernel kernel) x y answer made);
+              (λ its is. same its (ap (λ (ks : List KernelNo). slice_get ks space.0) (spaces_known x o owned) ∙ is))
+              (answer_so (refusal_of_load_kernel (contents_of x) first_ident kernel) (name.Kernel kernel) x y answer made);
         }) call walked.told;
   }
 
