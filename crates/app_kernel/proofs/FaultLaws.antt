@@ -4,6 +4,7 @@ use Rattle.std.specs.Prelude.{Result, Ok, Err, IfOk, IsSome}
 use Rattle.std.specs.Option.{option_map}
 use Rattle.std.proofs.lemmas.Option.{same_Some}
 use Rattle.cache_ident.specs.declared.idents.Ident.{Ident}
+use Rattle.cache_ident.specs.declared.names.Frame.{Frame}
 use Rattle.cache_ident.specs.declared.names.KernelNo.{KernelNo}
 use Rattle.cache_ident.specs.declared.names.Name.{Name}
 use Rattle.cache_ident.specs.declared.names.Name.TheVariants as name
@@ -29,7 +30,7 @@ use Rattle.board_threads.specs.Refusals.{refusal_of_fault}
 use Rattle.owner_ports.specs.Boards.{OnTold}
 use Rattle.owners.specs.Known.{ident_of, space_of, Known}
 use Rattle.owners.specs.Owning.{IsThreadOf}
-use Rattle.page_laws.proofs.Fetching.{fetch_space}
+use Rattle.page_laws.proofs.Pages.{fetched_space}
 use Rattle.reach_laws.specs.owner_laws.proofs.Naming.{names_it}
 use Rattle.reach_laws.specs.Filling.{IsElse, IsFillable, IsNothingToLoad, IsUnfillable}
 use Rattle.reach_laws.specs.Reaching.{kernel_ident, IsOwned, IsReached}
@@ -60,7 +61,7 @@ fetch_loaded b space thread is = by (fetch_row (state_of b.machine) is.found) re
     by None through = tt
     by (Some row) through =
         let loaded = is.fetch row through in
-        let home : row.space ≡ space = fetch_space (state_of b.machine) is.found row through ∙ is.its in
+        let home : row.space ≡ space = fetched_space (state_of b.machine) is.found row through ∙ is.its in
         let named : name.Mapping space row.vpn ≡ row_name row = ap (λ (x : SpaceNo). name.Mapping x row.vpn) (sym home) in
         (loaded.live.0, loaded.live.1, loaded.live.3 ∙ named)
 
@@ -203,8 +204,15 @@ module _ (a m n : Option Recorded) (o p q : Known) (space : SpaceNo) (thread : T
 abbrev Asked : Type 0
 Asked = Result (Result Ident Refused) Refused
 
-abbrev ConfirmsIn : SpaceNo → ThreadNo → Vpn → Trust → Known → Known → Result Served Refused → Recorded → Recorded → Type 0
+abbrev pub ConfirmsIn : SpaceNo → ThreadNo → Vpn → Trust → Known → Known → Result Served Refused → Recorded → Recorded → Type 0
 ConfirmsIn space thread vpn trust o p r old new = IsUnfillable old space vpn → Confirms space thread trust o p r old new
+
+-- a refusal for another reason than that there is nothing to load
+pub something_to_load : (w : Refused) → ((ident : Ident) → w ≡ why.AlreadyLoaded ident → ⊥) → ((n : Name) → w ≡ why.NotDeclared n → ⊥) → ((frame : Frame) (group : ℕ) → w ≡ why.Rights frame group → ⊥) → IsNothingToLoad w → ⊥
+something_to_load (why.AlreadyLoaded ident) loaded none unfit nothing = loaded ident refl
+something_to_load (why.NotDeclared n) loaded none unfit nothing = none n refl
+something_to_load (why.Rights frame group) loaded none unfit nothing = unfit frame group refl
+something_to_load w loaded none unfit nothing = nothing
 
 module _ (a m : Option Recorded) (o p : Known) (space : SpaceNo) (thread : ThreadNo) (vpn : Vpn) (trust : Trust) (r : Asked) where
   -- what it depends on wasn't reached

@@ -10,3 +10,4 @@ pub mod AskLaws
 pub mod RowLaws
 pub mod ServeLaws
 pub mod FaultLaws
+pub mod StillLaws

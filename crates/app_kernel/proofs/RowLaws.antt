@@ -38,6 +38,11 @@ IsNoOther (Ok ident) = Unit {0}
 IsNoOther (Err (why.WrongParent given declared)) = ⊥
 IsNoOther (Err w) = Unit {0}
 
+pub no_other : (r : Result Ident Refused) → ((given declared : Option Name) → r ≡ Err (why.WrongParent given declared) → ⊥) → IsNoOther r
+no_other (Ok ident) apart = tt
+no_other (Err (why.WrongParent given declared)) apart = apart given declared refl
+no_other (Err w) apart = tt
+
 none_other : {P : Type 0} (b : Recorded) (space : SpaceNo) (vpn : Vpn) (w : Refused) → IsNoOther (Err w) → IsAnotherTold b space vpn w → P
 none_other b space vpn w none other = absurd (subst (λ (x : Refused). IsNoOther (Err x)) other.is none)
 

@@ -1,5 +1,6 @@
 use Rattle.std.proofs.Common.{refl}
 use Rattle.app_kernel.proofs.CauseLaws.{ok_from}
+use Rattle.app_kernel.proofs.FaultLaws.{tried_again, tried_again_too, tried_confirmed, tried_filled, tried_wanting, tried_wanting_too}
 use Rattle.app_kernel.proofs.ServeLaws.{finishes_after, helps_after, more_err, more_ok}
 use Rattle.app_kernel.proofs.WalkLaws.{walked_on}
 use Rattle.app_kernel.proofs.serving.attempt.Goals as goal
@@ -19,3 +20,21 @@ returns-in-Err-clause-finished g c =
 pub returns-in-Err-clause-cause : goal.returns-in-Err-clause-cause
 returns-in-Err-clause-cause g c =
     ok_from c.walk-in-Err.new.owners c.args.thread c.args.notice (g.P.Port.heard c.args.port.now) (g.P.Port.heard c.walk.new.port) (g.P.Port.heard c.walk-in-Err.new.port) c.walk-in-Err.result c.walk.ensures.calls c.walk.ensures.asks c.walk-in-Err.ensures.cause
+
+pub returns-in-Ok-clause-fills : goal.returns-in-Ok-clause-fills
+returns-in-Ok-clause-fills g c = λ space vpn page. tried_filled (g.P.Port.board c.args.port.now) (g.P.Port.board c.walk.new.port) c.args.owners.now c.walk.new.owners c.args.thread space vpn c.walk.result _ c.in-Ok.served c.in-Ok.is (c.walk.ensures.fills space vpn page)
+
+pub returns-in-Err-NoMemory-clause-fills : goal.returns-in-Err-NoMemory-clause-fills
+returns-in-Err-NoMemory-clause-fills g c = λ space vpn page. tried_wanting (g.P.Port.board c.args.port.now) (g.P.Port.board c.walk.new.port) c.args.owners.now c.walk.new.owners c.args.thread space vpn c.walk.result c.in-Err-NoMemory.ensures.walked
+
+pub returns-in-Err-clause-fills : goal.returns-in-Err-clause-fills
+returns-in-Err-clause-fills g c = λ space vpn page. tried_again (g.P.Port.board c.args.port.now) (g.P.Port.board c.walk.new.port) c.args.owners.now c.walk.new.owners c.args.thread space vpn c.walk.result (g.P.Port.board c.walk-in-Err.new.port) c.walk-in-Err.new.owners _ _ c.in-Err.is c.in-Err.not-NoMemory c.in-Err.ensures.walked c.walk.ensures.known c.walk-in-Err.result (c.walk.ensures.fills space vpn page) (c.walk-in-Err.ensures.fills space vpn page)
+
+pub returns-in-Ok-clause-confirms : goal.returns-in-Ok-clause-confirms
+returns-in-Ok-clause-confirms g c = λ space vpn page. tried_confirmed (g.P.Port.board c.args.port.now) (g.P.Port.board c.walk.new.port) c.args.owners.now c.walk.new.owners c.args.thread space vpn c.walk.result _ c.in-Ok.served c.in-Ok.is (c.walk.ensures.confirms space vpn page)
+
+pub returns-in-Err-NoMemory-clause-confirms : goal.returns-in-Err-NoMemory-clause-confirms
+returns-in-Err-NoMemory-clause-confirms g c = λ space vpn page. tried_wanting_too (g.P.Port.board c.args.port.now) (g.P.Port.board c.walk.new.port) c.args.owners.now c.walk.new.owners c.args.thread space vpn c.walk.result c.in-Err-NoMemory.ensures.walked
+
+pub returns-in-Err-clause-confirms : goal.returns-in-Err-clause-confirms
+returns-in-Err-clause-confirms g c = λ space vpn page. tried_again_too (g.P.Port.board c.args.port.now) (g.P.Port.board c.walk.new.port) c.args.owners.now c.walk.new.owners c.args.thread space vpn c.walk.result (g.P.Port.board c.walk-in-Err.new.port) c.walk-in-Err.new.owners _ _ c.in-Err.is c.in-Err.not-NoMemory c.in-Err.ensures.walked c.walk.ensures.known c.walk-in-Err.result (c.walk.ensures.confirms space vpn page) (c.walk-in-Err.ensures.confirms space vpn page)

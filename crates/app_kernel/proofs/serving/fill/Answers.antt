@@ -1,5 +1,11 @@
+use Rattle.std.proofs.Common.{ap, ◌∙◌}
+use Rattle.std.specs.Prelude.{Err, Ok, Result}
+use Rattle.cache_ident.specs.declared.idents.Ident.{Ident}
+use Rattle.std.proofs.lemmas.Result.{err_from_is_err_and}
+use Rattle.board_core.specs.board_ops.specs.declared.refusals.Refused.{Refused}
 use Rattle.fault_forward.specs.declared.effects.Notice.TheVariants as notices
 use Rattle.app_kernel.proofs.CauseLaws.{ok_from}
+use Rattle.app_kernel.proofs.FaultLaws.{confirmed_behind, confirmed_fill, filled, filled_never, something_to_load, unconfirmed, unconfirmed_so, unfilled, unfilled_so}
 use Rattle.app_kernel.proofs.ServeLaws.{goes_on_so, helps_after, more_ok}
 use Rattle.app_kernel.proofs.serving.fill.Goals as goal
 
@@ -29,3 +35,43 @@ returns-in-Err-NotDeclared-clause-helped g c = λ va access.
 pub returns-in-Err-Rights-clause-helped : goal.returns-in-Err-Rights-clause-helped
 returns-in-Err-Rights-clause-helped g c = λ va access.
     more_ok c.confirm-in-Err-Rights.result _ _ (λ served so. helps_after (g.P.Port.board c.args.port.now) (g.P.Port.board c.load_message_row.new.port) (g.P.Port.board c.confirm-in-Err-Rights.new.port) c.args.owners.now c.load_message_row.new.owners c.confirm-in-Err-Rights.new.owners c.args.thread (notices.Fault va access) served c.load_message_row.ensures.walked so) (c.confirm-in-Err-Rights.ensures.helped va access)
+
+pub returns-in_err-load_message_row-clause-fills : goal.returns-in_err-load_message_row-clause-fills
+returns-in_err-load_message_row-clause-fills g c =
+    let p = err_from_is_err_and c.from_residual.result c.from_residual.ensures.1 in
+    unfilled (g.P.Port.board c.args.port.now) (g.P.Port.board c.load_message_row.new.port) c.args.owners.now c.load_message_row.new.owners c.args.space c.args.thread c.args.vpn c.args.trust c.load_message_row.result c.in_err-load_message_row.field-0.0 c.from_residual.result c.load_message_row.ensures.fills c.in_err-load_message_row.was (p.1 ∙ ap (λ (x : Refused). Err x) p.2)
+
+pub returns-in_err-load_message_row-clause-confirms : goal.returns-in_err-load_message_row-clause-confirms
+returns-in_err-load_message_row-clause-confirms g c =
+    let p = err_from_is_err_and c.from_residual.result c.from_residual.ensures.1 in
+    unconfirmed (g.P.Port.board c.args.port.now) (g.P.Port.board c.load_message_row.new.port) c.args.owners.now c.load_message_row.new.owners c.args.space c.args.thread c.args.vpn c.args.trust c.load_message_row.result c.in_err-load_message_row.field-0.0 c.from_residual.result c.load_message_row.ensures.vain c.in_err-load_message_row.was (p.1 ∙ ap (λ (x : Refused). Err x) p.2)
+
+pub returns-in-Ok-clause-fills : goal.returns-in-Ok-clause-fills
+returns-in-Ok-clause-fills g c = filled (g.P.Port.board c.args.port.now) (g.P.Port.board c.load_message_row.new.port) c.args.owners.now c.load_message_row.new.owners c.args.space c.args.thread c.args.vpn c.args.trust c.load_message_row.result _ (c.in_ok-load_message_row.was ∙ ap (λ (x : Result Ident Refused). let r : Result (Result Ident Refused) Refused = Ok x in r) c.in-Ok.is) c.load_message_row.ensures.fills
+
+pub returns-in-Ok-clause-confirms : goal.returns-in-Ok-clause-confirms
+returns-in-Ok-clause-confirms g c = filled_never (g.P.Port.board c.args.port.now) (g.P.Port.board c.load_message_row.new.port) c.args.owners.now c.load_message_row.new.owners c.args.space c.args.thread c.args.vpn c.args.trust c.load_message_row.result _ (c.in_ok-load_message_row.was ∙ ap (λ (x : Result Ident Refused). let r : Result (Result Ident Refused) Refused = Ok x in r) c.in-Ok.is) c.load_message_row.ensures.vain
+
+pub returns-in-Err-AlreadyLoaded-clause-fills : goal.returns-in-Err-AlreadyLoaded-clause-fills
+returns-in-Err-AlreadyLoaded-clause-fills g c = confirmed_fill (g.P.Port.board c.args.port.now) (g.P.Port.board c.load_message_row.new.port) c.args.owners.now c.load_message_row.new.owners c.args.space c.args.thread c.args.vpn c.args.trust c.load_message_row.result _ (c.in_ok-load_message_row.was ∙ ap (λ (x : Result Ident Refused). let r : Result (Result Ident Refused) Refused = Ok x in r) c.in-Err-AlreadyLoaded.is) (g.P.Port.board c.confirm.new.port) c.confirm.new.owners c.confirm.result tt c.load_message_row.ensures.fills c.confirm.ensures.confirms
+
+pub returns-in-Err-AlreadyLoaded-clause-confirms : goal.returns-in-Err-AlreadyLoaded-clause-confirms
+returns-in-Err-AlreadyLoaded-clause-confirms g c = confirmed_behind (g.P.Port.board c.args.port.now) (g.P.Port.board c.load_message_row.new.port) c.args.owners.now c.load_message_row.new.owners c.args.space c.args.thread c.args.vpn c.args.trust c.load_message_row.result _ (c.in_ok-load_message_row.was ∙ ap (λ (x : Result Ident Refused). let r : Result (Result Ident Refused) Refused = Ok x in r) c.in-Err-AlreadyLoaded.is) (g.P.Port.board c.confirm.new.port) c.confirm.new.owners c.confirm.result c.load_message_row.ensures.vain c.confirm.ensures.confirms
+
+pub returns-in-Err-NotDeclared-clause-fills : goal.returns-in-Err-NotDeclared-clause-fills
+returns-in-Err-NotDeclared-clause-fills g c = confirmed_fill (g.P.Port.board c.args.port.now) (g.P.Port.board c.load_message_row.new.port) c.args.owners.now c.load_message_row.new.owners c.args.space c.args.thread c.args.vpn c.args.trust c.load_message_row.result _ (c.in_ok-load_message_row.was ∙ ap (λ (x : Result Ident Refused). let r : Result (Result Ident Refused) Refused = Ok x in r) c.in-Err-NotDeclared.is) (g.P.Port.board c.confirm-in-Err-NotDeclared.new.port) c.confirm-in-Err-NotDeclared.new.owners c.confirm-in-Err-NotDeclared.result tt c.load_message_row.ensures.fills c.confirm-in-Err-NotDeclared.ensures.confirms
+
+pub returns-in-Err-NotDeclared-clause-confirms : goal.returns-in-Err-NotDeclared-clause-confirms
+returns-in-Err-NotDeclared-clause-confirms g c = confirmed_behind (g.P.Port.board c.args.port.now) (g.P.Port.board c.load_message_row.new.port) c.args.owners.now c.load_message_row.new.owners c.args.space c.args.thread c.args.vpn c.args.trust c.load_message_row.result _ (c.in_ok-load_message_row.was ∙ ap (λ (x : Result Ident Refused). let r : Result (Result Ident Refused) Refused = Ok x in r) c.in-Err-NotDeclared.is) (g.P.Port.board c.confirm-in-Err-NotDeclared.new.port) c.confirm-in-Err-NotDeclared.new.owners c.confirm-in-Err-NotDeclared.result c.load_message_row.ensures.vain c.confirm-in-Err-NotDeclared.ensures.confirms
+
+pub returns-in-Err-Rights-clause-fills : goal.returns-in-Err-Rights-clause-fills
+returns-in-Err-Rights-clause-fills g c = confirmed_fill (g.P.Port.board c.args.port.now) (g.P.Port.board c.load_message_row.new.port) c.args.owners.now c.load_message_row.new.owners c.args.space c.args.thread c.args.vpn c.args.trust c.load_message_row.result _ (c.in_ok-load_message_row.was ∙ ap (λ (x : Result Ident Refused). let r : Result (Result Ident Refused) Refused = Ok x in r) c.in-Err-Rights.is) (g.P.Port.board c.confirm-in-Err-Rights.new.port) c.confirm-in-Err-Rights.new.owners c.confirm-in-Err-Rights.result tt c.load_message_row.ensures.fills c.confirm-in-Err-Rights.ensures.confirms
+
+pub returns-in-Err-Rights-clause-confirms : goal.returns-in-Err-Rights-clause-confirms
+returns-in-Err-Rights-clause-confirms g c = confirmed_behind (g.P.Port.board c.args.port.now) (g.P.Port.board c.load_message_row.new.port) c.args.owners.now c.load_message_row.new.owners c.args.space c.args.thread c.args.vpn c.args.trust c.load_message_row.result _ (c.in_ok-load_message_row.was ∙ ap (λ (x : Result Ident Refused). let r : Result (Result Ident Refused) Refused = Ok x in r) c.in-Err-Rights.is) (g.P.Port.board c.confirm-in-Err-Rights.new.port) c.confirm-in-Err-Rights.new.owners c.confirm-in-Err-Rights.result c.load_message_row.ensures.vain c.confirm-in-Err-Rights.ensures.confirms
+
+pub returns-in-Err-clause-fills : goal.returns-in-Err-clause-fills
+returns-in-Err-clause-fills g c = unfilled_so (g.P.Port.board c.args.port.now) (g.P.Port.board c.load_message_row.new.port) c.args.owners.now c.load_message_row.new.owners c.args.space c.args.thread c.args.vpn c.args.trust c.load_message_row.result c.in-Err.refused (c.in_ok-load_message_row.was ∙ ap (λ (x : Result Ident Refused). let r : Result (Result Ident Refused) Refused = Ok x in r) c.in-Err.is) c.load_message_row.ensures.fills
+
+pub returns-in-Err-clause-confirms : goal.returns-in-Err-clause-confirms
+returns-in-Err-clause-confirms g c = unconfirmed_so (g.P.Port.board c.args.port.now) (g.P.Port.board c.load_message_row.new.port) c.args.owners.now c.load_message_row.new.owners c.args.space c.args.thread c.args.vpn c.args.trust c.load_message_row.result c.in-Err.refused (c.in_ok-load_message_row.was ∙ ap (λ (x : Result Ident Refused). let r : Result (Result Ident Refused) Refused = Ok x in r) c.in-Err.is) (something_to_load c.in-Err.refused c.in-Err.not-AlreadyLoaded c.in-Err.not-NotDeclared c.in-Err.not-Rights) c.load_message_row.ensures.vain
