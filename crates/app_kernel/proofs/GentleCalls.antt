@@ -1,6 +1,6 @@
 -- Calls that gentle walks make, and walks to a thread whose space is known.
-use Rattle.std.proofs.Common.{◌≡◌, ◌⊎◌, List, Option, Some, None, slice_get, refl, sym, ap, ◌∙◌, subst}
-use Rattle.std.specs.Prelude.{Result, Ok, Err, IsSome, OnErr, OnOk, ℕ}
+use Rattle.std.proofs.Common.{◌≡◌, ℕ, List, Option, Some, None, is_some, slice_get, refl, sym, ap, ◌∙◌, subst}
+use Rattle.std.specs.Prelude.{Result, Ok, Err, IsSome, OnErr, OnOk}
 use Rattle.std.specs.Map.{lookup}
 use Rattle.cache_ident.specs.declared.idents.Ident.{Ident}
 use Rattle.cache_ident.specs.declared.names.KernelNo.{KernelNo}
@@ -87,7 +87,7 @@ pub known_same : (o p : Known) (thread : ThreadNo) → p.threads ≡ o.threads �
 known_same o p thread same known = subst (λ (ts : List (ThreadNo × SpaceNo)). IsSome (lookup (is_thread thread) ts)) (sym same) known
 
 pub known_learnt : {E : Type 0} (r : Result (Unit {0}) E) (o p : Known) (space : SpaceNo) (thread : ThreadNo) → OnOk r (IsSpaceLearnt thread space o p) → OnErr r (p ≡ o) → IsSome (space_of o thread) → IsSome (space_of p thread)
-known_learnt (Ok done) o p space thread ok err known = subst (λ (x : Option SpaceNo). IsSome x) (sym ok.its) tt
+known_learnt (Ok done) o p space thread ok err known = ap (λ (x : Option SpaceNo). is_some x) ok.its
 known_learnt (Err e) o p space thread ok err known = subst (λ (x : Known). IsSome (space_of x thread)) (sym err) known
 
 -- a walk to a thread of the space doesn't tell of another
