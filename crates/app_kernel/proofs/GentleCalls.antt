@@ -24,9 +24,9 @@ use Rattle.reach_laws.specs.Searching.{space_told}
 use Rattle.reach_laws.proofs.Owning.{space_known, spaces_known}
 use Rattle.reach_laws.proofs.Showing.{space_there}
 use Rattle.app_kernel.specs.declared.walk.Trust.{Trust}
-use Rattle.app_kernel.specs.declared.walk.Trust.TheVariants.{Nothing}
+use Rattle.app_kernel.specs.declared.walk.Trust.TheVariants.{Noted, Nothing}
 use Rattle.app_kernel.specs.Pages.{AreGentle, IsGentle}
-use Rattle.app_kernel.specs.Walks.{AreBothGot, AreWalked, BothReach, IsTurnedAway, IsWalked}
+use Rattle.app_kernel.specs.Walks.{AreBothGot, AreWalked, BothReach, IsTurnedAway, IsWalked, SpaceTries}
 use Rattle.app_kernel.proofs.Changes.{told_both, told_here, told_once, told_twice}
 use Rattle.app_kernel.proofs.FindLaws.{IsFirstTry}
 use Rattle.app_kernel.proofs.ReachLaws.{answer_so, KernelCall, SpaceCall, ThreadCall}
@@ -104,6 +104,11 @@ mine_told a b o p space thread trust r w next both nothing is told = told_once a
     let k = space_there x owned.sound space thread of in
     let away : IsTurnedAway p space space w = subst (AreBothGot y p space space thread) is (got owned space k.0 of k.1 nothing) in
     told ∙ ap (space_told p) (away.mine refl)) both
+
+-- by what is noted, nothing is said of a space that is tried
+pub noted_tries : (a b : Option Recorded) (o p : Known) (space : SpaceNo) (thread : ThreadNo) (trust : Trust) (r : Result (Unit {0}) Refused) (result : Result (Option SpaceNo) Refused) → trust ≡ Noted → OnTold a b (BothReach o p space thread trust r) → OnTold a b (SpaceTries o p space thread trust result)
+noted_tries a b o p space thread trust r result noted both = told_once a b (BothReach o p space thread trust r) (SpaceTries o p space thread trust result)
+    (λ x y _ owned its kernel is of nothing. absurd (let clash : Noted ≡ Nothing = sym noted ∙ nothing in cc)) both
 
 -- ---- a thread that is looked for
 
