@@ -1,6 +1,6 @@
 -- Calls that gentle walks make, and walks to a thread whose space is known.
-use Rattle.std.proofs.Common.{◌≡◌, ◌⊎◌, List, Option, Some, None, slice_get, refl, sym, ap, ◌∙◌, subst}
-use Rattle.std.specs.Prelude.{Result, Ok, Err, IsSome, OnErr, OnOk, ℕ}
+use Rattle.std.proofs.Common.{◌≡◌, ℕ, List, Option, Some, None, is_some, slice_get, refl, sym, ap, ◌∙◌, subst}
+use Rattle.std.specs.Prelude.{Result, Ok, Err, IsSome, OnErr, OnOk}
 use Rattle.std.specs.Map.{lookup}
 use Rattle.cache_ident.specs.declared.idents.Ident.{Ident}
 use Rattle.cache_ident.specs.declared.names.KernelNo.{KernelNo}
@@ -24,9 +24,9 @@ use Rattle.reach_laws.specs.Searching.{space_told}
 use Rattle.reach_laws.proofs.Owning.{space_known, spaces_known}
 use Rattle.reach_laws.proofs.Showing.{space_there}
 use Rattle.app_kernel.specs.declared.walk.Trust.{Trust}
-use Rattle.app_kernel.specs.declared.walk.Trust.TheVariants.{Nothing}
+use Rattle.app_kernel.specs.declared.walk.Trust.TheVariants.{Noted, Nothing}
 use Rattle.app_kernel.specs.Pages.{AreGentle, IsGentle}
-use Rattle.app_kernel.specs.Walks.{AreBothGot, AreWalked, BothReach, IsTurnedAway, IsWalked}
+use Rattle.app_kernel.specs.Walks.{AreBothGot, AreWalked, BothReach, IsTurnedAway, IsWalked, SpaceTries}
 use Rattle.app_kernel.proofs.Changes.{told_both, told_here, told_once, told_twice}
 use Rattle.app_kernel.proofs.FindLaws.{IsFirstTry}
 use Rattle.app_kernel.proofs.ReachLaws.{answer_so, KernelCall, SpaceCall, ThreadCall}
@@ -55,8 +55,8 @@ module _ (a b : Option Recorded) (o p : Known) (answer : Result Ident Refused) (
           marks = made.call.on.marks;
           keeps = λ owned.
               keeps_kernel space (refusal_of_load_kernel (contents_of x) first_ident kernel) x y owned.sound answer kernel
-                  (λ its is. same its (ap (λ (ks : List KernelNo). slice_get ks space.0) (spaces_known x o owned) ∙ is))
-                  (answer_so (refusal_of_load_kernel (contents_of x) first_ident kernel) (name.Kernel kernel) x y answer made);
+              (λ its is. same its (ap (λ (ks : List KernelNo). slice_get ks space.0) (spaces_known x o owned) ∙ is))
+              (answer_so (refusal_of_load_kernel (contents_of x) first_ident kernel) (name.Kernel kernel) x y answer made);
         }) call walked.told;
   }
 
@@ -87,7 +87,7 @@ pub known_same : (o p : Known) (thread : ThreadNo) → p.threads ≡ o.threads �
 known_same o p thread same known = subst (λ (ts : List (ThreadNo × SpaceNo)). IsSome (lookup (is_thread thread) ts)) (sym same) known
 
 pub known_learnt : {E : Type 0} (r : Result (Unit {0}) E) (o p : Known) (space : SpaceNo) (thread : ThreadNo) → OnOk r (IsSpaceLearnt thread space o p) → OnErr r (p ≡ o) → IsSome (space_of o thread) → IsSome (space_of p thread)
-known_learnt (Ok done) o p space thread ok err known = subst (λ (x : Option SpaceNo). IsSome x) (sym ok.its) tt
+known_learnt (Ok done) o p space thread ok err known = ap (λ (x : Option SpaceNo). is_some x) ok.its
 known_learnt (Err e) o p space thread ok err known = subst (λ (x : Known). IsSome (space_of x thread)) (sym err) known
 
 -- a walk to a thread of the space doesn't tell of another
@@ -104,6 +104,11 @@ mine_told a b o p space thread trust r w next both nothing is told = told_once a
     let k = space_there x owned.sound space thread of in
     let away : IsTurnedAway p space space w = subst (AreBothGot y p space space thread) is (got owned space k.0 of k.1 nothing) in
     told ∙ ap (space_told p) (away.mine refl)) both
+
+-- by what is noted, nothing is said of a space that is tried
+pub noted_tries : (a b : Option Recorded) (o p : Known) (space : SpaceNo) (thread : ThreadNo) (trust : Trust) (r : Result (Unit {0}) Refused) (result : Result (Option SpaceNo) Refused) → trust ≡ Noted → OnTold a b (BothReach o p space thread trust r) → OnTold a b (SpaceTries o p space thread trust result)
+noted_tries a b o p space thread trust r result noted both = told_once a b (BothReach o p space thread trust r) (SpaceTries o p space thread trust result)
+    (λ x y _ owned its kernel is of nothing. absurd (let clash : Noted ≡ Nothing = sym noted ∙ nothing in cc)) both
 
 -- ---- a thread that is looked for
 

@@ -1,10 +1,11 @@
 //! Reaching a thread: its kernel, its space and the thread itself are loaded, and their identifiers noted.
 
-ghost use Rattle.std.specs.Prelude.{◌≡◌, ◌⊎◌, ℕ, None, Some, Ok, Err, IfErr, IfOk, IsSome, OnErr, OnOk, slice_get};
+ghost use Rattle.std.specs.Prelude.{◌≡◌, ◌≢◌, ◌⊎◌, ℕ, None, Some, Ok, Err, IfErr, IfOk, IsSome, OnErr, OnOk, slice_get};
 ghost use Rattle.cache_ident.specs.declared.idents.Ident.{Ident};
 ghost use Rattle.cache_ident.specs.declared.names.KernelNo.{KernelNo};
 ghost use Rattle.cache_ident.specs.declared.names.Name.{Name};
 ghost use Rattle.cache_ident.specs.declared.names.SpaceNo.{SpaceNo};
+ghost use Rattle.cache_ident.specs.declared.names.ThreadNo.{ThreadNo};
 ghost use Rattle.board_core.specs.board_ops.specs.declared.refusals.Refused.TheVariants.{NoMemory};
 ghost use Rattle.board_core.specs.cached_machine.specs.Cached.{state_of};
 ghost use Rattle.board_core.specs.Core.{Recorded};
@@ -63,6 +64,7 @@ fn take(owners: &mut Owners, name: Name, answer: Result<Ident, Refused>) -> Resu
     ensures noted { IfOk result (λ ident. IsNoted name ident owners.old owners.new) }
     ensures taken { IfOk result (λ ident. loaded_as answer ≡ Ok ident) }
     ensures same { OnErr result (owners.new ≡ owners.old) }
+    ensures others { (other : Name) → other ≢ name → ident_of owners.new other ≡ ident_of owners.old other }
     ensures refused { IfErr result (λ why. (why ≡ NoMemory) ⊎ (answer ≡ Err why)) }
     ensures failed { IfErr result (λ why. (why ≡ NoMemory) ⊎ (loaded_as answer ≡ Err why)) }
 {
@@ -83,6 +85,7 @@ pub fn reach_kernel<P: Port>(
     ensures asks { HasRisenBy 0 (P.heard port.old).asks (P.heard port.new).asks }
     ensures refused { IfErr result (IsReason 1 (P.heard port.old) (P.heard port.new)) }
     ensures threads { owners.new.threads ≡ owners.old.threads }
+    ensures idents { (other : ThreadNo) → ident_of owners.new (Name.Thread other) ≡ ident_of owners.old (Name.Thread other) }
     ensures walked { AreWalked (P.board port.old) (P.board port.new) owners.old owners.new }
     ensures gentle { (space : SpaceNo) → ((its : KernelNo) → slice_get owners.old.spaces space.0 ≡ Some its → kernel ≡ its) → AreGentle space (P.board port.old) (P.board port.new) owners.old owners.new }
     ensures had { trust ≡ Trust.Noted → (ident : Ident) → kernel_ident owners.old kernel ≡ Some ident → IsHad (P.board port.old) (P.board port.new) owners.old owners.new ident result }
@@ -110,6 +113,7 @@ pub fn reach_kernel_of<P: Port>(
     ensures asks { HasRisenBy 0 (P.heard port.old).asks (P.heard port.new).asks }
     ensures refused { IfErr result (IsReason 1 (P.heard port.old) (P.heard port.new)) }
     ensures threads { owners.new.threads ≡ owners.old.threads }
+    ensures idents { (other : ThreadNo) → ident_of owners.new (Name.Thread other) ≡ ident_of owners.old (Name.Thread other) }
     ensures walked { AreWalked (P.board port.old) (P.board port.new) owners.old owners.new }
     ensures gentle { AreGentle space (P.board port.old) (P.board port.new) owners.old owners.new }
     ensures had { trust ≡ Trust.Noted → (its : KernelNo) (ident : Ident) → slice_get owners.old.spaces space.0 ≡ Some its → kernel_ident owners.old its ≡ Some ident → IsHad (P.board port.old) (P.board port.new) owners.old owners.new ident result }

@@ -1,3 +1,4 @@
+use Rattle.cache_ident.specs.declared.names.Name.TheVariants as name
 use Rattle.app_kernel.proofs.ReachLaws.{first_reached, kernel_reached}
 use Rattle.app_kernel.proofs.WalkLaws.{kernel_taken}
 use Rattle.app_kernel.proofs.GentleCalls.{gentle_here, kernel_gentle}
@@ -26,3 +27,6 @@ returns-clause-gentle g c = λ space same.
     kernel_gentle (g.P.Port.board c.args.port.now) (g.P.Port.board c.load_kernel-answer.new.self) c.args.owners.now c.take.new.owners c.load_kernel-answer.result space
     (kernel_taken (g.P.Port.board c.args.port.now) (g.P.Port.board c.load_kernel-answer.new.self) c.load_kernel-answer.result c.args.owners.now c.take.new.owners c.take.result _ c.args.kernel c.load_kernel-answer.ensures.call c.take.ensures.noted c.take.ensures.taken c.take.ensures.same)
     c.args.kernel same c.load_kernel-answer.ensures.call
+
+pub returns-clause-idents : goal.returns-clause-idents
+returns-clause-idents g c = λ other. c.take.ensures.others (name.Thread other) (λ same. absurd (cc))
