@@ -176,7 +176,7 @@ module _ (a m n : Option Recorded) (o p q : Known) (space : SpaceNo) (thread : T
     unconfirmed_call w is =
         told_twice a m b IsAsked (IsCalled w) (Confirms space thread trust o q (Err w))
         (λ x y u one two owned faulted. record {
-          any = gentle_further space x two.mid u o q q (gentle_further space x y two.mid o p q one.gentle two.gentle) (gentle_refused space (refusal_of_fault two.mid caller ident) (λ (_ : Unit {0}). HasEnded ident 0 two.mid u) two.mid u w q two.made.call);
+          any = gentle_further space x two.mid u o q q (gentle_further space x y two.mid o p q one.gentle two.gentle) (gentle_refused space (refusal_of_fault two.mid caller ident) (λ _. HasEnded ident 0 two.mid u) two.mid u w q two.made.call);
           reached = λ nothing reached.
               let mine = one.gentle.walked.owned owned in
               let got = thread_got x y one owned faulted nothing reached in
@@ -261,9 +261,9 @@ module _ (a m : Option Recorded) (o p : Known) (space : SpaceNo) (thread : Threa
     pub confirmed_behind : (b : Option Recorded) (q : Known) (result : Result Served Refused) → OnTold a m (RowIsVain space vpn trust o p r) → OnTold m b (Confirms space thread trust p q result) → OnTold a b (ConfirmsIn space thread vpn trust o q result)
     confirmed_behind b q result vain confirms_so =
         told_twice a m b (RowIsVain space vpn trust o p (Ok (Err w))) (Confirms space thread trust p q result) (ConfirmsIn space thread vpn trust o q result)
-        (λ x y z row then unfillable owned faulted.
+        (λ x y z row later unfillable owned faulted.
         let first = row owned unfillable in
-        let second = then (first.gentle.walked.owned owned) (faulted_gentle x y o p space thread first.gentle owned faulted) in
+        let second = later (first.gentle.walked.owned owned) (faulted_gentle x y o p space thread first.gentle owned faulted) in
         record {
           any = confirmed_since x y z o p q space thread result owned first.gentle second.any;
           reached = λ nothing reached. second.reached nothing (first.reached nothing reached).0;
@@ -297,8 +297,8 @@ module _ (a m : Option Recorded) (o p : Known) (space : SpaceNo) (thread : Threa
 
 -- the space that is believed is the one that was
 believed_same : (a b : Recorded) (o p : Known) (thread : ThreadNo) (space its : SpaceNo) → IsOwned a o → IsOwned b p → state_of b.machine ≡ state_of a.machine → space_of o thread ≡ Some space → space_of p thread ≡ Some its → its ≡ space
-believed_same a b o p thread space its owned then same believed learnt =
-    same_Some its space (sym (space_known b p then thread its learnt) ∙ ap (λ (s : FlatState). option_map (λ (t : FlatThread). t.space) (slice_get s.threads thread.0)) same ∙ space_known a o owned thread space believed)
+believed_same a b o p thread space its owned later same believed learnt =
+    same_Some its space (sym (space_known b p later thread its learnt) ∙ ap (λ (s : FlatState). option_map (λ (t : FlatThread). t.space) (slice_get s.threads thread.0)) same ∙ space_known a o owned thread space believed)
 
 module _ (a m : Option Recorded) (o p : Known) (thread : ThreadNo) (space : SpaceNo) (vpn : Vpn) (trust : Trust) (found : Result SpaceNo Refused) (gentle_so : space_of o thread ≡ Some space → AreGentle space a m o p) (finds : OnTold a m (Finds o p thread trust found)) (walked : AreWalked a m o p) where
   -- the thread was looked for
@@ -355,11 +355,11 @@ module _ (a m : Option Recorded) (o p : Known) (thread : ThreadNo) (space : Spac
     pub found_filled : OnTold m b (Fills its vpn trust p r) → OnTold a b (WalkFills space thread vpn trust o r)
     found_filled fills =
         told_twice a m b IsLooked (Fills its vpn trust p r) (WalkFills space thread vpn trust o r)
-        (λ x y z one then known owned fillable.
+        (λ x y z one later known owned fillable.
         let gentle = one.gentle known in
         let same : its ≡ space = its_space x y one known owned in
         let now : IsFillable y its vpn = subst (λ (s : SpaceNo). IsFillable y s vpn) (sym same) (fillable_gentle space x y o p space vpn gentle owned fillable) in
-        let so = then (gentle.walked.owned owned) now in
+        let so = later (gentle.walked.owned owned) now in
         record {
           any = subst (λ (s : SpaceNo). IsFilledOr z s vpn r) same so.any;
           wanting = λ nothing. so.reached nothing (space_reached x y one known owned nothing);
@@ -368,10 +368,10 @@ module _ (a m : Option Recorded) (o p : Known) (thread : ThreadNo) (space : Spac
     pub found_confirmed : (q : Known) → OnTold m b (ConfirmsIn its thread vpn trust p q r) → OnTold a b (WalkConfirms space thread vpn trust o q r)
     found_confirmed q confirms_so =
         told_twice a m b IsLooked (ConfirmsIn its thread vpn trust p q r) (WalkConfirms space thread vpn trust o q r)
-        (λ x y z one then known owned faulted unfillable.
+        (λ x y z one later known owned faulted unfillable.
         let gentle = one.gentle known in
         let same : its ≡ space = its_space x y one known owned in
-        let so = then (subst (λ (s : SpaceNo). IsUnfillable y s vpn) (sym same) (unfillable_gentle x y o p space vpn gentle owned unfillable)) (gentle.walked.owned owned) (subst (λ (s : SpaceNo). IsFaulted y s thread) (sym same) (faulted_gentle x y o p space thread gentle owned faulted)) in
+        let so = later (subst (λ (s : SpaceNo). IsUnfillable y s vpn) (sym same) (unfillable_gentle x y o p space vpn gentle owned unfillable)) (gentle.walked.owned owned) (subst (λ (s : SpaceNo). IsFaulted y s thread) (sym same) (faulted_gentle x y o p space thread gentle owned faulted)) in
         record {
           any = confirmed_since x y z o p q space thread r owned gentle (subst (λ (s : SpaceNo). IsConfirmedOr s thread p q y z r) same so.any);
           wanting = λ nothing. so.reached nothing (space_reached x y one known owned nothing);
@@ -419,9 +419,9 @@ module _ (a m : Option Recorded) (o p : Known) (thread : ThreadNo) (space : Spac
     pub tried_again : OnTold a m (WalkFills space thread vpn trust o r) → OnTold m b (WalkFills space thread vpn Nothing p r2) → OnTold a b (TryFills space thread vpn o r2)
     tried_again fills then_fills =
         told_twice a m b (λ x y. IsWalked x y o p × WalkFills space thread vpn trust o (Err w) x y) (WalkFills space thread vpn Nothing p r2) (TryFills space thread vpn o r2)
-        (λ x y z one then known owned fillable.
+        (λ x y z one later known owned fillable.
         let still : IsFillable y space vpn = elim (one.1 known owned fillable).any [ | inl wants ↦ absurd (memory wants) | inr is ↦ is ] in
-        let so = then (known_still x y one.0 owned known) (one.0.owned owned) still in
+        let so = later (known_still x y one.0 owned known) (one.0.owned owned) still in
         filled_unless z space vpn r2 so.any (so.wanting refl))
         (told_both a m (λ x y. IsWalked x y o p) (WalkFills space thread vpn trust o (Err w)) (λ x y. IsWalked x y o p × WalkFills space thread vpn trust o (Err w) x y) (λ x y one two. (one, two)) walked.told (subst (λ (x : Result Served Refused). OnTold a m (WalkFills space thread vpn trust o x)) is fills))
         then_fills
@@ -429,9 +429,9 @@ module _ (a m : Option Recorded) (o p : Known) (thread : ThreadNo) (space : Spac
     pub tried_again_too : OnTold a m (WalkConfirms space thread vpn trust o p r) → OnTold m b (WalkConfirms space thread vpn Nothing p q r2) → OnTold a b (TryConfirms space thread vpn o r2)
     tried_again_too confirms_so then_confirms =
         told_twice a m b (λ x y. IsWalked x y o p × WalkConfirms space thread vpn trust o p (Err w) x y) (WalkConfirms space thread vpn Nothing p q r2) (TryConfirms space thread vpn o r2)
-        (λ x y z one then known owned faulted unfillable.
+        (λ x y z one later known owned faulted unfillable.
         let gentle = (one.1 known owned faulted unfillable).any in
-        let so = then (known_still x y one.0 owned known) (one.0.owned owned) (faulted_gentle x y o p space thread gentle owned faulted) (unfillable_gentle x y o p space vpn gentle owned unfillable) in
+        let so = later (known_still x y one.0 owned known) (one.0.owned owned) (faulted_gentle x y o p space thread gentle owned faulted) (unfillable_gentle x y o p space vpn gentle owned unfillable) in
         confirmed_unless x z o q space thread r2 (confirmed_since x y z o p q space thread r2 owned gentle so.any) (so.wanting refl))
         (told_both a m (λ x y. IsWalked x y o p) (WalkConfirms space thread vpn trust o p (Err w)) (λ x y. IsWalked x y o p × WalkConfirms space thread vpn trust o p (Err w) x y) (λ x y one two. (one, two)) walked.told (subst (λ (x : Result Served Refused). OnTold a m (WalkConfirms space thread vpn trust o p x)) is confirms_so))
         then_confirms

@@ -135,14 +135,14 @@ module _ (a m b : Option Recorded) (o p q s : Known) (space : SpaceNo) (vpn : Vp
       told_twice a m b (λ x y. IsWalked x y o q × AskFills space vpn trust o p first x y) (AskFills space vpn trust q s result) (RowFills space vpn trust o s result)
       (λ x y z one again owned fillable.
       let asked = one.1 owned fillable in
-      let then = again (one.0.owned owned) asked.any.0 in
+      let later = again (one.0.owned owned) asked.any.0 in
       record {
-        any = then.any;
+        any = later.any;
         reached = λ nothing reached.
             let told = asked.other nothing reached in
             elim told.1 [
               | inl wants ↦ absurd (cc)
-              | inr other ↦ then.believed nothing (reached_now y p q space vpn given declared learnt told.0) (believed_now y p q space vpn given declared learnt other)
+              | inr other ↦ later.believed nothing (reached_now y p q space vpn given declared learnt told.0) (believed_now y p q space vpn given declared learnt other)
             ];
       })
       (told_both a m (λ x y. IsWalked x y o q) (AskFills space vpn trust o p first) (λ x y. IsWalked x y o q × AskFills space vpn trust o p first x y) (λ x y one two. (one, two)) walked.told (subst (λ (x : Asked). OnTold a m (AskFills space vpn trust o p x)) is asks))
@@ -154,10 +154,10 @@ module _ (a m b : Option Recorded) (o p q s : Known) (space : SpaceNo) (vpn : Vp
       (λ x y z one again owned unfillable.
       let asked = one.1 owned unfillable in
       let gentle = gentle_as space x y o p q asked.gentle one.0 in
-      let then = again (one.0.owned owned) (unfillable_gentle x y o q space vpn gentle owned unfillable) in
+      let later = again (one.0.owned owned) (unfillable_gentle x y o q space vpn gentle owned unfillable) in
       record {
-        gentle = gentle_further space x y z o q s gentle then.gentle;
-        any = then.any;
+        gentle = gentle_further space x y z o q s gentle later.gentle;
+        any = later.any;
         reached = λ nothing reached.
             let told = asked.other nothing reached in
             let at = reached_now y p q space vpn given declared learnt told.0 in
@@ -165,7 +165,7 @@ module _ (a m b : Option Recorded) (o p q s : Known) (space : SpaceNo) (vpn : Vp
               | inl wants ↦ absurd (cc)
               | inr some ↦ elim some [
                 | inl nothing_told ↦ absurd nothing_told
-                | inr other ↦ then.believed nothing at (believed_now y p q space vpn given declared learnt other)
+                | inr other ↦ later.believed nothing at (believed_now y p q space vpn given declared learnt other)
               ]
             ];
       })
