@@ -278,7 +278,7 @@ module _ (a m : Option Recorded) (o p : Known) (space : SpaceNo) (thread : Threa
         let one = row owned fillable in
         record {
           any = inr one.any.0;
-          reached = λ nothing reached. elim (one.reached nothing reached).1 [ | inl wants ↦ wants | inr never ↦ absurd never ];
+          reached = λ nothing reached. elim (one.reached nothing reached).1 [ inl wants ↦ wants | inr never ↦ absurd never ];
         })
         (subst (λ (x : Asked). OnTold a m (RowFills space vpn trust o p x)) is fills)
 
@@ -289,7 +289,7 @@ module _ (a m : Option Recorded) (o p : Known) (space : SpaceNo) (thread : Threa
         let one = row owned unfillable in
         record {
           any = one.gentle;
-          reached = λ nothing reached. elim (one.reached nothing reached).1 [ | inl wants ↦ wants | inr told ↦ absurd (something_else told) ];
+          reached = λ nothing reached. elim (one.reached nothing reached).1 [ inl wants ↦ wants | inr told ↦ absurd (something_else told) ];
         })
         (subst (λ (x : Asked). OnTold a m (RowIsVain space vpn trust o p x)) is vain)
 
@@ -420,7 +420,7 @@ module _ (a m : Option Recorded) (o p : Known) (thread : ThreadNo) (space : Spac
     tried_again fills then_fills =
         told_twice a m b (λ x y. IsWalked x y o p × WalkFills space thread vpn trust o (Err w) x y) (WalkFills space thread vpn Nothing p r2) (TryFills space thread vpn o r2)
         (λ x y z one later known owned fillable.
-        let still : IsFillable y space vpn = elim (one.1 known owned fillable).any [ | inl wants ↦ absurd (memory wants) | inr is ↦ is ] in
+        let still : IsFillable y space vpn = elim (one.1 known owned fillable).any [ inl wants ↦ absurd (memory wants) | inr is ↦ is ] in
         let so = later (known_still x y one.0 owned known) (one.0.owned owned) still in
         filled_unless z space vpn r2 so.any (so.wanting refl))
         (told_both a m (λ x y. IsWalked x y o p) (WalkFills space thread vpn trust o (Err w)) (λ x y. IsWalked x y o p × WalkFills space thread vpn trust o (Err w) x y) (λ x y one two. (one, two)) walked.told (subst (λ (x : Result Served Refused). OnTold a m (WalkFills space thread vpn trust o x)) is fills))

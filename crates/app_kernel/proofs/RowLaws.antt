@@ -38,17 +38,19 @@ IsNoOther (Ok ident) = Unit {0}
 IsNoOther (Err (why.WrongParent given declared)) = ⊥
 IsNoOther (Err w) = Unit {0}
 
-pub no_other : (r : Result Ident Refused) → ((given declared : Option Name) → r ≡ Err (why.WrongParent given declared) → ⊥) → IsNoOther r
-no_other (Ok ident) apart = tt
-no_other (Err (why.WrongParent given declared)) apart = apart given declared refl
-no_other (Err w) apart = tt
+pub no_other : (w : Refused) → ((given declared : Option Name) → w ≡ why.WrongParent given declared → ⊥) → IsNoOther (Err w)
+no_other (why.WrongParent given declared) apart = apart given declared refl
+no_other w apart = tt
+
+pub none_told : (r : Result Ident Refused) (ident : Ident) → r ≡ Ok ident → IsNoOther r
+none_told r ident is = subst IsNoOther (sym is) tt
 
 none_other : {P : Type 0} (b : Recorded) (space : SpaceNo) (vpn : Vpn) (w : Refused) → IsNoOther (Err w) → IsAnotherTold b space vpn w → P
 none_other b space vpn w none other = absurd (subst (λ (x : Refused). IsNoOther (Err x)) other.is none)
 
 answered_fill : (b : Recorded) (p : Known) (space : SpaceNo) (vpn : Vpn) (r : Result Ident Refused) → IsNoOther r → IsAnswered (IsAnotherTold b space vpn) b p space (Ok r) → IsAnswered (λ w. ⊥) b p space (Ok r)
 answered_fill b p space vpn (Ok ident) none is = is
-answered_fill b p space vpn (Err w) none is = (is.0, elim is.1 [ | inl wants ↦ inl wants | inr other ↦ none_other b space vpn w none other ])
+answered_fill b p space vpn (Err w) none is = (is.0, elim is.1 [ inl wants ↦ inl wants | inr other ↦ none_other b space vpn w none other ])
 
 answered_vain : (b : Recorded) (p : Known) (space : SpaceNo) (vpn : Vpn) (r : Result Ident Refused) → IsNoOther r → IsAnswered (λ w. IsNothingToLoad w ⊎ IsAnotherTold b space vpn w) b p space (Ok r) → IsAnswered IsNothingToLoad b p space (Ok r)
 answered_vain b p space vpn (Ok ident) none is = is
@@ -56,7 +58,7 @@ answered_vain b p space vpn (Err w) none is = (
   is.0,
   elim is.1 [
     | inl wants ↦ inl wants
-    | inr some ↦ elim some [ | inl nothing ↦ inr nothing | inr other ↦ none_other b space vpn w none other ]
+    | inr some ↦ elim some [ inl nothing ↦ inr nothing | inr other ↦ none_other b space vpn w none other ]
   ],
 )
 

@@ -139,11 +139,14 @@ fn load_row<P: Port>(
 {
     let answer = ask_row(port, owners, space, vpn, trust)?;
     match answer {
-        Err(Refused::WrongParent { .. }) => {
-            learn_told(owners, space, vpn, answer)?;
-            ask_row(port, owners, space, vpn, trust)
-        }
-        _ => Ok(answer),
+        Ok(_) => Ok(answer),
+        Err(refused) => match refused {
+            Refused::WrongParent { .. } => {
+                learn_told(owners, space, vpn, answer)?;
+                ask_row(port, owners, space, vpn, trust)
+            }
+            _ => Ok(answer),
+        },
     }
 }
 

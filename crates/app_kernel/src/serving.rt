@@ -125,10 +125,12 @@ fn fill<P: Port>(
 {
     match load_message_row(port, owners, space, vpn, trust)? {
         Ok(_) => Ok(Served::Resumed),
-        Err(Refused::AlreadyLoaded { .. }) => confirm(port, owners, space, thread, trust),
-        Err(Refused::NotDeclared { .. }) => confirm(port, owners, space, thread, trust),
-        Err(Refused::Rights { .. }) => confirm(port, owners, space, thread, trust),
-        Err(refused) => Err(refused),
+        Err(refused) => match refused {
+            Refused::AlreadyLoaded { .. } => confirm(port, owners, space, thread, trust),
+            Refused::NotDeclared { .. } => confirm(port, owners, space, thread, trust),
+            Refused::Rights { .. } => confirm(port, owners, space, thread, trust),
+            _ => Err(refused),
+        },
     }
 }
 
@@ -182,8 +184,10 @@ fn attempt<P: Port>(
 {
     match walk(port, owners, thread, notice, Trust::Noted) {
         Ok(served) => Ok(served),
-        Err(Refused::NoMemory) => Err(Refused::NoMemory),
-        Err(_) => walk(port, owners, thread, notice, Trust::Nothing),
+        Err(refused) => match refused {
+            Refused::NoMemory => Err(Refused::NoMemory),
+            _ => walk(port, owners, thread, notice, Trust::Nothing),
+        },
     }
 }
 
@@ -207,8 +211,10 @@ pub fn serve<P: Port>(port: &mut P, owners: &mut Owners, thread: ThreadNo, notic
     for _ in 0..3u32 {
         match attempt(port, owners, thread, notice) {
             Ok(served) => return served,
-            Err(Refused::NoMemory) => return Served::Again(Refused::NoMemory),
-            Err(refused) => last = refused,
+            Err(refused) => match refused {
+                Refused::NoMemory => return Served::Again(Refused::NoMemory),
+                _ => last = refused,
+            },
         }
     }
     if has_ended(port, thread) {
