@@ -113,15 +113,13 @@ pub record IsAtRow (space : SpaceNo) (trust : Trust) (o s : Known) (caller paren
 
 module _ (a m : Option Recorded) (o p : Known) (space : SpaceNo) (trust : Trust) (named : Option ThreadNo) (receiver : Option Ident) (r : Result (Option Ident) Refused) (r_is : r ≡ Ok receiver) (gentle : AreGentle space a m o p) (gets : OnTold a m (GetsReceiver space trust o p named r)) where
   record IsBegun (old new : Recorded) : Type 0 where
-    here : m ≡ Some new
     gentle : IsGentle space old new o p
     got : IsOwned old o → IsReached old o space → trust ≡ Nothing → IsReached new p space × IsGiven (contents_of new) receiver named
 
   begun : OnTold a m IsBegun
   begun =
-      let at = told_from a m (λ x y. IsGentle space x y o p) (λ x y. (m ≡ Some y) × IsGentle space x y o p) (λ x y _ is_m one. (is_m, one)) gentle.told in
-      told_both a m (λ x y. (m ≡ Some y) × IsGentle space x y o p) (GetsReceiver space trust o p named r) IsBegun
-      (λ x y one got. record { here = one.0; gentle = one.1; got = λ owned reached nothing. subst (IsReceiverGot y p space named) r_is (got owned reached nothing) }) at gets
+      told_both a m (λ x y. IsGentle space x y o p) (GetsReceiver space trust o p named r) IsBegun
+      (λ x y one got. record { gentle = one; got = λ owned reached nothing. subst (IsReceiverGot y p space named) r_is (got owned reached nothing) }) gentle.told gets
 
   module _ (n : Option Recorded) (q : Known) (up : Result Ident Refused) (had_kernel : (its : KernelNo) (ident : Ident) → slice_get p.spaces space.0 ≡ Some its → kernel_ident p its ≡ Some ident → IsHad m n p q ident up) where
     -- its kernel isn't
