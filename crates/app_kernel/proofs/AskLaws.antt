@@ -42,7 +42,7 @@ use Rattle.app_kernel.proofs.GentleLaws.{fillable_gentle, gentle_further, gentle
 use Rattle.app_kernel.proofs.ReachLaws.{at_hand}
 use Rattle.app_kernel.proofs.WalkLaws.{told_as, RowCall, RowDone}
 
-abbrev Asked : Type 0
+abbrev pub Asked : Type 0
 Asked = Result (Result Ident Refused) Refused
 
 -- ---- the receiver

@@ -43,6 +43,7 @@ use Rattle.app_kernel.specs.declared.walk.Trust.{Trust}
 use Rattle.app_kernel.specs.declared.walk.Trust.TheVariants.{Nothing}
 use Rattle.app_kernel.specs.Pages.{AreGentle, Confirms, Fills, IsConfirmed, IsConfirmedOr, IsConfirmedUnless, IsFaulted, IsFaultTaken, IsFilledBy, IsFilledOr, IsFilledUnless, IsGentle, IsWanting, RowFills, RowIsVain, TryConfirms, TryFills, WalkConfirms, WalkFills}
 use Rattle.app_kernel.specs.Walks.{AreWalked, Finds, IsFound, IsHad, IsThreadGot, IsThreadReached, IsWalked, ThreadReaches}
+use Rattle.app_kernel.proofs.AskLaws.{Asked}
 use Rattle.app_kernel.proofs.Changes.{told_both, told_from, told_once, told_twice}
 use Rattle.app_kernel.proofs.GentleLaws.{faulted_gentle, fillable_gentle, gentle_further, gentle_on, gentle_refused, unfillable_gentle}
 use Rattle.app_kernel.proofs.ServeLaws.{FaultCall}
@@ -200,9 +201,6 @@ module _ (a m n : Option Recorded) (o p q : Known) (space : SpaceNo) (thread : T
         (told_from m n (λ y z. IsGentle space y z p q) (λ y z. IsGentle space y z p q × (n ≡ Some z)) (λ y z is_m is_n gentle. (gentle, is_n)) to_kernel.told) call)
 
 -- ---- the row of the page is asked for
-
-abbrev Asked : Type 0
-Asked = Result (Result Ident Refused) Refused
 
 abbrev pub ConfirmsIn : SpaceNo → ThreadNo → Vpn → Trust → Known → Known → Result Served Refused → Recorded → Recorded → Type 0
 ConfirmsIn space thread vpn trust o p r old new = IsUnfillable old space vpn → Confirms space thread trust o p r old new

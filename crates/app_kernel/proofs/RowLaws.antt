@@ -24,11 +24,9 @@ use Rattle.reach_laws.proofs.Owning.{reached_learnt}
 use Rattle.app_kernel.specs.declared.walk.Trust.{Trust}
 use Rattle.app_kernel.specs.Pages.{AskFills, AskIsVain, IsAnotherTold, IsAnswered, IsBelieved, IsFilledIn, IsFilling, IsNoneMissing, IsPassedOn, IsRefusedSo, IsVain, RowFills, RowIsVain}
 use Rattle.app_kernel.specs.Walks.{AreWalked, IsWalked}
+use Rattle.app_kernel.proofs.AskLaws.{Asked}
 use Rattle.app_kernel.proofs.Changes.{told_both, told_from, told_once, told_twice}
 use Rattle.app_kernel.proofs.GentleLaws.{gentle_as, gentle_further, unfillable_gentle}
-
-abbrev Asked : Type 0
-Asked = Result (Result Ident Refused) Refused
 
 -- ---- an answer of another kind than that another receiver is told
 

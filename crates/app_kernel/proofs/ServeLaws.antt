@@ -312,7 +312,7 @@ found_finishes a b c o p q thread notice trust r space w walked finds is nothing
 abbrev pub IsTried : ThreadNo → Notice → Known → Refused → Option Recorded → Type 0
 IsTried thread notice o last b = IfSome b (λ x. IsOwned x o → notice ≡ notices.Trap → IsInCall (state_of x.machine) thread → last ≡ why.NoMemory)
 
-abbrev TellsWhether : ThreadNo → Bool → Recorded → Recorded → Type 0
+abbrev pub TellsWhether : ThreadNo → Bool → Recorded → Recorded → Type 0
 TellsWhether thread over old new = IsToldOf thread old new over
 
 -- it hadn't, and owners walked

@@ -23,7 +23,7 @@ use Rattle.app_kernel.specs.Pages.{IsFaulted, TryConfirms, TryFills}
 use Rattle.app_kernel.specs.Serving.{IsEnded, IsToldOf, ServeConfirms, ServeFills}
 use Rattle.app_kernel.specs.Walks.{AreWalked}
 use Rattle.app_kernel.proofs.Changes.{told_from, told_once, told_twice}
-use Rattle.app_kernel.proofs.ServeLaws.{begun, ended_so, HasBegun}
+use Rattle.app_kernel.proofs.ServeLaws.{begun, ended_so, HasBegun, TellsWhether}
 
 -- a page of the thread's space whose row is to be loaded
 abbrev pub ToFill : SpaceNo → ThreadNo → Vpn → Known → Recorded → Type 0
@@ -42,9 +42,6 @@ pub record IsAtStart (a b : Option Recorded) (o p : Known) (last : Refused) : Ty
 -- where a board is so, nothing was called yet: the first try ended the serve
 abbrev pub IsStill : Option Recorded → Option Recorded → Known → Known → Refused → (Recorded → Type 0) → Type 0
 IsStill a b o p last is = IfSome a (λ x. IsOwned x o → is x → IsAtStart a b o p last)
-
-abbrev TellsWhether : ThreadNo → Bool → Recorded → Recorded → Type 0
-TellsWhether thread over old new = IsToldOf thread old new over
 
 pub still_begun : (a m : Option Recorded) (o : Known) (thread : ThreadNo) (over : Bool) (is : Recorded → Type 0) → OnTold a m (λ old new. IsToldOf thread old new over) → IsStill a m o o why.NoMemory is
 still_begun None m o thread over is asked = tt
