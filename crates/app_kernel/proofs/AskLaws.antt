@@ -24,8 +24,8 @@ use Rattle.board_checks.specs.Refusals.{refusal_of_load_mapping}
 use Rattle.board_loads.specs.Loads.{IsLoadedAs}
 use Rattle.owners.specs.Known.{ident_of, receiver_of, IsNoted, Known}
 use Rattle.owner_ports.specs.Boards.{IsRoomyCall, OnTold}
-use Rattle.page_laws.proofs.Keeping.{keeps_further, keeps_room}
-use Rattle.page_laws.proofs.Pages.{nothing_noted, reached_after_row}
+use Rattle.page_laws.proofs.Kept.{keeps_further, keeps_room}
+use Rattle.page_laws.proofs.Filled.{nothing_noted, reached_after_row}
 use Rattle.reach_laws.specs.answer_laws.specs.Given.{IsGiven}
 use Rattle.reach_laws.specs.Filling.{IsElse, IsFillable, IsNothingToLoad, IsUnfillable}
 use Rattle.reach_laws.specs.Reaching.{kernel_ident, loaded_as, IsGot, IsLoadAnswer, IsOwned, IsReached}

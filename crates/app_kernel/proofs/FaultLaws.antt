@@ -30,7 +30,7 @@ use Rattle.board_threads.specs.Refusals.{refusal_of_fault}
 use Rattle.owner_ports.specs.Boards.{OnTold}
 use Rattle.owners.specs.Known.{ident_of, space_of, Known}
 use Rattle.owners.specs.Owning.{IsThreadOf}
-use Rattle.page_laws.proofs.Pages.{fetched_space}
+use Rattle.page_laws.proofs.Filled.{fetched_space}
 use Rattle.reach_laws.specs.owner_laws.proofs.Naming.{names_it}
 use Rattle.reach_laws.specs.Filling.{IsElse, IsFillable, IsNothingToLoad, IsUnfillable}
 use Rattle.reach_laws.specs.Reaching.{kernel_ident, IsOwned, IsReached}

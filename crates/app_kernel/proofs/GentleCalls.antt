@@ -18,7 +18,7 @@ use Rattle.owners.specs.Keys.{is_thread}
 use Rattle.owners.specs.Known.{ident_of, space_of, IsSpaceLearnt, Known}
 use Rattle.owners.specs.Owning.{IsThreadOf}
 use Rattle.owner_ports.specs.Boards.{OnTold}
-use Rattle.page_laws.proofs.Keeping.{keeps_kernel, keeps_same, keeps_space, keeps_thread}
+use Rattle.page_laws.proofs.Kept.{keeps_kernel, keeps_same, keeps_space, keeps_thread}
 use Rattle.reach_laws.specs.Reaching.{IsOwned}
 use Rattle.reach_laws.specs.Searching.{space_told}
 use Rattle.reach_laws.proofs.Owning.{space_known, spaces_known}

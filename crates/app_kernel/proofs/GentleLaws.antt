@@ -14,8 +14,8 @@ use Rattle.owner_ports.specs.Boards.{IsCall}
 use Rattle.owners.specs.Known.{Known}
 use Rattle.reach_laws.specs.Filling.{IsFillable, IsUnfillable}
 use Rattle.reach_laws.specs.Reaching.{IsOwned}
-use Rattle.page_laws.proofs.Keeping.{keeps_further, keeps_room}
-use Rattle.page_laws.proofs.Pages.{fillable_kept, unfillable_kept}
+use Rattle.page_laws.proofs.Kept.{keeps_further, keeps_room}
+use Rattle.page_laws.proofs.Filled.{fillable_kept, unfillable_kept}
 use Rattle.app_kernel.specs.Pages.{AreGentle, IsFaulted, IsGentle}
 use Rattle.app_kernel.specs.Walks.{AreWalked, IsWalked}
 use Rattle.app_kernel.proofs.Changes.{told_both, told_twice}

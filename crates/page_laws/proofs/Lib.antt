@@ -1,2 +1,2 @@
-pub mod Keeping
-pub mod Pages
+pub mod Kept
+pub mod Filled

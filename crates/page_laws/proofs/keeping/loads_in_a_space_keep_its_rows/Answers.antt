@@ -1,4 +1,4 @@
-use Rattle.page_laws.proofs.Keeping.{keeps_further, keeps_kernel, keeps_room, keeps_same, keeps_space, keeps_thread}
+use Rattle.page_laws.proofs.Kept.{keeps_further, keeps_kernel, keeps_room, keeps_same, keeps_space, keeps_thread}
 use Rattle.page_laws.proofs.keeping.loads_in_a_space_keep_its_rows.Goals as goal
 
 pub returns : goal.returns

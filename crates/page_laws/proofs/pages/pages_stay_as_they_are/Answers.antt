@@ -1,4 +1,4 @@
-use Rattle.page_laws.proofs.Pages.{fillable_kept, unfillable_kept}
+use Rattle.page_laws.proofs.Filled.{fillable_kept, unfillable_kept}
 use Rattle.page_laws.proofs.pages.pages_stay_as_they_are.Goals as goal
 
 pub returns : goal.returns
