@@ -111,7 +111,7 @@ pub record IsAtRow (space : SpaceNo) (trust : Trust) (o s : Known) (caller paren
   pub gentle : IsGentle space old new o s
   pub hand : IsOwned old o → IsReached old o space → trust ≡ Nothing → IsHanded space caller parent receiver named new s
 
-module _ (a m : Option Recorded) (o p : Known) (space : SpaceNo) (trust : Trust) (named : Option ThreadNo) (receiver : Option Ident) (r : Result (Option Ident) Refused) (r_is : r ≡ Ok receiver) (gentle : AreGentle space a m o p) (gets : OnTold a m (GetsReceiver space trust o p named r)) where
+module _ (a m : Option Recorded) (o p : Known) (space : SpaceNo) (trust : Trust) (named : Option ThreadNo) (receiver : Option Ident) (r : Result (Option Ident) Refused) (r_is : r ≡ Ok receiver) (led : AreGentle space a m o p) (gets : OnTold a m (GetsReceiver space trust o p named r)) where
   record IsBegun (old new : Recorded) : Type 0 where
     gentle : IsGentle space old new o p
     got : IsOwned old o → IsReached old o space → trust ≡ Nothing → IsReached new p space × IsGiven (contents_of new) receiver named
@@ -119,7 +119,7 @@ module _ (a m : Option Recorded) (o p : Known) (space : SpaceNo) (trust : Trust)
   begun : OnTold a m IsBegun
   begun =
       told_both a m (λ x y. IsGentle space x y o p) (GetsReceiver space trust o p named r) IsBegun
-      (λ x y one got. record { gentle = one; got = λ owned reached nothing. subst (IsReceiverGot y p space named) r_is (got owned reached nothing) }) gentle.told gets
+      (λ x y one got. record { gentle = one; got = λ owned reached nothing. subst (IsReceiverGot y p space named) r_is (got owned reached nothing) }) led.told gets
 
   module _ (n : Option Recorded) (q : Known) (up : Result Ident Refused) (had_kernel : (its : KernelNo) (ident : Ident) → slice_get p.spaces space.0 ≡ Some its → kernel_ident p its ≡ Some ident → IsHad m n p q ident up) where
     -- its kernel isn't

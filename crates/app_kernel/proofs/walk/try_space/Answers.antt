@@ -1,4 +1,5 @@
 use Rattle.std.proofs.Common.{sym, ◌∙◌}
+use Rattle.std.specs.Prelude.{Err}
 use Rattle.app_kernel.proofs.FindLaws.{tried_another, tried_its, tried_nothing}
 use Rattle.app_kernel.proofs.GentleCalls.{mine_found, mine_told, noted_tries}
 use Rattle.app_kernel.proofs.walk.try_space.Goals as goal
@@ -21,4 +22,4 @@ returns-in-Some-clause-mine g c =
 
 pub returns-in-Noted-clause-reached : goal.returns-in-Noted-clause-reached
 returns-in-Noted-clause-reached g c =
-    noted_tries (g.P.Port.board c.args.port.now) (g.P.Port.board c.reach_both.new.port) c.args.owners.now c.reach_both.new.owners c.args.space c.args.thread c.args.trust c.reach_both.result _ c.in-Noted.is c.reach_both.ensures.reached
+    noted_tries (g.P.Port.board c.args.port.now) (g.P.Port.board c.reach_both.new.port) c.args.owners.now c.reach_both.new.owners c.args.space c.args.thread c.args.trust c.reach_both.result (Err c.in-Err.refused) c.in-Noted.is c.reach_both.ensures.reached
