@@ -411,7 +411,7 @@ module _ (a m : Option Recorded) (o p : Known) (thread : ThreadNo) (space : Spac
     known_still x y one owned known = by (space_of p thread) refl (knows_still (subst (λ (v : Option SpaceNo). IsSome v) (sym known) tt))
       where
         by : (v : Option SpaceNo) → space_of p thread ≡ v → IsSome v → space_of p thread ≡ Some space
-        by None none there = absurd there
+        by None none there = absurd (let clash : false ≡ true = there in cc)
         by (Some its) some there = some ∙ ap (λ (s : SpaceNo). Some s) (believed_same x y o p thread space its owned (one.owned owned) one.state known some)
 
     pub tried_again : OnTold a m (WalkFills space thread vpn trust o r) → OnTold m b (WalkFills space thread vpn Nothing p r2) → OnTold a b (TryFills space thread vpn o r2)

@@ -132,14 +132,14 @@ module _ (a m b : Option Recorded) (o p : Known) (thread : ThreadNo) (over : Boo
     module _ (again : Bool) (asked_again : OnTold b c (λ old new. IsToldOf thread old new again)) where
       -- it has ended since
       pub since_filled : again ≡ true → OnTold a c (ServeFills thread space vpn o served.Ended)
-      since_filled yes =
+      since_filled ends =
           told_twice a b c HasCome (TellsWhether thread again) (ServeFills thread space vpn o served.Ended)
-          (λ x y z one tells known sealed are going fillable. absurd (going (ended_so x y thread one.begins.walked.state (tells.ended.0 yes)))) come asked_again
+          (λ x y z one tells known sealed are going fillable. absurd (going (ended_so x y thread one.begins.walked.state (tells.ended.0 ends)))) come asked_again
 
       pub since_confirmed : again ≡ true → OnTold a c (ServeConfirms thread space vpn o served.Ended)
-      since_confirmed yes =
+      since_confirmed ends =
           told_twice a b c HasCome (TellsWhether thread again) (ServeConfirms thread space vpn o served.Ended)
-          (λ x y z one tells known sealed are faulted unfillable. absurd (never_ended x space thread faulted (ended_so x y thread one.begins.walked.state (tells.ended.0 yes)))) come asked_again
+          (λ x y z one tells known sealed are faulted unfillable. absurd (never_ended x space thread faulted (ended_so x y thread one.begins.walked.state (tells.ended.0 ends)))) come asked_again
 
       -- owners gave up
       pub again_filled : IsStill a b o p last (ToFill space thread vpn o) → OnTold a c (ServeFills thread space vpn o (served.Again last))

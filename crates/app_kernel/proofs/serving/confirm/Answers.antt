@@ -1,5 +1,5 @@
 use Rattle.std.proofs.Common.{ap, refl, ◌∙◌}
-use Rattle.std.specs.Prelude.{Err}
+use Rattle.std.specs.Prelude.{Err, Result}
 use Rattle.std.proofs.lemmas.Result.{err_from_is_err_and}
 use Rattle.board_core.specs.board_ops.specs.declared.refusals.Refused.{Refused}
 use Rattle.app_kernel.proofs.FaultLaws.{confirmed_never, confirmed_now, unconfirmed_call, unconfirmed_kernel, unconfirmed_thread}
@@ -36,7 +36,7 @@ returns-in-Err-Mapped-clause-helped g c = λ va access.
 
 pub returns-in-Err-Mapped-clause-confirms : goal.returns-in-Err-Mapped-clause-confirms
 returns-in-Err-Mapped-clause-confirms g c =
-    confirmed_never (g.P.Port.board c.args.port.now) (g.P.Port.board c.reach_thread_in.new.port) (g.P.Port.board c.reach_kernel_of.new.port) c.args.owners.now c.reach_thread_in.new.owners c.reach_kernel_of.new.owners c.args.space c.args.thread c.args.trust c.in_ok-ident.ident c.reach_thread_in.result c.reach_kernel_of.result c.reach_thread_in.ensures.gentle c.reach_thread_in.ensures.reached c.in_ok-ident.was c.reach_kernel_of.ensures.gentle (c.reach_kernel_of.ensures.had refl) (g.P.Port.board c.confirm_fault.new.self) c.in_ok-kernel.kernel c.confirm_fault.result c.in_ok-kernel.was (c.reach_kernel_of.ensures.idents c.args.thread ∙ c.in_ok-ident.ensures.noted) c.confirm_fault.ensures.call _ _ c.in-Err-Mapped.is
+    confirmed_never (g.P.Port.board c.args.port.now) (g.P.Port.board c.reach_thread_in.new.port) (g.P.Port.board c.reach_kernel_of.new.port) c.args.owners.now c.reach_thread_in.new.owners c.reach_kernel_of.new.owners c.args.space c.args.thread c.args.trust c.in_ok-ident.ident c.reach_thread_in.result c.reach_kernel_of.result c.reach_thread_in.ensures.gentle c.reach_thread_in.ensures.reached c.in_ok-ident.was c.reach_kernel_of.ensures.gentle (c.reach_kernel_of.ensures.had refl) (g.P.Port.board c.confirm_fault.new.self) c.in_ok-kernel.kernel c.confirm_fault.result c.in_ok-kernel.was (c.reach_kernel_of.ensures.idents c.args.thread ∙ c.in_ok-ident.ensures.noted) c.confirm_fault.ensures.call _ _ (c.in-Err-Mapped.is ∙ ap (λ (x : Refused). let r : Result (Unit {0}) Refused = Err x in r) c.in-Err-Mapped.field-0-is)
 
 pub returns-in-Err-clause-walked : goal.returns-in-Err-clause-walked
 returns-in-Err-clause-walked g c =
