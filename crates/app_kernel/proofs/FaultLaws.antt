@@ -408,7 +408,7 @@ module _ (a m : Option Recorded) (o p : Known) (thread : ThreadNo) (space : Spac
   module _ (b : Option Recorded) (q : Known) (trust : Trust) (w : Refused) (is : r ≡ Err w) (memory : w ≡ why.NoMemory → ⊥) (walked : AreWalked a m o p) (knows_still : IsSome (space_of o thread) → IsSome (space_of p thread)) (r2 : Result Served Refused) where
     -- its space is believed still
     known_still : (x y : Recorded) → IsWalked x y o p → IsOwned x o → space_of o thread ≡ Some space → space_of p thread ≡ Some space
-    known_still x y one owned known = by (space_of p thread) refl (knows_still (subst (λ (v : Option SpaceNo). IsSome v) (sym known) tt))
+    known_still x y one owned known = by (space_of p thread) refl (knows_still (subst (λ (v : Option SpaceNo). IsSome v) (sym known) refl))
       where
         by : (v : Option SpaceNo) → space_of p thread ≡ v → IsSome v → space_of p thread ≡ Some space
         by None none there = absurd (let clash : false ≡ true = there in cc)
