@@ -4,4 +4,10 @@ pub mod ToldLoaded
 pub mod WalkLaws
 pub mod ReachLaws
 pub mod FindLaws
+pub mod GentleLaws
+pub mod GentleCalls
+pub mod AskLaws
+pub mod RowLaws
 pub mod ServeLaws
+pub mod FaultLaws
+pub mod StillLaws

@@ -38,7 +38,7 @@ use Rattle.app_kernel.proofs.Changes.{told_both, told_from, told_here, told_once
 
 -- ---- answers
 
-answer_so : (refusal : Option Refused) (n : Name) (old new : Recorded) (answer : Result Ident Refused) → IsRoomyCall refusal (λ ident. IsLoadedAs 0 n ident old new) old new answer → IsLoadAnswer refusal n old new answer
+pub answer_so : (refusal : Option Refused) (n : Name) (old new : Recorded) (answer : Result Ident Refused) → IsRoomyCall refusal (λ ident. IsLoadedAs 0 n ident old new) old new answer → IsLoadAnswer refusal n old new answer
 answer_so refusal n old new answer call = record { refused = call.call.refused; done = call.call.done; made = call.call.made }
 
 -- owners took what was answered
@@ -198,13 +198,13 @@ module _ (a m n : Option Recorded) (o p q : Known) (space : SpaceNo) (up here : 
     (space_had_so : (its : KernelNo) (first ident : Ident) → slice_get p.spaces space.0 ≡ Some its → kernel_ident p its ≡ Some first → ident_of p (name.Space space) ≡ Some ident → IsHad m n p q ident here)
   where
     -- nothing was asked for
-    record IsAtHand (b : Recorded) (reached : IsReached b o space) : Type 0 where
-      up_is : up ≡ Ok reached.caller
-      here_is : here ≡ Ok reached.parent
-      owners : q ≡ o
-      board : n ≡ a
+    pub record IsAtHand (b : Recorded) (reached : IsReached b o space) : Type 0 where
+      pub up_is : up ≡ Ok reached.caller
+      pub here_is : here ≡ Ok reached.parent
+      pub owners : q ≡ o
+      pub board : n ≡ a
 
-    at_hand : (b : Recorded) (owned : IsOwned b o) (reached : IsReached b o space) → IsAtHand b reached
+    pub at_hand : (b : Recorded) (owned : IsOwned b o) (reached : IsReached b o space) → IsAtHand b reached
     at_hand b owned reached =
         let its : slice_get o.spaces space.0 ≡ Some reached.kernel = ap (λ (ks : List KernelNo). slice_get ks space.0) (spaces_known b o owned) ∙ reached.its in
         let first = kernel_had_so reached.kernel reached.caller its reached.caller_known in

@@ -312,16 +312,16 @@ found_finishes a b c o p q thread notice trust r space w walked finds is nothing
 abbrev pub IsTried : ThreadNo → Notice → Known → Refused → Option Recorded → Type 0
 IsTried thread notice o last b = IfSome b (λ x. IsOwned x o → notice ≡ notices.Trap → IsInCall (state_of x.machine) thread → last ≡ why.NoMemory)
 
-abbrev TellsWhether : ThreadNo → Bool → Recorded → Recorded → Type 0
+abbrev pub TellsWhether : ThreadNo → Bool → Recorded → Recorded → Type 0
 TellsWhether thread over old new = IsToldOf thread old new over
 
 -- it hadn't, and owners walked
-record HasBegun (thread : ThreadNo) (o p : Known) (old new : Recorded) : Type 0 where
-  owned : old.sealed ≡ true → AreOwnersOf old.journal.entries o → IsOwned old o
-  going : IsEnded old thread → ⊥
-  walked : IsWalked old new o p
+pub record HasBegun (thread : ThreadNo) (o p : Known) (old new : Recorded) : Type 0 where
+  pub owned : old.sealed ≡ true → AreOwnersOf old.journal.entries o → IsOwned old o
+  pub going : IsEnded old thread → ⊥
+  pub walked : IsWalked old new o p
 
-begun : (a m b : Option Recorded) (o p : Known) (thread : ThreadNo) (over : Bool) → over ≡ false → OnTold a m (TellsWhether thread over) → AreWalked m b o p → OnTold a b (HasBegun thread o p)
+pub begun : (a m b : Option Recorded) (o p : Known) (thread : ThreadNo) (over : Bool) → over ≡ false → OnTold a m (TellsWhether thread over) → AreWalked m b o p → OnTold a b (HasBegun thread o p)
 begun a m b o p thread over is asked walked = told_twice a m b (TellsWhether thread over) (λ x y. IsWalked x y o p) (HasBegun thread o p)
     (λ x y z tells second. record {
       owned = λ sealed are. record { sound = tells.sound; sealed = sealed; are = are };

@@ -36,9 +36,10 @@ use Rattle.reach_laws.specs.Reaching.{loaded_as, IsOwned}
 use Rattle.reach_laws.proofs.Keeping.{steps_stay}
 use Rattle.reach_laws.proofs.Owning.{owned_receiver, still_owned}
 use Rattle.reach_laws.proofs.Showing.{shows}
+use Rattle.reach_laws.proofs.Telling.{told_loaded}
 use Rattle.app_kernel.specs.Walks.{AreWalked, IsLearntSo, IsNotedSo, IsReceiverTold, IsWalked}
 use Rattle.app_kernel.proofs.Changes.{told_both, told_once, told_twice}
-use Rattle.app_kernel.proofs.ToldLoaded.{kernel_told, row_told, space_told, thread_told}
+use Rattle.app_kernel.proofs.ToldLoaded.{kernel_told, space_told, thread_told}
 
 -- ---- what is said of an answer that is known
 
@@ -200,10 +201,10 @@ module _ (a b : Option Recorded) (answer : Result Ident Refused) (o p : Known) (
 
 -- ---- rows
 
-abbrev RowDone : Ident → Vpn → Recorded → Recorded → Ident → Type 0
+abbrev pub RowDone : Ident → Vpn → Recorded → Recorded → Ident → Type 0
 RowDone parent vpn old new ident = (space : SpaceNo) × (space_as (contents_of old) parent ≡ Some space) × IsLoadedAs 0 (name.Mapping space vpn) ident old new
 
-abbrev RowCall : Ident → Ident → Vpn → Option Ident → Result Ident Refused → Recorded → Recorded → Type 0
+abbrev pub RowCall : Ident → Ident → Vpn → Option Ident → Result Ident Refused → Recorded → Recorded → Type 0
 RowCall caller parent vpn receiver answer old new = IsRoomyCall (refusal_of_load_mapping (contents_of old) caller parent vpn receiver) (RowDone parent vpn old new) old new answer
 
 module _ (o : Known) (caller parent : Ident) (space : SpaceNo) (vpn : Vpn) (receiver : Option Ident) (noted : ident_of o (name.Space space) ≡ Some parent) where
@@ -216,7 +217,7 @@ module _ (o : Known) (caller parent : Ident) (space : SpaceNo) (vpn : Vpn) (rece
     given = λ was ident done load.
         let same : load.0 ≡ space = same_Some load.0 space (sym load.1 ∙ stands old was done) in
         subst (λ (s : SpaceNo). IsLoadedAs 0 (name.Mapping s vpn) ident old new) same load.2;
-    told = λ was ident is. row_told old o caller parent ident space vpn receiver was.sound was.are noted is;
+    told = λ was ident is. told_loaded old o was caller parent space noted vpn receiver ident is;
   }
 
   module _ (a b : Option Recorded) (answer : Result Ident Refused) (call : OnTold a b (RowCall caller parent vpn receiver answer)) where

@@ -1,5 +1,6 @@
 pub use Rattle.owner_ports
 pub use Rattle.owners
+pub use Rattle.page_laws
 pub use Rattle.reach_laws
 pub use Rattle.owner_ports.specs.left_laws
 pub use Rattle.reach_laws.specs.answer_laws
@@ -8,3 +9,4 @@ pub mod Answers
 pub mod Causes
 pub mod Walks
 pub mod Serving
+pub mod Pages

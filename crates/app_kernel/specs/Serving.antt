@@ -2,6 +2,7 @@
 use Rattle.std.specs.Prelude.{◌≡◌, ◌⊎◌, ◌↔◌, Bool, true, List, [], ◌∷◌, ◌++◌, Some, slice_get}
 use Rattle.cache_ident.specs.declared.names.SpaceNo.{SpaceNo}
 use Rattle.cache_ident.specs.declared.names.ThreadNo.{ThreadNo}
+use Rattle.cache_ident.specs.declared.names.Vpn.{Vpn}
 use Rattle.fault_forward.specs.declared.effects.Notice.{Notice}
 use Rattle.fault_forward.specs.declared.effects.Notice.TheVariants.{Trap}
 use Rattle.rv32_exec.specs.declared.statuses.Reason.{Reason}
@@ -18,11 +19,13 @@ use Rattle.board_core.specs.board_ops.specs.declared.refusals.Refused.TheVariant
 use Rattle.board_core.specs.cached_machine.specs.Cached.{state_of}
 use Rattle.board_core.specs.Core.{IsSound, Recorded}
 use Rattle.owner_ports.specs.Boards.{status_in}
-use Rattle.owners.specs.Known.{Known}
+use Rattle.owners.specs.Known.{space_of, Known}
 use Rattle.owners.specs.Owning.{AreOwnersOf, IsThreadOf}
+use Rattle.reach_laws.specs.Filling.{IsFillable, IsUnfillable}
 use Rattle.reach_laws.specs.Reaching.{IsOwned}
 use Rattle.app_kernel.specs.declared.serving.Served.{Served}
 use Rattle.app_kernel.specs.declared.serving.Served.TheVariants as served
+use Rattle.app_kernel.specs.Pages.{IsConfirmed, IsFaulted, IsFilled}
 use Rattle.app_kernel.specs.Walks.{IsThreadReached}
 
 -- the thread has ended
@@ -88,3 +91,11 @@ Finishes thread notice o w old new = IsOwned old o → notice ≡ Trap → IsInC
 -- owners of a sealed board serve the thread
 abbrev pub Serves : ThreadNo → Notice → Known → Known → Served → Recorded → Recorded → Type 0
 Serves thread notice o p answer old new = old.sealed ≡ true → AreOwnersOf old.journal.entries o → IsServed thread notice old new p answer
+
+-- a row of its space that is to be loaded is, and a thread that hasn't ended goes on
+abbrev pub ServeFills : ThreadNo → SpaceNo → Vpn → Known → Served → Recorded → Recorded → Type 0
+ServeFills thread space vpn o answer old new = space_of o thread ≡ Some space → old.sealed ≡ true → AreOwnersOf old.journal.entries o → (IsEnded old thread → ⊥) → IsFillable old space vpn → UnlessWanting answer (IsFilled new space vpn answer)
+
+-- a fault on a page of its space of which nothing is to be loaded is confirmed
+abbrev pub ServeConfirms : ThreadNo → SpaceNo → Vpn → Known → Served → Recorded → Recorded → Type 0
+ServeConfirms thread space vpn o answer old new = space_of o thread ≡ Some space → old.sealed ≡ true → AreOwnersOf old.journal.entries o → IsFaulted old space thread → IsUnfillable old space vpn → UnlessWanting answer (IsConfirmed thread old new answer)

@@ -4,10 +4,11 @@ ghost use Rattle.std.specs.Prelude.{◌≡◌, IfErr, IfOk, OnErr, OnOk};
 ghost use Rattle.cache_ident.specs.declared.names.Name.{Name};
 ghost use Rattle.cache_ident.specs.declared.names.SpaceNo.{SpaceNo};
 ghost use Rattle.owner_ports.specs.Boards.{OnTold};
-ghost use Rattle.owners.specs.Known.{ident_of};
-ghost use Rattle.reach_laws.specs.Reaching.{loaded_as, IsOwned};
+ghost use Rattle.owners.specs.Known.{ident_of, receiver_of};
+ghost use Rattle.reach_laws.specs.Reaching.{loaded_as, IsOwned, IsReached};
 ghost use Rattle.reach_laws.specs.owner_laws.specs.Passing.{thread_named};
 ghost use Rattle.app_kernel.specs.Answers.{HasRisenBy, IsAsked, IsReason};
+ghost use Rattle.app_kernel.specs.Pages.{AreGentle, AskFills, AskIsVain, IsNoneMissing, IsPassedOn, IsReceiverGot, RowFills, RowIsVain};
 ghost use Rattle.app_kernel.specs.Walks.{AreWalked, IsLearntSo, IsNotedSo, IsReceiverTold};
 
 use crate::walk::{Trust, loaded_as, reach_kernel_of, reach_space, reach_thread_in};
@@ -28,6 +29,8 @@ fn reach_receiver<P: Port>(
     ensures asks { HasRisenBy 0 (P.heard port.old).asks (P.heard port.new).asks }
     ensures refused { IfErr result (IsReason 1 (P.heard port.old) (P.heard port.new)) }
     ensures threads { owners.new.threads ≡ owners.old.threads }
+    ensures gentle { AreGentle space (P.board port.old) (P.board port.new) owners.old owners.new }
+    ensures given { OnTold (P.board port.old) (P.board port.new) (λ old new. IsOwned old owners.old → IsReached old owners.old space → trust ≡ Trust.Nothing → IsReceiverGot new owners.new space (receiver_of owners.old (space, vpn)) result) }
     ensures walked { AreWalked (P.board port.old) (P.board port.new) owners.old owners.new }
 {
     match owners.receiver_of(space, vpn) {
@@ -104,6 +107,8 @@ fn ask_row<P: Port>(
     ensures asked { IfOk result (λ answer. HasRisenBy 1 (P.heard port.old).calls (P.heard port.new).calls × IsAsked owners.new space vpn (P.heard port.new) answer) }
     ensures walked { AreWalked (P.board port.old) (P.board port.new) owners.old owners.new }
     ensures told { IfOk result (λ answer. OnTold (P.board port.old) (P.board port.new) (λ old new. IsOwned old owners.old → IsReceiverTold new space answer)) }
+    ensures fills { OnTold (P.board port.old) (P.board port.new) (AskFills space vpn trust owners.old owners.new result) }
+    ensures vain { OnTold (P.board port.old) (P.board port.new) (AskIsVain space vpn trust owners.old owners.new result) }
 {
     let receiver = reach_receiver(port, owners, space, vpn, trust)?;
     let kernel = reach_kernel_of(port, owners, space, Trust::Noted)?;
@@ -129,14 +134,19 @@ fn load_row<P: Port>(
     ensures threads { owners.new.threads ≡ owners.old.threads }
     ensures asked { IfOk result (λ answer. HasRisenBy 1 (P.heard port.old).calls (P.heard port.new).calls × IsAsked owners.new space vpn (P.heard port.new) answer) }
     ensures walked { AreWalked (P.board port.old) (P.board port.new) owners.old owners.new }
+    ensures fills { OnTold (P.board port.old) (P.board port.new) (RowFills space vpn trust owners.old owners.new result) }
+    ensures vain { OnTold (P.board port.old) (P.board port.new) (RowIsVain space vpn trust owners.old owners.new result) }
 {
     let answer = ask_row(port, owners, space, vpn, trust)?;
     match answer {
-        Err(Refused::WrongParent { .. }) => {
-            learn_told(owners, space, vpn, answer)?;
-            ask_row(port, owners, space, vpn, trust)
-        }
-        _ => Ok(answer),
+        Ok(_) => Ok(answer),
+        Err(refused) => match refused {
+            Refused::WrongParent { .. } => {
+                learn_told(owners, space, vpn, answer)?;
+                ask_row(port, owners, space, vpn, trust)
+            }
+            _ => Ok(answer),
+        },
     }
 }
 
@@ -182,6 +192,7 @@ fn ask_with_signal_row<P: Port>(
     ensures threads { owners.new.threads ≡ owners.old.threads }
     ensures asked { IfOk result (IsAsked owners.new space vpn (P.heard port.new)) }
     ensures walked { AreWalked (P.board port.old) (P.board port.new) owners.old owners.new }
+    ensures passed { IsNoneMissing answer → IsPassedOn (P.board port.old) (P.board port.new) owners.old owners.new answer result }
 {
     match answer {
         Err(
@@ -214,6 +225,8 @@ pub fn load_message_row<P: Port>(
     ensures threads { owners.new.threads ≡ owners.old.threads }
     ensures asked { IfOk result (λ answer. HasRisenBy 1 (P.heard port.old).calls (P.heard port.new).calls × IsAsked owners.new space vpn (P.heard port.new) answer) }
     ensures walked { AreWalked (P.board port.old) (P.board port.new) owners.old owners.new }
+    ensures fills { OnTold (P.board port.old) (P.board port.new) (RowFills space vpn trust owners.old owners.new result) }
+    ensures vain { OnTold (P.board port.old) (P.board port.new) (RowIsVain space vpn trust owners.old owners.new result) }
 {
     let answer = load_row(port, owners, space, vpn, trust)?;
     let answer = ask_with_signal_row(port, owners, space, vpn, trust, answer)?;

@@ -1,15 +1,19 @@
 //! What owners do for a thread that can't go on.
 
-ghost use Rattle.std.specs.Prelude.{◌≡◌, ℕ, true, Some, IfErr, IfOk};
+ghost use Rattle.std.specs.Prelude.{◌≡◌, ℕ, true, Some, IfErr, IfOk, IsSome};
+ghost use Rattle.cache_ident.specs.declared.names.SpaceNo.{SpaceNo};
+ghost use Rattle.cache_ident.specs.declared.names.Vpn.{Vpn};
 ghost use Rattle.rv32_exec.specs.declared.statuses.Access.{Access};
 ghost use Rattle.fault_forward.specs.declared.effects.Notice.{Notice};
 ghost use Rattle.owner_ports.specs.Boards.{OnTold};
 ghost use Rattle.owners.specs.Known.{space_of};
 ghost use Rattle.owners.specs.Owning.{AreOwnersOf};
+ghost use Rattle.reach_laws.specs.Filling.{IsUnfillable};
 ghost use Rattle.reach_laws.specs.Reaching.{IsOwned};
 ghost use Rattle.app_kernel.specs.Answers.{HasRisenBy, IsReason};
 ghost use Rattle.app_kernel.specs.Causes.{page_of, IsCause, IsToldEnded};
-ghost use Rattle.app_kernel.specs.Serving.{Finishes, FinishesAt, Helps, IsHelped, IsServed, IsToldOf};
+ghost use Rattle.app_kernel.specs.Pages.{Confirms, Fills, TryConfirms, TryFills, WalkConfirms, WalkFills};
+ghost use Rattle.app_kernel.specs.Serving.{Finishes, FinishesAt, Helps, IsHelped, IsServed, IsToldOf, ServeConfirms, ServeFills};
 ghost use Rattle.app_kernel.specs.Walks.{AreWalked};
 
 use crate::rows::load_message_row;
@@ -55,6 +59,7 @@ fn complete<P: Port>(
     ensures calls { HasRisenBy 0 (P.heard port.old).calls (P.heard port.new).calls }
     ensures asks { HasRisenBy 0 (P.heard port.old).asks (P.heard port.new).asks }
     ensures refused { IfErr result (IsReason 1 (P.heard port.old) (P.heard port.new)) }
+    ensures threads { owners.new.threads ≡ owners.old.threads }
     ensures cause { (notice : Notice) → IfOk result (IsCause owners.new thread notice (P.heard port.old) (P.heard port.new)) }
     ensures walked { IfErr result (λ _. AreWalked (P.board port.old) (P.board port.new) owners.old owners.new) }
     ensures helped { IfOk result (λ served. OnTold (P.board port.old) (P.board port.new) (λ old new. IsOwned old owners.old → IsHelped thread Notice.Trap old new owners.new served)) }
@@ -86,9 +91,10 @@ fn confirm<P: Port>(
     ensures cause { (notice : Notice) → IfOk result (IsCause owners.new thread notice (P.heard port.old) (P.heard port.new)) }
     ensures walked { IfErr result (λ _. AreWalked (P.board port.old) (P.board port.new) owners.old owners.new) }
     ensures helped { (va : ℕ) (access : Access) → IfOk result (λ served. OnTold (P.board port.old) (P.board port.new) (Helps thread (Notice.Fault va access) owners.old owners.new served)) }
+    ensures confirms { OnTold (P.board port.old) (P.board port.new) (Confirms space thread trust owners.old owners.new result) }
 {
-    let kernel = reach_kernel_of(port, owners, space, Trust::Noted)?;
     let ident = reach_thread_in(port, owners, space, thread, trust)?;
+    let kernel = reach_kernel_of(port, owners, space, Trust::Noted)?;
     match port.confirm_fault(kernel, ident) {
         Ok(()) => Ok(Served::Ended),
         Err(Refused::Mapped { .. }) => Ok(Served::Resumed),
@@ -110,16 +116,21 @@ fn fill<P: Port>(
     ensures calls { HasRisenBy 0 (P.heard port.old).calls (P.heard port.new).calls }
     ensures asks { HasRisenBy 0 (P.heard port.old).asks (P.heard port.new).asks }
     ensures refused { IfErr result (IsReason 1 (P.heard port.old) (P.heard port.new)) }
+    ensures threads { owners.new.threads ≡ owners.old.threads }
     ensures cause { (notice : Notice) → page_of notice ≡ Some vpn → IfOk result (IsCause owners.new thread notice (P.heard port.old) (P.heard port.new)) }
     ensures walked { IfErr result (λ _. AreWalked (P.board port.old) (P.board port.new) owners.old owners.new) }
     ensures helped { (va : ℕ) (access : Access) → IfOk result (λ served. OnTold (P.board port.old) (P.board port.new) (Helps thread (Notice.Fault va access) owners.old owners.new served)) }
+    ensures fills { OnTold (P.board port.old) (P.board port.new) (Fills space vpn trust owners.old result) }
+    ensures confirms { OnTold (P.board port.old) (P.board port.new) (λ old new. IsUnfillable old space vpn → Confirms space thread trust owners.old owners.new result old new) }
 {
     match load_message_row(port, owners, space, vpn, trust)? {
         Ok(_) => Ok(Served::Resumed),
-        Err(Refused::AlreadyLoaded { .. }) => confirm(port, owners, space, thread, trust),
-        Err(Refused::NotDeclared { .. }) => confirm(port, owners, space, thread, trust),
-        Err(Refused::Rights { .. }) => confirm(port, owners, space, thread, trust),
-        Err(refused) => Err(refused),
+        Err(refused) => match refused {
+            Refused::AlreadyLoaded { .. } => confirm(port, owners, space, thread, trust),
+            Refused::NotDeclared { .. } => confirm(port, owners, space, thread, trust),
+            Refused::Rights { .. } => confirm(port, owners, space, thread, trust),
+            _ => Err(refused),
+        },
     }
 }
 
@@ -139,6 +150,9 @@ fn walk<P: Port>(
     ensures walked { IfErr result (λ _. AreWalked (P.board port.old) (P.board port.new) owners.old owners.new) }
     ensures helped { IfOk result (λ served. OnTold (P.board port.old) (P.board port.new) (Helps thread notice owners.old owners.new served)) }
     ensures finished { trust ≡ Trust.Nothing → IfErr result (λ why. OnTold (P.board port.old) (P.board port.new) (Finishes thread notice owners.old why)) }
+    ensures known { IsSome (space_of owners.old thread) → IsSome (space_of owners.new thread) }
+    ensures fills { (space : SpaceNo) (vpn : Vpn) → page_of notice ≡ Some vpn → OnTold (P.board port.old) (P.board port.new) (WalkFills space thread vpn trust owners.old result) }
+    ensures confirms { (space : SpaceNo) (vpn : Vpn) → page_of notice ≡ Some vpn → OnTold (P.board port.old) (P.board port.new) (WalkConfirms space thread vpn trust owners.old owners.new result) }
 {
     let space = reach_thread(port, owners, thread, trust)?;
     match notice {
@@ -165,11 +179,15 @@ fn attempt<P: Port>(
     ensures walked { IfErr result (λ _. AreWalked (P.board port.old) (P.board port.new) owners.old owners.new) }
     ensures helped { IfOk result (λ served. OnTold (P.board port.old) (P.board port.new) (Helps thread notice owners.old owners.new served)) }
     ensures finished { IfErr result (λ why. OnTold (P.board port.old) (P.board port.new) (Finishes thread notice owners.old why)) }
+    ensures fills { (space : SpaceNo) (vpn : Vpn) → page_of notice ≡ Some vpn → OnTold (P.board port.old) (P.board port.new) (TryFills space thread vpn owners.old result) }
+    ensures confirms { (space : SpaceNo) (vpn : Vpn) → page_of notice ≡ Some vpn → OnTold (P.board port.old) (P.board port.new) (TryConfirms space thread vpn owners.old result) }
 {
     match walk(port, owners, thread, notice, Trust::Noted) {
         Ok(served) => Ok(served),
-        Err(Refused::NoMemory) => Err(Refused::NoMemory),
-        Err(_) => walk(port, owners, thread, notice, Trust::Nothing),
+        Err(refused) => match refused {
+            Refused::NoMemory => Err(Refused::NoMemory),
+            _ => walk(port, owners, thread, notice, Trust::Nothing),
+        },
     }
 }
 
@@ -183,6 +201,8 @@ pub fn serve<P: Port>(port: &mut P, owners: &mut Owners, thread: ThreadNo, notic
     ensures followed { P.follows port.old port.new }
     ensures cause { IsCause owners.new thread notice (P.heard port.old) (P.heard port.new) result }
     ensures told { OnTold (P.board port.old) (P.board port.new) (λ old new. old.sealed ≡ true → AreOwnersOf old.journal.entries owners.old → IsServed thread notice old new owners.new result) }
+    ensures filled { (space : SpaceNo) (vpn : Vpn) → page_of notice ≡ Some vpn → OnTold (P.board port.old) (P.board port.new) (ServeFills thread space vpn owners.old result) }
+    ensures confirmed { (space : SpaceNo) (vpn : Vpn) → page_of notice ≡ Some vpn → OnTold (P.board port.old) (P.board port.new) (ServeConfirms thread space vpn owners.old result) }
 {
     if has_ended(port, thread) {
         return Served::Ended;
@@ -191,8 +211,10 @@ pub fn serve<P: Port>(port: &mut P, owners: &mut Owners, thread: ThreadNo, notic
     for _ in 0..3u32 {
         match attempt(port, owners, thread, notice) {
             Ok(served) => return served,
-            Err(Refused::NoMemory) => return Served::Again(Refused::NoMemory),
-            Err(refused) => last = refused,
+            Err(refused) => match refused {
+                Refused::NoMemory => return Served::Again(Refused::NoMemory),
+                _ => last = refused,
+            },
         }
     }
     if has_ended(port, thread) {

@@ -1,10 +1,11 @@
 //! Reaching a thread: its kernel, its space and the thread itself are loaded, and their identifiers noted.
 
-ghost use Rattle.std.specs.Prelude.{◌≡◌, ◌⊎◌, ℕ, None, Some, Ok, Err, IfErr, IfOk, OnErr, OnOk, slice_get};
+ghost use Rattle.std.specs.Prelude.{◌≡◌, ◌≢◌, ◌⊎◌, ℕ, None, Some, Ok, Err, IfErr, IfOk, IsSome, OnErr, OnOk, slice_get};
 ghost use Rattle.cache_ident.specs.declared.idents.Ident.{Ident};
 ghost use Rattle.cache_ident.specs.declared.names.KernelNo.{KernelNo};
 ghost use Rattle.cache_ident.specs.declared.names.Name.{Name};
 ghost use Rattle.cache_ident.specs.declared.names.SpaceNo.{SpaceNo};
+ghost use Rattle.cache_ident.specs.declared.names.ThreadNo.{ThreadNo};
 ghost use Rattle.board_core.specs.board_ops.specs.declared.refusals.Refused.TheVariants.{NoMemory};
 ghost use Rattle.board_core.specs.cached_machine.specs.Cached.{state_of};
 ghost use Rattle.board_core.specs.Core.{Recorded};
@@ -14,6 +15,7 @@ ghost use Rattle.owners.specs.Owning.{IsThreadOf};
 ghost use Rattle.reach_laws.specs.Reaching.{kernel_ident, loaded_as, IsOwned};
 ghost use Rattle.reach_laws.specs.Searching.{space_told};
 ghost use Rattle.app_kernel.specs.Answers.{HasRisenBy, IsReason};
+ghost use Rattle.app_kernel.specs.Pages.{AreGentle};
 ghost use Rattle.app_kernel.specs.Walks.{trusted_ident, AreWalked, BothReach, Finds, IsHad, IsKernelGot, KernelReaches, SpaceReaches, SpaceTries, ThreadPasses, ThreadReaches};
 
 use cache_ident::{Ident, KernelNo, Kind, Name, NoMemory, SpaceNo, ThreadNo};
@@ -62,6 +64,7 @@ fn take(owners: &mut Owners, name: Name, answer: Result<Ident, Refused>) -> Resu
     ensures noted { IfOk result (λ ident. IsNoted name ident owners.old owners.new) }
     ensures taken { IfOk result (λ ident. loaded_as answer ≡ Ok ident) }
     ensures same { OnErr result (owners.new ≡ owners.old) }
+    ensures others { (other : Name) → other ≢ name → ident_of owners.new other ≡ ident_of owners.old other }
     ensures refused { IfErr result (λ why. (why ≡ NoMemory) ⊎ (answer ≡ Err why)) }
     ensures failed { IfErr result (λ why. (why ≡ NoMemory) ⊎ (loaded_as answer ≡ Err why)) }
 {
@@ -82,7 +85,9 @@ pub fn reach_kernel<P: Port>(
     ensures asks { HasRisenBy 0 (P.heard port.old).asks (P.heard port.new).asks }
     ensures refused { IfErr result (IsReason 1 (P.heard port.old) (P.heard port.new)) }
     ensures threads { owners.new.threads ≡ owners.old.threads }
+    ensures idents { (other : ThreadNo) → ident_of owners.new (Name.Thread other) ≡ ident_of owners.old (Name.Thread other) }
     ensures walked { AreWalked (P.board port.old) (P.board port.new) owners.old owners.new }
+    ensures gentle { (space : SpaceNo) → ((its : KernelNo) → slice_get owners.old.spaces space.0 ≡ Some its → kernel ≡ its) → AreGentle space (P.board port.old) (P.board port.new) owners.old owners.new }
     ensures had { trust ≡ Trust.Noted → (ident : Ident) → kernel_ident owners.old kernel ≡ Some ident → IsHad (P.board port.old) (P.board port.new) owners.old owners.new ident result }
     ensures reached { OnTold (P.board port.old) (P.board port.new) (λ old new. IsOwned old owners.old → (n : ℕ) → slice_get (state_of old.machine).spaces n ≡ Some kernel → trust ≡ Trust.Nothing → IsKernelGot new owners.new kernel result) }
 {
@@ -108,7 +113,9 @@ pub fn reach_kernel_of<P: Port>(
     ensures asks { HasRisenBy 0 (P.heard port.old).asks (P.heard port.new).asks }
     ensures refused { IfErr result (IsReason 1 (P.heard port.old) (P.heard port.new)) }
     ensures threads { owners.new.threads ≡ owners.old.threads }
+    ensures idents { (other : ThreadNo) → ident_of owners.new (Name.Thread other) ≡ ident_of owners.old (Name.Thread other) }
     ensures walked { AreWalked (P.board port.old) (P.board port.new) owners.old owners.new }
+    ensures gentle { AreGentle space (P.board port.old) (P.board port.new) owners.old owners.new }
     ensures had { trust ≡ Trust.Noted → (its : KernelNo) (ident : Ident) → slice_get owners.old.spaces space.0 ≡ Some its → kernel_ident owners.old its ≡ Some ident → IsHad (P.board port.old) (P.board port.new) owners.old owners.new ident result }
     ensures reached { OnTold (P.board port.old) (P.board port.new) (KernelReaches owners.old owners.new space trust result) }
 {
@@ -130,6 +137,7 @@ pub fn reach_space<P: Port>(
     ensures threads { owners.new.threads ≡ owners.old.threads }
     ensures noted { IfOk result (λ ident. ident_of owners.new (Name.Space space) ≡ Some ident) }
     ensures walked { AreWalked (P.board port.old) (P.board port.new) owners.old owners.new }
+    ensures gentle { AreGentle space (P.board port.old) (P.board port.new) owners.old owners.new }
     ensures had { trust ≡ Trust.Noted → (its : KernelNo) (caller ident : Ident) → slice_get owners.old.spaces space.0 ≡ Some its → kernel_ident owners.old its ≡ Some caller → ident_of owners.old (Name.Space space) ≡ Some ident
         → IsHad (P.board port.old) (P.board port.new) owners.old owners.new ident result }
     ensures reached { OnTold (P.board port.old) (P.board port.new) (SpaceReaches owners.old owners.new space trust result) }
@@ -157,6 +165,7 @@ pub fn reach_thread_in<P: Port>(
     ensures threads { owners.new.threads ≡ owners.old.threads }
     ensures noted { IfOk result (λ ident. ident_of owners.new (Name.Thread thread) ≡ Some ident) }
     ensures walked { AreWalked (P.board port.old) (P.board port.new) owners.old owners.new }
+    ensures gentle { AreGentle space (P.board port.old) (P.board port.new) owners.old owners.new }
     ensures had { trust ≡ Trust.Noted → (ident : Ident) → ident_of owners.old (Name.Thread thread) ≡ Some ident → IsHad (P.board port.old) (P.board port.new) owners.old owners.new ident result }
     ensures passed { IfOk result (λ _. OnTold (P.board port.old) (P.board port.new) (ThreadPasses owners.old space thread trust)) }
     ensures reached { OnTold (P.board port.old) (P.board port.new) (ThreadReaches owners.old owners.new space thread trust result) }
@@ -193,6 +202,7 @@ fn learn_reached(
 ) -> Result<(), NoMemory>
     requires believed { trust ≡ Trust.Noted → space_of owners.old thread ≡ Some space }
     ensures learnt { OnOk result (space_of owners.new thread ≡ Some space) }
+    ensures known { IsSome (space_of owners.old thread) → IsSome (space_of owners.new thread) }
     ensures owned { (b : Recorded) → IsOwned b owners.old → (trust ≡ Trust.Nothing → IsThreadOf (state_of b.machine) space thread) → IsOwned b owners.new }
     ensures idents { owners.new.idents ≡ owners.old.idents }
 {
@@ -218,6 +228,8 @@ fn reach_both<P: Port>(
     ensures refused { IfErr result (IsReason 1 (P.heard port.old) (P.heard port.new)) }
     ensures learnt { OnOk result (space_of owners.new thread ≡ Some space) }
     ensures walked { AreWalked (P.board port.old) (P.board port.new) owners.old owners.new }
+    ensures gentle { AreGentle space (P.board port.old) (P.board port.new) owners.old owners.new }
+    ensures known { IsSome (space_of owners.old thread) → IsSome (space_of owners.new thread) }
     ensures reached { OnTold (P.board port.old) (P.board port.new) (BothReach owners.old owners.new space thread trust result) }
 {
     reach_space(port, owners, space, trust)?;
@@ -226,7 +238,8 @@ fn reach_both<P: Port>(
     Ok(())
 }
 
-// The same; or tells of another space where it isn't one of this.
+// The same; or tells of another space where it isn't one of this and each load was asked for. A refusal that comes of what is noted
+// may come of what is stale.
 fn try_space<P: Port>(
     port: &mut P,
     owners: &mut Owners,
@@ -241,13 +254,19 @@ fn try_space<P: Port>(
     ensures refused { IfErr result (IsReason 1 (P.heard port.old) (P.heard port.new)) }
     ensures learnt { IfOk result (λ told. told ≡ None → space_of owners.new thread ≡ Some space) }
     ensures walked { AreWalked (P.board port.old) (P.board port.new) owners.old owners.new }
+    ensures gentle { AreGentle space (P.board port.old) (P.board port.new) owners.old owners.new }
+    ensures known { IsSome (space_of owners.old thread) → IsSome (space_of owners.new thread) }
+    ensures mine { IfOk result (λ told. OnTold (P.board port.old) (P.board port.new) (λ old new. IsOwned old owners.old → IsThreadOf (state_of old.machine) space thread → told ≡ None)) }
     ensures reached { OnTold (P.board port.old) (P.board port.new) (SpaceTries owners.old owners.new space thread trust result) }
 {
     match reach_both(port, owners, space, thread, trust) {
         Ok(()) => Ok(None),
-        Err(refused) => match space_told(owners, refused) {
-            Some(told) => Ok(Some(told)),
-            None => Err(refused),
+        Err(refused) => match trust {
+            Trust::Noted => Err(refused),
+            Trust::Nothing => match space_told(owners, refused) {
+                Some(told) => Ok(Some(told)),
+                None => Err(refused),
+            },
         },
     }
 }
@@ -279,6 +298,8 @@ pub fn reach_thread<P: Port>(
     ensures refused { IfErr result (IsReason 1 (P.heard port.old) (P.heard port.new)) }
     ensures learnt { IfOk result (λ space. space_of owners.new thread ≡ Some space) }
     ensures walked { AreWalked (P.board port.old) (P.board port.new) owners.old owners.new }
+    ensures gentle { (space : SpaceNo) → space_of owners.old thread ≡ Some space → AreGentle space (P.board port.old) (P.board port.new) owners.old owners.new }
+    ensures known { IsSome (space_of owners.old thread) → IsSome (space_of owners.new thread) }
     ensures reached { OnTold (P.board port.old) (P.board port.new) (Finds owners.old owners.new thread trust result) }
 {
     let (first, trust) = first_try(owners, thread, trust);

@@ -98,7 +98,7 @@ fn wrong_spaces_are_learnt(rt: HostRuntime) -> Result<(), Fail> {
     let mut scene = opened(rt.alloc(), SPAWNING)?;
     // Of another kernel: a space of that is tried, and then the one that is told.
     scene.owners.learn_space(ThreadNo(0), SpaceNo(0))?;
-    assert!(rt; scene.serve(0, fault(0)) == (Served::Resumed, 9));
+    assert!(rt; scene.serve(0, fault(0)) == (Served::Resumed, 11));
     assert!(rt; scene.owners.space_of(ThreadNo(0)) == Some(SpaceNo(1)));
     assert!(rt; scene.step(0, 5));
     assert!(rt; scene.serve(0, Notice::Trap) == (Served::Resumed, 1));

@@ -1,9 +1,14 @@
-use Rattle.std.proofs.Common.{ap, ◌∙◌}
-use Rattle.std.specs.Prelude.{Err}
+use Rattle.std.proofs.Common.{◌≡◌, Some, None, ap, sym, ◌∙◌, subst}
+use Rattle.std.specs.Prelude.{◌/◌, Err}
+use Rattle.std.proofs.lemmas.Option.{same_Some}
 use Rattle.std.proofs.lemmas.Result.{err_from_is_err_and}
+use Rattle.cache_ident.specs.declared.names.Vpn.{Vpn}
 use Rattle.board_core.specs.board_ops.specs.declared.refusals.Refused.{Refused}
+use Rattle.owner_ports.specs.Boards.{OnTold}
 use Rattle.app_kernel.specs.Causes.{page_of}
+use Rattle.app_kernel.specs.Pages.{Fills}
 use Rattle.app_kernel.proofs.CauseLaws.{ok_from}
+use Rattle.app_kernel.proofs.FaultLaws.{ConfirmsIn, found_confirmed, found_filled, unfound_unconfirmed, unfound_unfilled}
 use Rattle.app_kernel.proofs.ServeLaws.{at_err, fault_finishes, faults_after, found_finishes, more_err, more_ok, traps_after, unfound_finishes}
 use Rattle.app_kernel.proofs.WalkLaws.{walked_on}
 use Rattle.app_kernel.proofs.serving.walk.Goals as goal
@@ -44,3 +49,29 @@ returns-in-Fault-clause-helped g c =
 pub returns-in-Fault-clause-finished : goal.returns-in-Fault-clause-finished
 returns-in-Fault-clause-finished g c = λ nothing.
     more_err c.fill.result _ _ (λ w so. fault_finishes (g.P.Port.board c.args.port.now) (g.P.Port.board c.fill.new.port) c.args.owners.now c.fill.new.owners c.args.thread c.args.notice c.in-Fault.va c.in-Fault.access w c.in-Fault.is (walked_on (g.P.Port.board c.args.port.now) (g.P.Port.board c.reach_thread.new.port) (g.P.Port.board c.fill.new.port) c.args.owners.now c.reach_thread.new.owners c.fill.new.owners c.reach_thread.ensures.walked so)) c.fill.ensures.walked
+
+pub returns-in_err-space-clause-fills : goal.returns-in_err-space-clause-fills
+returns-in_err-space-clause-fills g c = λ space vpn page.
+    let p = err_from_is_err_and c.from_residual.result c.from_residual.ensures.1 in
+    unfound_unfilled (g.P.Port.board c.args.port.now) (g.P.Port.board c.reach_thread.new.port) c.args.owners.now c.reach_thread.new.owners c.args.thread space vpn c.args.trust c.reach_thread.result (c.reach_thread.ensures.gentle space) c.reach_thread.ensures.reached c.reach_thread.ensures.walked c.in_err-space.field-0.0 c.from_residual.result c.in_err-space.was (p.1 ∙ ap (λ (x : Refused). Err x) p.2)
+
+pub returns-in_err-space-clause-confirms : goal.returns-in_err-space-clause-confirms
+returns-in_err-space-clause-confirms g c = λ space vpn page.
+    let p = err_from_is_err_and c.from_residual.result c.from_residual.ensures.1 in
+    unfound_unconfirmed (g.P.Port.board c.args.port.now) (g.P.Port.board c.reach_thread.new.port) c.args.owners.now c.reach_thread.new.owners c.args.thread space vpn c.args.trust c.reach_thread.result (c.reach_thread.ensures.gentle space) c.reach_thread.ensures.reached c.reach_thread.ensures.walked c.in_err-space.field-0.0 c.from_residual.result c.in_err-space.was (p.1 ∙ ap (λ (x : Refused). Err x) p.2)
+
+pub returns-in-Trap-clause-fills : goal.returns-in-Trap-clause-fills
+returns-in-Trap-clause-fills g c = λ space vpn page. absurd (let clash : None ≡ Some vpn = sym (ap page_of c.in-Trap.is) ∙ page in cc)
+
+pub returns-in-Trap-clause-confirms : goal.returns-in-Trap-clause-confirms
+returns-in-Trap-clause-confirms g c = λ space vpn page. absurd (let clash : None ≡ Some vpn = sym (ap page_of c.in-Trap.is) ∙ page in cc)
+
+pub returns-in-Fault-clause-fills : goal.returns-in-Fault-clause-fills
+returns-in-Fault-clause-fills g c = λ space vpn page.
+    let same = same_Some (record { 0 = c.in-Fault.va / 4096 }) vpn (sym (ap page_of c.in-Fault.is) ∙ page) in
+    found_filled (g.P.Port.board c.args.port.now) (g.P.Port.board c.reach_thread.new.port) c.args.owners.now c.reach_thread.new.owners c.args.thread space vpn c.args.trust c.reach_thread.result (c.reach_thread.ensures.gentle space) c.reach_thread.ensures.reached c.reach_thread.ensures.walked c.in_ok-space.space c.in_ok-space.was c.in_ok-space.ensures.learnt (g.P.Port.board c.fill.new.port) c.fill.result (subst (λ (v : Vpn). OnTold (g.P.Port.board c.reach_thread.new.port) (g.P.Port.board c.fill.new.port) (Fills c.in_ok-space.space v c.args.trust c.reach_thread.new.owners c.fill.result)) same c.fill.ensures.fills)
+
+pub returns-in-Fault-clause-confirms : goal.returns-in-Fault-clause-confirms
+returns-in-Fault-clause-confirms g c = λ space vpn page.
+    let same = same_Some (record { 0 = c.in-Fault.va / 4096 }) vpn (sym (ap page_of c.in-Fault.is) ∙ page) in
+    found_confirmed (g.P.Port.board c.args.port.now) (g.P.Port.board c.reach_thread.new.port) c.args.owners.now c.reach_thread.new.owners c.args.thread space vpn c.args.trust c.reach_thread.result (c.reach_thread.ensures.gentle space) c.reach_thread.ensures.reached c.reach_thread.ensures.walked c.in_ok-space.space c.in_ok-space.was c.in_ok-space.ensures.learnt (g.P.Port.board c.fill.new.port) c.fill.result c.fill.new.owners (subst (λ (v : Vpn). OnTold (g.P.Port.board c.reach_thread.new.port) (g.P.Port.board c.fill.new.port) (ConfirmsIn c.in_ok-space.space c.args.thread v c.args.trust c.reach_thread.new.owners c.fill.new.owners c.fill.result)) same c.fill.ensures.confirms)

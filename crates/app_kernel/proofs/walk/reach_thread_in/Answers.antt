@@ -1,6 +1,8 @@
 use Rattle.std.proofs.Common.{refl}
 use Rattle.app_kernel.proofs.ReachLaws.{here_away, thread_passed, thread_reached, up_away}
 use Rattle.app_kernel.proofs.WalkLaws.{thread_taken, walked_on}
+use Rattle.app_kernel.proofs.GentleCalls.{gentle_here, thread_gentle}
+use Rattle.app_kernel.proofs.GentleLaws.{gentle_on}
 use Rattle.app_kernel.proofs.walk.reach_thread_in.Goals as goal
 
 pub returns-in_err-kernel-clause-reached : goal.returns-in_err-kernel-clause-reached
@@ -38,3 +40,18 @@ returns-clause-reached g c =
     c.load_thread-answer.ensures.call
     (thread_taken (g.P.Port.board c.reach_space.new.port) (g.P.Port.board c.load_thread-answer.new.self) c.load_thread-answer.result c.reach_space.new.owners c.take.new.owners c.take.result c.in_ok-kernel.kernel c.in_ok-parent.parent c.args.thread c.load_thread-answer.ensures.call c.take.ensures.noted c.take.ensures.taken c.take.ensures.same)
     (record { noted = c.take.ensures.noted; taken = c.take.ensures.taken; same = c.take.ensures.same; failed = c.take.ensures.failed })
+
+pub returns-in-Some-clause-gentle : goal.returns-in-Some-clause-gentle
+returns-in-Some-clause-gentle g c = gentle_here c.args.space (g.P.Port.board c.args.port.now) c.args.owners.now
+
+pub returns-in_err-parent-clause-gentle : goal.returns-in_err-parent-clause-gentle
+returns-in_err-parent-clause-gentle g c =
+    gentle_on c.args.space (g.P.Port.board c.args.port.now) (g.P.Port.board c.reach_kernel_of.new.port) (g.P.Port.board c.reach_space.new.port) c.args.owners.now c.reach_kernel_of.new.owners c.reach_space.new.owners c.reach_kernel_of.ensures.gentle c.reach_space.ensures.gentle
+
+pub returns-clause-gentle : goal.returns-clause-gentle
+returns-clause-gentle g c =
+    gentle_on c.args.space (g.P.Port.board c.args.port.now) (g.P.Port.board c.reach_space.new.port) (g.P.Port.board c.load_thread-answer.new.self) c.args.owners.now c.reach_space.new.owners c.take.new.owners
+    (gentle_on c.args.space (g.P.Port.board c.args.port.now) (g.P.Port.board c.reach_kernel_of.new.port) (g.P.Port.board c.reach_space.new.port) c.args.owners.now c.reach_kernel_of.new.owners c.reach_space.new.owners c.reach_kernel_of.ensures.gentle c.reach_space.ensures.gentle)
+    (thread_gentle (g.P.Port.board c.reach_space.new.port) (g.P.Port.board c.load_thread-answer.new.self) c.reach_space.new.owners c.take.new.owners c.load_thread-answer.result c.args.space
+    (thread_taken (g.P.Port.board c.reach_space.new.port) (g.P.Port.board c.load_thread-answer.new.self) c.load_thread-answer.result c.reach_space.new.owners c.take.new.owners c.take.result c.in_ok-kernel.kernel c.in_ok-parent.parent c.args.thread c.load_thread-answer.ensures.call c.take.ensures.noted c.take.ensures.taken c.take.ensures.same)
+    c.in_ok-kernel.kernel c.in_ok-parent.parent c.args.thread c.in_ok-parent.ensures.noted c.load_thread-answer.ensures.call)

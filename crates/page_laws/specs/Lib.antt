@@ -1,0 +1,2 @@
+pub use Rattle.reach_laws
+pub mod Keeping
