@@ -12,9 +12,6 @@ use std::alloc::{AllocError, Global};
 pub const PLAIN: &str =
     "mem 1\nkernel 0\nright 0 0 rw\nspace 0 0\nthread 0 0 0\nmap 0 0 0 x\nword 0 0 00100893 04800513 00000073 00000893 00000513 00000073\nend\n";
 
-/// A thread in a space without a row.
-pub const ROWLESS: &str = "mem 1\nkernel 0\nright 0 0 rw\nspace 0 0\nthread 0 0 0x4000\nend\n";
-
 /// A thread that fetches from where there is no row, of two kernels' spaces; and a row beyond its kernel's rights.
 pub const BARE: &str =
     "mem 1\nkernel 0\nkernel 1\nright 0 0 rw\nspace 0 0\nspace 1 1\nthread 0 0 0x4000\nthread 1 1 0\nmap 1 0 0 x\nend\n";
