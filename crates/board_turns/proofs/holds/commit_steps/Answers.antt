@@ -10,7 +10,7 @@ few c = elim c.in-Err-Over.ensures.refused.why [
 ]
 
 pub overflow_cast-result : goal.overflow_cast-result
-overflow_cast-result c = rw c.in-Err-Over.field-0-is (let left = few c in omega (arith, left, c.steps-steps.ensures.steps, c.steps-steps.type_inv))
+overflow_cast-result c = let left = few c in omega (arith, left, c.steps-steps.ensures.steps, c.steps-steps.type_inv)
 
 pub returns-in-Err-Over-clause-fewer : goal.returns-in-Err-Over-clause-fewer
-returns-in-Err-Over-clause-fewer c = rw c.in-Err-Over.field-0-is (few c)
+returns-in-Err-Over-clause-fewer c = few c
