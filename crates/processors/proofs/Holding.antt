@@ -13,7 +13,7 @@ use Rattle.alone_run.specs.board_turns.specs.board_core.specs.Going.{IsOneEvent}
 use Rattle.alone_run.specs.board_turns.specs.cache_board.specs.Events.{author_of, past_of}
 use Rattle.alone_run.specs.board_turns.specs.cache_board.specs.Pasts.{entries_of}
 use Rattle.alone_run.specs.board_turns.specs.cache_board.proofs.PastLaws.{begins_further, event_added, found_begins, nothing_added, past_entries}
-use Rattle.alone_run.specs.board_turns.specs.owner_ports.specs.declared.port.Heard.{Heard}
+use Rattle.alone_run.specs.board_turns.specs.app_kernel.specs.owner_ports.specs.declared.port.Heard.{Heard}
 use Rattle.processors.specs.Sharing.{end_by, first_by, seen_by, SeesMore, Sharer, Stands}
 
 abbrev Past : Type 0

@@ -11,7 +11,7 @@ use Rattle.alone_run.specs.board_turns.specs.board_core.specs.Core.{IsSound, Rec
 use Rattle.alone_run.specs.board_turns.specs.cache_board.specs.Events.{past_of}
 use Rattle.alone_run.specs.board_turns.specs.cache_board.specs.Pasts.{entries_of}
 use Rattle.alone_run.specs.board_turns.specs.cache_board.proofs.PastLaws.{kept_on, views_on}
-use Rattle.alone_run.specs.board_turns.specs.board_threads.specs.declared.tickets.Ticket.{Ticket}
+use Rattle.alone_run.specs.board_turns.specs.board_commits.specs.board_threads.specs.declared.tickets.Ticket.{Ticket}
 use Rattle.alone_run.specs.board_turns.specs.declared.found.Found.{Found}
 use Rattle.alone_run.specs.board_turns.specs.Looks.{IsFound}
 use Rattle.alone_run.specs.board_turns.proofs.Looking.{so_found}
