@@ -1,0 +1,16 @@
+use Rattle.paged_run.proofs.Trapped.{trapped_completion}
+use Rattle.paged_run.proofs.Fitting.{completed_memory, completed_one}
+use Rattle.paged_run.proofs.turns.complete.Goals as goal
+
+pub returns-clause-goes : goal.returns-clause-goes
+returns-clause-goes c = λ pages held m means.
+    let call = c.requires in
+    (m, means, completed_one c.args.tables.now c.complete.new.tables m c.args.no call.thread c.args.journal.now.entries c.push.new.self.entries call.there call.completable c.in_ok-complete.ensures.ok c.in_ok-push.ensures.ok)
+
+pub returns-clause-calls : goal.returns-clause-calls
+returns-clause-calls c =
+    let call = c.requires in
+    rw c.in_ok-complete.ensures.ok (trapped_completion c.args.tables.now c.args.no.0 call.thread call.there call.completable)
+
+pub returns-clause-memory : goal.returns-clause-memory
+returns-clause-memory c = completed_memory c.args.tables.now c.complete.new.tables c.args.no.0 c.in_ok-complete.ensures.ok
