@@ -26,13 +26,13 @@ use Rattle.owners.specs.Known.{ident_of, receiver_of, IsNoted, Known}
 use Rattle.owner_ports.specs.Boards.{IsRoomyCall, OnTold}
 use Rattle.page_laws.proofs.Kept.{keeps_further, keeps_room}
 use Rattle.page_laws.proofs.Filled.{nothing_noted, reached_after_row}
-use Rattle.reach_laws.specs.answer_laws.specs.Given.{IsGiven}
-use Rattle.reach_laws.specs.Filling.{IsElse, IsFillable, IsNothingToLoad, IsUnfillable}
-use Rattle.reach_laws.specs.Reaching.{kernel_ident, loaded_as, IsGot, IsLoadAnswer, IsOwned, IsReached}
-use Rattle.reach_laws.proofs.Filling.{another_told, noted_loads, noted_waits, nothing_told, right_or_told, row_filled, IsAnother, IsRight}
-use Rattle.reach_laws.proofs.Keeping.{live_still}
-use Rattle.reach_laws.proofs.Owning.{reached_noted, receiver_known, spaces_known}
-use Rattle.reach_laws.proofs.Telling.{space_noted, told_loaded}
+use Rattle.page_laws.specs.reach_laws.specs.answer_laws.specs.Given.{IsGiven}
+use Rattle.page_laws.specs.reach_laws.specs.Filling.{IsElse, IsFillable, IsNothingToLoad, IsUnfillable}
+use Rattle.page_laws.specs.reach_laws.specs.Reaching.{kernel_ident, loaded_as, IsGot, IsLoadAnswer, IsOwned, IsReached}
+use Rattle.page_laws.specs.reach_laws.proofs.Filling.{another_told, noted_loads, noted_waits, nothing_told, right_or_told, row_filled, IsAnother, IsRight}
+use Rattle.page_laws.specs.reach_laws.proofs.Keeping.{live_still}
+use Rattle.page_laws.specs.reach_laws.proofs.Owning.{reached_noted, receiver_known, spaces_known}
+use Rattle.page_laws.specs.reach_laws.proofs.Telling.{space_noted, told_loaded}
 use Rattle.app_kernel.specs.declared.walk.Trust.{Trust}
 use Rattle.app_kernel.specs.declared.walk.Trust.TheVariants.{Nothing}
 use Rattle.app_kernel.specs.Pages.{AreGentle, AskFills, AskIsVain, IsAnotherTold, IsAnswered, IsAskedInVain, IsAskedToFill, IsBelieved, IsFilling, IsGentle, IsReceiverGot, IsRefusedSo}

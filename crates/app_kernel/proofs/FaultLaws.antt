@@ -31,12 +31,12 @@ use Rattle.owner_ports.specs.Boards.{OnTold}
 use Rattle.owners.specs.Known.{ident_of, space_of, Known}
 use Rattle.owners.specs.Owning.{IsThreadOf}
 use Rattle.page_laws.proofs.Filled.{fetched_space}
-use Rattle.reach_laws.specs.owner_laws.proofs.Naming.{names_it}
-use Rattle.reach_laws.specs.Filling.{IsElse, IsFillable, IsNothingToLoad, IsUnfillable}
-use Rattle.reach_laws.specs.Reaching.{kernel_ident, IsOwned, IsReached}
-use Rattle.reach_laws.proofs.Calling.{confirms}
-use Rattle.reach_laws.proofs.Owning.{space_known, spaces_known}
-use Rattle.reach_laws.proofs.Telling.{told_mapped}
+use Rattle.page_laws.specs.reach_laws.specs.owner_laws.proofs.Naming.{names_it}
+use Rattle.page_laws.specs.reach_laws.specs.Filling.{IsElse, IsFillable, IsNothingToLoad, IsUnfillable}
+use Rattle.page_laws.specs.reach_laws.specs.Reaching.{kernel_ident, IsOwned, IsReached}
+use Rattle.page_laws.specs.reach_laws.proofs.Calling.{confirms}
+use Rattle.page_laws.specs.reach_laws.proofs.Owning.{space_known, spaces_known}
+use Rattle.page_laws.specs.reach_laws.proofs.Telling.{told_mapped}
 use Rattle.app_kernel.specs.declared.serving.Served.{Served}
 use Rattle.app_kernel.specs.declared.serving.Served.TheVariants as served
 use Rattle.app_kernel.specs.declared.walk.Trust.{Trust}

@@ -12,10 +12,10 @@ use Rattle.board_core.specs.Core.{Recorded}
 use Rattle.owners.specs.Known.{space_of, Known}
 use Rattle.owners.specs.Owning.{IsThreadOf}
 use Rattle.owner_ports.specs.Boards.{OnTold}
-use Rattle.reach_laws.specs.Reaching.{IsOwned}
-use Rattle.reach_laws.specs.Searching.{space_told, IsNearer}
-use Rattle.reach_laws.proofs.Owning.{space_known, spaces_known}
-use Rattle.reach_laws.proofs.Showing.{a_first_one, space_there}
+use Rattle.page_laws.specs.reach_laws.specs.Reaching.{IsOwned}
+use Rattle.page_laws.specs.reach_laws.specs.Searching.{space_told, IsNearer}
+use Rattle.page_laws.specs.reach_laws.proofs.Owning.{space_known, spaces_known}
+use Rattle.page_laws.specs.reach_laws.proofs.Showing.{a_first_one, space_there}
 use Rattle.app_kernel.specs.declared.walk.Trust.{Trust}
 use Rattle.app_kernel.specs.declared.walk.Trust.TheVariants.{Nothing}
 use Rattle.app_kernel.specs.Walks.{AreBothGot, AreWalked, BothReach, Finds, IsFound, IsSpaceTried, IsTurnedAway, IsWalked, SpaceTries}

@@ -19,10 +19,10 @@ use Rattle.owners.specs.Known.{ident_of, space_of, IsSpaceLearnt, Known}
 use Rattle.owners.specs.Owning.{IsThreadOf}
 use Rattle.owner_ports.specs.Boards.{OnTold}
 use Rattle.page_laws.proofs.Kept.{keeps_kernel, keeps_same, keeps_space, keeps_thread}
-use Rattle.reach_laws.specs.Reaching.{IsOwned}
-use Rattle.reach_laws.specs.Searching.{space_told}
-use Rattle.reach_laws.proofs.Owning.{space_known, spaces_known}
-use Rattle.reach_laws.proofs.Showing.{space_there}
+use Rattle.page_laws.specs.reach_laws.specs.Reaching.{IsOwned}
+use Rattle.page_laws.specs.reach_laws.specs.Searching.{space_told}
+use Rattle.page_laws.specs.reach_laws.proofs.Owning.{space_known, spaces_known}
+use Rattle.page_laws.specs.reach_laws.proofs.Showing.{space_there}
 use Rattle.app_kernel.specs.declared.walk.Trust.{Trust}
 use Rattle.app_kernel.specs.declared.walk.Trust.TheVariants.{Noted, Nothing}
 use Rattle.app_kernel.specs.Pages.{AreGentle, IsGentle}

@@ -12,8 +12,8 @@ use Rattle.board_core.specs.cached_machine.specs.Posts.{mark_of}
 use Rattle.board_core.specs.Core.{contents_of, Recorded}
 use Rattle.owner_ports.specs.Boards.{IsCall}
 use Rattle.owners.specs.Known.{Known}
-use Rattle.reach_laws.specs.Filling.{IsFillable, IsUnfillable}
-use Rattle.reach_laws.specs.Reaching.{IsOwned}
+use Rattle.page_laws.specs.reach_laws.specs.Filling.{IsFillable, IsUnfillable}
+use Rattle.page_laws.specs.reach_laws.specs.Reaching.{IsOwned}
 use Rattle.page_laws.proofs.Kept.{keeps_further, keeps_room}
 use Rattle.page_laws.proofs.Filled.{fillable_kept, unfillable_kept}
 use Rattle.app_kernel.specs.Pages.{AreGentle, IsFaulted, IsGentle}

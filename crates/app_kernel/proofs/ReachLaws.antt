@@ -22,14 +22,14 @@ use Rattle.board_loads.specs.Loads.{IsLoadedAs}
 use Rattle.owners.specs.Known.{ident_of, IsNoted, IsSpaceLearnt, Known}
 use Rattle.owners.specs.Owning.{IsThreadOf}
 use Rattle.board_core.specs.Answers.{IsRefused}
-use Rattle.reach_laws.specs.owner_laws.specs.Passing.{Passes}
-use Rattle.reach_laws.specs.owner_laws.proofs.Spaces.{is_of_space}
+use Rattle.page_laws.specs.reach_laws.specs.owner_laws.specs.Passing.{Passes}
+use Rattle.page_laws.specs.reach_laws.specs.owner_laws.proofs.Spaces.{is_of_space}
 use Rattle.owner_ports.specs.Boards.{IsRoomyCall, OnTold}
-use Rattle.reach_laws.specs.Reaching.{kernel_ident, loaded_as, IsGot, IsLoadAnswer, IsOwned, IsReached}
-use Rattle.reach_laws.specs.Searching.{space_told, IsNearer}
-use Rattle.reach_laws.proofs.Loading.{kernel_got, space_got, space_is, space_is_told, thread_got}
-use Rattle.reach_laws.proofs.Owning.{first_live, owned_learnt, reached_learnt, reached_noted, spaces_known}
-use Rattle.reach_laws.proofs.Showing.{kernel_there, shows, space_there}
+use Rattle.page_laws.specs.reach_laws.specs.Reaching.{kernel_ident, loaded_as, IsGot, IsLoadAnswer, IsOwned, IsReached}
+use Rattle.page_laws.specs.reach_laws.specs.Searching.{space_told, IsNearer}
+use Rattle.page_laws.specs.reach_laws.proofs.Loading.{kernel_got, space_got, space_is, space_is_told, thread_got}
+use Rattle.page_laws.specs.reach_laws.proofs.Owning.{first_live, owned_learnt, reached_learnt, reached_noted, spaces_known}
+use Rattle.page_laws.specs.reach_laws.proofs.Showing.{kernel_there, shows, space_there}
 use Rattle.app_kernel.specs.declared.walk.Trust.{Trust}
 use Rattle.app_kernel.specs.declared.walk.Trust.TheVariants.{Nothing}
 use Rattle.app_kernel.specs.Walks.{AreBothGot, AreWalked, BothReach, IsHad, IsKernelGot, IsSpaceGot, IsThreadGot, IsThreadReached, IsTurnedAway, IsWalked, KernelReaches, SpaceReaches, ThreadPasses, ThreadReaches}

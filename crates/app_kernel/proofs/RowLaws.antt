@@ -17,10 +17,10 @@ use Rattle.board_core.specs.cached_machine.specs.Cached.{state_of}
 use Rattle.board_core.specs.Core.{Recorded}
 use Rattle.owner_ports.specs.Boards.{OnTold}
 use Rattle.owners.specs.Known.{receiver_of, IsReceiverLearnt, Known}
-use Rattle.reach_laws.specs.owner_laws.specs.Passing.{thread_named}
-use Rattle.reach_laws.specs.Filling.{IsNothingToLoad}
-use Rattle.reach_laws.specs.Reaching.{IsOwned, IsReached}
-use Rattle.reach_laws.proofs.Owning.{reached_learnt}
+use Rattle.page_laws.specs.reach_laws.specs.owner_laws.specs.Passing.{thread_named}
+use Rattle.page_laws.specs.reach_laws.specs.Filling.{IsNothingToLoad}
+use Rattle.page_laws.specs.reach_laws.specs.Reaching.{IsOwned, IsReached}
+use Rattle.page_laws.specs.reach_laws.proofs.Owning.{reached_learnt}
 use Rattle.app_kernel.specs.declared.walk.Trust.{Trust}
 use Rattle.app_kernel.specs.Pages.{AskFills, AskIsVain, IsAnotherTold, IsAnswered, IsBelieved, IsFilledIn, IsFilling, IsNoneMissing, IsPassedOn, IsRefusedSo, IsVain, RowFills, RowIsVain}
 use Rattle.app_kernel.specs.Walks.{AreWalked, IsWalked}

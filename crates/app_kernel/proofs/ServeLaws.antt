@@ -36,11 +36,11 @@ use Rattle.board_threads.specs.Faults.{HasEnded}
 use Rattle.board_threads.specs.Refusals.{refusal_of_fault}
 use Rattle.owners.specs.Known.{ident_of, Known}
 use Rattle.owners.specs.Owning.{AreOwnersOf, IsThreadOf}
-use Rattle.reach_laws.specs.owner_laws.proofs.Naming.{names_it}
+use Rattle.page_laws.specs.reach_laws.specs.owner_laws.proofs.Naming.{names_it}
 use Rattle.owner_ports.specs.Boards.{IsCall, IsRoomyCall, OnTold}
-use Rattle.reach_laws.specs.Reaching.{kernel_ident, IsOwned}
-use Rattle.reach_laws.proofs.Calling.{completes, completion_steps, has_ended}
-use Rattle.reach_laws.proofs.Owning.{spaces_known, still_owned}
+use Rattle.page_laws.specs.reach_laws.specs.Reaching.{kernel_ident, IsOwned}
+use Rattle.page_laws.specs.reach_laws.proofs.Calling.{completes, completion_steps, has_ended}
+use Rattle.page_laws.specs.reach_laws.proofs.Owning.{spaces_known, still_owned}
 use Rattle.app_kernel.specs.declared.serving.Served.{Served}
 use Rattle.app_kernel.specs.declared.serving.Served.TheVariants as served
 use Rattle.app_kernel.specs.Serving.{Finishes, FinishesAt, Helps, IsCallCompleted, IsEnded, IsHelped, IsInCall, IsToldOf, Serves}

@@ -15,8 +15,8 @@ use Rattle.board_core.specs.board_ops.specs.declared.refusals.Refused.TheVariant
 use Rattle.board_core.specs.Core.{Recorded}
 use Rattle.owner_ports.specs.Boards.{OnTold}
 use Rattle.owners.specs.Known.{space_of, Known}
-use Rattle.reach_laws.specs.Filling.{IsFillable, IsUnfillable}
-use Rattle.reach_laws.specs.Reaching.{IsOwned}
+use Rattle.page_laws.specs.reach_laws.specs.Filling.{IsFillable, IsUnfillable}
+use Rattle.page_laws.specs.reach_laws.specs.Reaching.{IsOwned}
 use Rattle.app_kernel.specs.declared.serving.Served.{Served}
 use Rattle.app_kernel.specs.declared.serving.Served.TheVariants as served
 use Rattle.app_kernel.specs.Pages.{IsFaulted, TryConfirms, TryFills}

@@ -26,17 +26,17 @@ use Rattle.board_loads.specs.Loads.{IsLoadedAs}
 use Rattle.owners.specs.Known.{ident_of, IsNoted, IsReceiverLearnt, Known}
 use Rattle.owners.specs.Owning.{IsThreadOf, WasLoadedAs}
 use Rattle.owners.proofs.Learning.{noted_so}
-use Rattle.reach_laws.specs.owner_laws.specs.Passing.{thread_named}
-use Rattle.reach_laws.specs.owner_laws.proofs.Naming.{was_given, was_loaded}
-use Rattle.reach_laws.specs.owner_laws.proofs.Receivers.{is_receiver}
-use Rattle.reach_laws.specs.owner_laws.proofs.Spaces.{stands_for}
-use Rattle.reach_laws.specs.owner_laws.proofs.Tests.{both_pass}
+use Rattle.page_laws.specs.reach_laws.specs.owner_laws.specs.Passing.{thread_named}
+use Rattle.page_laws.specs.reach_laws.specs.owner_laws.proofs.Naming.{was_given, was_loaded}
+use Rattle.page_laws.specs.reach_laws.specs.owner_laws.proofs.Receivers.{is_receiver}
+use Rattle.page_laws.specs.reach_laws.specs.owner_laws.proofs.Spaces.{stands_for}
+use Rattle.page_laws.specs.reach_laws.specs.owner_laws.proofs.Tests.{both_pass}
 use Rattle.owner_ports.specs.Boards.{IsCall, IsRoomyCall, OnTold}
-use Rattle.reach_laws.specs.Reaching.{loaded_as, IsOwned}
-use Rattle.reach_laws.proofs.Keeping.{steps_stay}
-use Rattle.reach_laws.proofs.Owning.{owned_receiver, still_owned}
-use Rattle.reach_laws.proofs.Showing.{shows}
-use Rattle.reach_laws.proofs.Telling.{told_loaded}
+use Rattle.page_laws.specs.reach_laws.specs.Reaching.{loaded_as, IsOwned}
+use Rattle.page_laws.specs.reach_laws.proofs.Keeping.{steps_stay}
+use Rattle.page_laws.specs.reach_laws.proofs.Owning.{owned_receiver, still_owned}
+use Rattle.page_laws.specs.reach_laws.proofs.Showing.{shows}
+use Rattle.page_laws.specs.reach_laws.proofs.Telling.{told_loaded}
 use Rattle.app_kernel.specs.Walks.{AreWalked, IsLearntSo, IsNotedSo, IsReceiverTold, IsWalked}
 use Rattle.app_kernel.proofs.Changes.{told_both, told_once, told_twice}
 use Rattle.app_kernel.proofs.ToldLoaded.{kernel_told, space_told, thread_told}

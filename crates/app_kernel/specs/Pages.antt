@@ -24,11 +24,11 @@ use Rattle.board_core.specs.cached_machine.specs.Cached.{state_of}
 use Rattle.board_core.specs.cached_machine.specs.Posts.{mark_of}
 use Rattle.board_core.specs.Core.{contents_of, Recorded}
 use Rattle.owner_ports.specs.Boards.{OnTold}
-use Rattle.reach_laws.specs.answer_laws.specs.Given.{IsGiven}
+use Rattle.page_laws.specs.reach_laws.specs.answer_laws.specs.Given.{IsGiven}
 use Rattle.owners.specs.Known.{receiver_of, space_of, Known}
 use Rattle.page_laws.specs.Keeping.{KeepsRows}
-use Rattle.reach_laws.specs.Filling.{IsElse, IsFillable, IsNothingToLoad, IsUnfillable}
-use Rattle.reach_laws.specs.Reaching.{IsOwned, IsPlainLoaded, IsReached}
+use Rattle.page_laws.specs.reach_laws.specs.Filling.{IsElse, IsFillable, IsNothingToLoad, IsUnfillable}
+use Rattle.page_laws.specs.reach_laws.specs.Reaching.{IsOwned, IsPlainLoaded, IsReached}
 use Rattle.app_kernel.specs.declared.serving.Served.{Served}
 use Rattle.app_kernel.specs.declared.serving.Served.TheVariants as served
 use Rattle.app_kernel.specs.declared.walk.Trust.{Trust}

@@ -21,8 +21,8 @@ use Rattle.board_core.specs.Core.{IsSound, Recorded}
 use Rattle.owner_ports.specs.Boards.{status_in}
 use Rattle.owners.specs.Known.{space_of, Known}
 use Rattle.owners.specs.Owning.{AreOwnersOf, IsThreadOf}
-use Rattle.reach_laws.specs.Filling.{IsFillable, IsUnfillable}
-use Rattle.reach_laws.specs.Reaching.{IsOwned}
+use Rattle.page_laws.specs.reach_laws.specs.Filling.{IsFillable, IsUnfillable}
+use Rattle.page_laws.specs.reach_laws.specs.Reaching.{IsOwned}
 use Rattle.app_kernel.specs.declared.serving.Served.{Served}
 use Rattle.app_kernel.specs.declared.serving.Served.TheVariants as served
 use Rattle.app_kernel.specs.Pages.{IsConfirmed, IsFaulted, IsFilled}

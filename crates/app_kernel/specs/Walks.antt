@@ -16,9 +16,9 @@ use Rattle.board_core.specs.Core.{contents_of, Recorded}
 use Rattle.owner_ports.specs.Boards.{OnTold}
 use Rattle.owners.specs.Known.{ident_of, IsNoted, IsReceiverLearnt, Known}
 use Rattle.owners.specs.Owning.{IsThreadOf}
-use Rattle.reach_laws.specs.owner_laws.specs.Passing.{thread_named}
-use Rattle.reach_laws.specs.Reaching.{kernel_ident, IsOwned, IsReached}
-use Rattle.reach_laws.specs.Searching.{space_told, IsNearer}
+use Rattle.page_laws.specs.reach_laws.specs.owner_laws.specs.Passing.{thread_named}
+use Rattle.page_laws.specs.reach_laws.specs.Reaching.{kernel_ident, IsOwned, IsReached}
+use Rattle.page_laws.specs.reach_laws.specs.Searching.{space_told, IsNearer}
 use Rattle.app_kernel.specs.declared.walk.Trust.{Trust}
 use Rattle.app_kernel.specs.declared.walk.Trust.TheVariants.{Noted, Nothing}
 

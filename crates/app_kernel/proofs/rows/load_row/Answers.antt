@@ -4,7 +4,7 @@ use Rattle.std.proofs.lemmas.Result.{err_from_is_err_and}
 use Rattle.cache_ident.specs.declared.idents.Ident.{Ident}
 use Rattle.board_core.specs.board_ops.specs.declared.refusals.Refused.{Refused}
 use Rattle.owner_ports.specs.Boards.{OnTold}
-use Rattle.reach_laws.specs.Reaching.{IsOwned}
+use Rattle.page_laws.specs.reach_laws.specs.Reaching.{IsOwned}
 use Rattle.app_kernel.specs.Walks.{AreWalked, IsLearntSo, IsReceiverTold}
 use Rattle.app_kernel.proofs.RowLaws.{fills_again, fills_once, fills_unasked, fills_unlearnt, no_other, none_told, vain_again, vain_once, vain_unasked, vain_unlearnt}
 use Rattle.app_kernel.proofs.WalkLaws.{err_at, ok_at, told_learnt, walked_on}
