@@ -4,8 +4,6 @@
 
 #[cfg(test)]
 mod bound_tests;
-#[cfg(test)]
-mod calling_tests;
 pub mod scenes;
 #[cfg(test)]
 mod serving_tests;

@@ -4,16 +4,13 @@ use app_kernel::{Alone, Board, Notice, Owners, Served, serve};
 use board_opening::board_of;
 use cache_ident::{Ident, Kind, Name, NoMemory, SpaceNo, ThreadNo, Vpn};
 use journal_text::print;
-use rv32_exec::{Access, Reason, Status};
+use rv32_exec::Access;
 use scenario_reader::read_opening;
 use std::alloc::{AllocError, Global};
 
 /// A thread whose code puts a byte out and ends.
 pub const PLAIN: &str =
     "mem 1\nkernel 0\nright 0 0 rw\nspace 0 0\nthread 0 0 0\nmap 0 0 0 x\nword 0 0 00100893 04800513 00000073 00000893 00000513 00000073\nend\n";
-
-/// A thread in a space without a row.
-pub const ROWLESS: &str = "mem 1\nkernel 0\nright 0 0 rw\nspace 0 0\nthread 0 0 0x4000\nend\n";
 
 /// A thread that fetches from where there is no row, of two kernels' spaces; and a row beyond its kernel's rights.
 pub const BARE: &str =
@@ -26,10 +23,6 @@ pub const MESSAGES: &str =
 /// A thread of the first of kernel 1's spaces asks for a thread that puts a byte out and ends.
 pub const SPAWNING: &str =
     "mem 1\nkernel 0\nkernel 1\nright 1 0 rw\nspace 0 0\nspace 1 1\nspace 2 1\nthread 0 1 0\nmap 1 0 0 x\ncode 0 0\naddi a0, zero, 28\naddi a1, zero, 65\naddi a2, zero, 0\naddi a7, zero, 8\necall\naddi a7, zero, 0\necall\naddi a7, zero, 1\necall\naddi a7, zero, 0\necall\nendcode\nend\n";
-
-/// A thread asks for one that puts a byte out and ends with it as its code, and ends.
-pub const MADE: &str =
-    "mem 1\nkernel 0\nright 0 0 rw\nspace 0 0\nthread 0 0 0\nmap 0 0 0 x\ncode 0 0\naddi a0, zero, 28\naddi a1, zero, 65\naddi a2, zero, 0\naddi a7, zero, 8\necall\naddi a7, zero, 0\necall\naddi a7, zero, 1\necall\naddi a7, zero, 0\necall\nendcode\nend\n";
 
 /// A board and its owners.
 #[derive(Drop)]
@@ -75,12 +68,6 @@ impl Scene {
             }
         }
         true
-    }
-
-    /// Has the thread ended for this reason?
-    pub fn has_ended(&self, thread: u32, reason: Reason) -> bool {
-        let record = self.board.flat_thread(ThreadNo(thread));
-        record.is_some_and(|record| record.status == Status::Ended(reason))
     }
 
     /// Does the text of the journal end with these lines?
