@@ -34,7 +34,6 @@ pub(crate) fn hold<'a, R: Wait>(
 }
 
 /// Looks for the next thread, unless as many steps were taken as the processor stops with.
-#[tactic(auto, using(crate::proofs::Seeing::so_of, crate::proofs::Seeing::so_over, alone_run::specs::board_turns::proofs::Looking::event_nothing))]
 pub(crate) fn look(board: &mut Board, cpu: u32, limit: u64, want_first: bool) -> Found
     requires processor { cpu < 8 }
     ensures so { IsSoOf cpu limit board.new.journal.entries result }
@@ -48,7 +47,6 @@ pub(crate) fn look(board: &mut Board, cpu: u32, limit: u64, want_first: bool) ->
 }
 
 // A look behind something else, if an order is given.
-#[tactic(auto, using(alone_run::specs::board_turns::proofs::Looking::event_nothing))]
 fn look_if(board: &mut Board, cpu: u32, limit: u64, want_first: Option<bool>) -> Option<Found>
     requires processor { cpu < 8 }
     ensures so { IfSome result (IsSoOf cpu limit board.new.journal.entries) }

@@ -17,13 +17,10 @@ returns-clause-continued g c =
     let seen = seen_still (seen_by at.pass) (seen_of c.release.result) (value_of held.result) held.ensures.begins c.release.ensures.seen in
     sees_more at.lock.now at.cpu at.pass c.release.result at.limit at.heard _ at.brought _ (c.release.ensures.range.1 ∙ held.ensures.range.1) seen c.args.self.now c.self.view_is
 
-pub page-requires : goal.page-requires
-page-requires g c =
+pub page-answer-requires-clause-kept : goal.page-answer-requires-clause-kept
+page-answer-requires-clause-kept g c =
     let at = c.self.inside in
-    record {
-      room = c.requires.room;
-      kept = kept_found (seen_by at.pass) c.args.self.now.seen (value_of c.hold-held.result) c.value.result.now c.args.quantum.now (ap (λ (it : Sharer). it.seen) c.self.view_is) c.value.ensures c.hold-held.ensures.begins c.requires.kept;
-    }
+    kept_found (seen_by at.pass) c.args.self.now.seen (value_of c.hold-held.result) c.value.result.now c.args.quantum.now (ap (λ (it : Sharer). it.seen) c.self.view_is) c.value.ensures c.hold-held.ensures.begins c.requires.kept
 
 pub returns-clause-views : goal.returns-clause-views
 returns-clause-views g c = λ views.
