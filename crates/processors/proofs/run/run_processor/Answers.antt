@@ -1,5 +1,6 @@
 use Rattle.std.proofs.Common.{◌≡◌, ◌≤◌, ℕ, List, sym, ◌∙◌, ap, subst}
 use mathlib.Core.List.{IsPrefix}
+use Rattle.turn_lock.specs.Passes.{seen_of}
 use Rattle.run_journal.specs.declared.entries.Entry.{Entry}
 use Rattle.run_journal.specs.Entries.{steps_in}
 use Rattle.alone_run.specs.board_turns.specs.cache_board.specs.Pasts.{entries_of}
@@ -21,7 +22,7 @@ returns-clause-range g c =
 pub returns-clause-begins : goal.returns-clause-begins
 returns-clause-begins g c =
     let old = subst (λ seen. IsPrefix seen c.take_turns-stop.new.port.seen) c.new-port.ensures.seen c.take_turns-stop.ensures.continued.seen in
-    subst (λ seen. IsPrefix _ seen) (sym c.into_pass-pass.ensures.seen) old
+    subst (λ seen. IsPrefix (seen_of c.args.pass) seen) (sym c.into_pass-pass.ensures.seen) old
 
 pub returns-clause-idle : goal.returns-clause-idle
 returns-clause-idle g c =
