@@ -1,5 +1,5 @@
 -- Which processor may come of one that shares a board.
-use Rattle.std.specs.Prelude.{◌≡◌, List, refl}
+use Rattle.std.specs.Prelude.{◌≡◌, refl}
 use Rattle.std.proofs.Common.{◌∙◌, sym}
 use mathlib.Core.List.{IsPrefix}
 use Rattle.alone_run.specs.board_turns.specs.cache_board.specs.Pasts.{entries_of}
