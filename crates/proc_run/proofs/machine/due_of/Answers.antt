@@ -11,5 +11,5 @@ returns-in-Whole-clause-due g c =
     let left = g.S.Source.bytes_left c.read_input.new.source in
     let bs = c.deref.result.now in
     let whole : IsWhole bytes left c.in-Whole.bytes.items = subst (IsInput bytes left) c.in-Whole.is c.in_ok-bytes.ensures.came in
-    let from = from_source o.mode o.seed bytes left bs c.requires (subst (IsWhole bytes left) (sym c.deref.ensures.value) whole) in
+    let from = from_source o.mode o.seed bytes left bs c.requires.reads (subst (IsWhole bytes left) (sym c.deref.ensures.value) whole) in
     IfOk-weaker c.due_for.result _ _ (λ d h. by_text o bytes left bs d.status d.kept d.text.items from h) c.due_for.ensures.due
