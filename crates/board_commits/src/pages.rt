@@ -27,8 +27,8 @@ use thread_cache::ThreadRec;
 /// carries a place in the quantum must be of this board's journal.
 ///
 /// It is refused where the ticket's identifier isn't live any more (`Unknown`, `Stale`), and where no row of that page is loaded
-/// (`NotLoaded`). It costs a search, and a copy of the page where the quantum doesn't keep it since its frame changed last. It
-/// takes no memory.
+/// (`NotLoaded`). It costs a search where the quantum never had the page through that row, and a copy of the page
+/// where it doesn't keep it since its frame changed last. It takes no memory.
 pub fn page(core: &Core, ticket: &Ticket, vpn: Vpn, quantum: &mut Quantum) -> Result<(), Refused>
     requires room { IsTrue (can_fill quantum.old.most quantum.old.views vpn) }
     requires kept { AreAllAsOf core.now.journal.entries quantum.old }
@@ -39,7 +39,8 @@ pub fn page(core: &Core, ticket: &Ticket, vpn: Vpn, quantum: &mut Quantum) -> Re
     ensures kept { AreAllAsOf core.now.journal.entries quantum.new }
 {
     let space = thread_of(core, ticket)?.space;
-    let Some(ident) = core.tables().resident(Name::Mapping(space, vpn)) else {
+    let near = quantum.near(vpn);
+    let Some(ident) = core.tables().resident_near(Name::Mapping(space, vpn), near) else {
         return Err(Refused::NotLoaded { vpn });
     };
     let row = row_loaded(core, space, vpn, ident);

@@ -4,6 +4,7 @@
 mod index;
 mod lines;
 mod page;
+mod rows;
 mod space;
 mod spots;
 mod table;

@@ -11,6 +11,7 @@ ghost use Rattle.page_views.specs.Views.{all_dated, can_fill as can_fill_def, da
 
 use crate::index::Index;
 use crate::page::{Origin, PageView};
+use crate::rows::LastRows;
 use crate::spots::Marked;
 use cache_ident::{Frame, Ident, NoMemory, Vpn};
 use flat_rules::wants;
@@ -38,6 +39,8 @@ pub struct PageViews {
     index: Index,
     // Views that are found without a search, and are marked already.
     marked: Marked,
+    // What rows the pages were last copied through.
+    rows: LastRows,
     pub(crate) decoded: DecodedWords,
 }
 
@@ -66,6 +69,7 @@ impl PageViews {
             most,
             index: Index::none(),
             marked: Marked::none(),
+            rows: LastRows::none(),
             decoded: DecodedWords::new(alloc)?,
         })
     }
@@ -109,6 +113,12 @@ impl PageViews {
         ensures { result ≡ can_fill_def self.now.most self.now.views vpn }
     {
         self.index.count < self.most && self.place(vpn).is_none()
+    }
+
+    /// An identifier that the row of a page may be loaded with: that of the row that a page of its line was last copied through. Any
+    /// may be answered, and whoever takes it looks which row it is. Constant time.
+    pub fn near(&self, vpn: Vpn) -> Option<Ident> {
+        self.rows.row(vpn)
     }
 
     /// Adds an untouched view of a page, copied from `bytes`. Where a view of its frame was touched, it holds what the
@@ -162,6 +172,7 @@ impl PageViews {
         reach(&mut self.views, self.index.count, self.most);
         fill_at(&mut self.views, self.index.count, origin, bytes, shared);
         self.index.add(&origin, shared);
+        self.rows.note(origin.vpn, origin.row);
     }
 
     /// Adds an untouched view of a page, where its place keeps the bytes of the frame as of the place `since` of a journal, or
@@ -185,6 +196,7 @@ impl PageViews {
         };
         recall_at(&mut self.views, self.index.count, origin);
         self.index.add(&origin, shared);
+        self.rows.note(vpn, row);
         true
     }
 

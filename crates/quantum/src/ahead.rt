@@ -89,6 +89,12 @@ impl Quantum {
         self.views.can_fill(vpn)
     }
 
+    /// An identifier that the row of a page may be loaded with: that of the row that a page of its line was last copied through. Any
+    /// may be answered, and whoever takes it looks which row it is. Constant time.
+    pub fn near(&self, vpn: Vpn) -> Option<Ident> {
+        self.views.near(vpn)
+    }
+
     /// Adds an untouched view of a page, copied from `bytes`. Where a view of its frame was touched, it holds what the
     /// first of these holds now. The bytes carry no place, and what was kept in the view's place is gone. All else stays.
     pub fn fill(&mut self, vpn: Vpn, frame: Frame, flags: Flags, row: Ident, bytes: &[u8])
