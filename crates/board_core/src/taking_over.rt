@@ -95,7 +95,8 @@ fn take_view(
 {
     machine.mark_near(space, view.vpn(), Some(view.row()), view.written());
     if !view.is_as_copied() {
-        machine.copy_in(view.frame(), view.present());
+        let (start, bytes) = view.changed();
+        machine.copy_part_in(view.frame(), start, bytes);
         put_stamp(stamps, Some(view.frame()), at);
     }
 }

@@ -91,7 +91,7 @@ fn look_if(board: &mut Board, want_first: Option<bool>) -> Option<Found>
 pub(crate) fn commit(
     board: &mut Board,
     ticket: &Ticket,
-    quantum: &Quantum,
+    quantum: &mut Quantum,
     want_first: Option<bool>,
 ) -> Result<Committed, NoMemory>
     requires own { ticket.now.cpu ≡ 0 }
@@ -105,7 +105,10 @@ pub(crate) fn commit(
     // Fewer steps are left than these where they are too many.
     let _steps = quantum.steps();
     match board.commit(ticket, quantum) {
-        Ok(_) => Ok(Committed::Taken(look_if(board, want_first))),
+        Ok(_) => {
+            quantum.happened(board.journal().len());
+            Ok(Committed::Taken(look_if(board, want_first)))
+        }
         Err(Refused::Over { left }) if left > 0 => Ok(Committed::TooMany(left as u32)),
         Err(refused) => {
             board.leave(ticket);

@@ -80,6 +80,11 @@ impl CachedMachine {
         self.tables.reserve(n)
     }
 
+    /// Writes bytes over a part of a frame.
+    pub fn copy_part_in(&mut self, frame: Frame, at: usize, bytes: &[u8]) {
+        self.memory.copy_part_in(frame, at, bytes);
+    }
+
     /// Puts 4,096 bytes over a frame that there is.
     pub fn copy_in(&mut self, frame: Frame, bytes: &[u8])
         requires frame { HasFrame self.old.memory frame }

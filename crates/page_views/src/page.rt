@@ -7,9 +7,10 @@ ghost use Rattle.std.specs.Option.{option_copied};
 ghost use Rattle.page_views.specs.Views.{mark_view, present_in};
 ghost use Rattle.page_views.specs.Origins.{viewed};
 
-use cache_ident::{Frame, Ident, Vpn};
+use cache_ident::{Frame, Ident, NoMemory, Vpn};
 use phys_groups::{Flags, PAGE_LENGTH};
 use rv32_exec::{Access, Width};
+use std::alloc::Global;
 use std::marker::Model;
 
 /// Where a copied page comes from: its number, its frame, and the flags and the identifier of the row that it was copied
@@ -29,14 +30,15 @@ pub(crate) struct Origin {
 /// no memory.
 #[derive(Drop)]
 pub struct PageView {
-    // They come first, so that a word is aligned.
-    present: [u8; PAGE_LENGTH],
-    first: [u8; PAGE_LENGTH],
+    // No bytes until something is first copied.
+    present: Vec<u8>,
+    first: Vec<u8>,
     origin: Origin,
     touched: bool,
     written: bool,
-    // Whether the first contents are kept apart. Where they aren't, the present ones are still these.
-    apart: bool,
+    // Where the present contents may differ from the first ones: from the one place on, before the other.
+    from: usize,
+    to: usize,
 }
 
 impl Model for PageView {
@@ -45,14 +47,12 @@ impl Model for PageView {
 
     ghost Value = { View };
 
-    ghost view = { λ v. record { vpn = v.origin.vpn; frame = v.origin.frame; flags = v.origin.flags; row = v.origin.row; first = if v.apart then v.first else v.present; present = v.present; touched = v.touched; written = v.written; taken = v.origin.taken } };
+    ghost view = { λ v. record { vpn = v.origin.vpn; frame = v.origin.frame; flags = v.origin.flags; row = v.origin.row; first = v.first.items; present = v.present.items; touched = v.touched; written = v.written; taken = v.origin.taken } };
 }
 
 impl PageView {
-    // A view of zeros, which nothing was copied to yet.
-    pub(crate) fn empty() -> PageView
-        ensures { result.taken ≡ None }
-    {
+    // A view of no bytes, which nothing was copied to yet.
+    pub(crate) fn empty(alloc: Global) -> Result<PageView, NoMemory> {
         let origin = Origin {
             vpn: Vpn(0),
             frame: Frame(0),
@@ -60,14 +60,15 @@ impl PageView {
             row: Ident::default(),
             taken: None,
         };
-        PageView {
-            present: [0; PAGE_LENGTH],
-            first: [0; PAGE_LENGTH],
+        Ok(PageView {
+            present: Vec::with_capacity(alloc, PAGE_LENGTH)?,
+            first: Vec::with_capacity(alloc, PAGE_LENGTH)?,
             origin,
             touched: false,
             written: false,
-            apart: false,
-        }
+            from: PAGE_LENGTH,
+            to: 0,
+        })
     }
 
     /// The page.
@@ -106,11 +107,7 @@ impl PageView {
         ensures bytes { result.now ≡ self.now.first }
         ensures whole_page { length result.now ≡ 4096 }
     {
-        if self.apart {
-            &self.first
-        } else {
-            &self.present
-        }
+        &self.first
     }
 
     /// The place of a journal as of which the frame had the bytes that were copied, where they carry one.
@@ -126,7 +123,7 @@ impl PageView {
     pub fn is_as_copied(&self) -> bool
         ensures { OnTrue result (self.now.present ≡ self.now.first) }
     {
-        !self.apart
+        self.to <= self.from
     }
 
     /// The bytes as they are now.
@@ -173,15 +170,22 @@ impl PageView {
         requires { at + size_of width < 4097 }
         ensures { self.new ≡ record self.old { present = put_bytes (size_of width) self.old.present at value } }
     {
-        part(&mut self.apart, &mut self.first, &self.present);
+        let end = at + width.size() as usize;
+        if at < self.from || self.to < end {
+            widen(&mut self.from, &mut self.to, at, end);
+        }
         let bytes = &mut self.present;
-        bytes[at] = (value & 0xff) as u8;
+        // All bytes of a number are written in one place, so that they are one move.
         match width {
-            Width::Byte => {}
+            Width::Byte => {
+                bytes[at] = (value & 0xff) as u8;
+            }
             Width::Half => {
+                bytes[at] = (value & 0xff) as u8;
                 bytes[at + 1] = ((value >> 8) & 0xff) as u8;
             }
             Width::Word => {
+                bytes[at] = (value & 0xff) as u8;
                 bytes[at + 1] = ((value >> 8) & 0xff) as u8;
                 bytes[at + 2] = ((value >> 16) & 0xff) as u8;
                 bytes[at + 3] = ((value >> 24) & 0xff) as u8;
@@ -206,15 +210,17 @@ impl PageView {
         ensures { self.new ≡ viewed origin bytes.now (present_in (option_copied touched.entry) bytes.now) }
     {
         self.renew(origin);
+        put_all(&mut self.first, bytes);
         match touched {
             Some(view) => {
-                self.first.copy_from_slice(bytes);
-                self.present.copy_from_slice(&view.present);
-                self.apart = true;
+                put_all(&mut self.present, &view.present);
+                self.from = 0;
+                self.to = PAGE_LENGTH;
             }
             None => {
-                self.present.copy_from_slice(bytes);
-                self.apart = false;
+                put_all(&mut self.present, bytes);
+                self.from = PAGE_LENGTH;
+                self.to = 0;
             }
         }
     }
@@ -223,11 +229,31 @@ impl PageView {
     pub(crate) fn recall(&mut self, origin: Origin)
         ensures { self.new ≡ viewed origin self.old.first self.old.first }
     {
-        if self.apart {
-            self.present.copy_from_slice(&self.first);
-            self.apart = false;
+        if self.from < self.to {
+            self.present[self.from..self.to].copy_from_slice(&self.first[self.from..self.to]);
+            self.from = PAGE_LENGTH;
+            self.to = 0;
         }
         self.renew(origin);
+    }
+
+    // Its steps happened at a place.
+    pub(crate) fn happen(&mut self, place: u64) {
+        if self.from < self.to {
+            self.first[self.from..self.to].copy_from_slice(&self.present[self.from..self.to]);
+            self.from = PAGE_LENGTH;
+            self.to = 0;
+            self.origin.taken = Some(place);
+        }
+    }
+
+    /// Where the present contents may differ from the first ones.
+    pub fn changed(&self) -> (usize, &[u8]) {
+        if self.from < self.to {
+            (self.from, &self.present[self.from..self.to])
+        } else {
+            (0, &self.present[0..0])
+        }
     }
 
     // Makes it an untouched view of a page, with the contents that it has.
@@ -247,23 +273,22 @@ impl PageView {
     }
 }
 
-// Keeps the first contents apart from now on.
-#[inline]
-fn part(apart: &mut bool, first: &mut [u8; PAGE_LENGTH], present: &[u8; PAGE_LENGTH])
-    ensures apart { apart.new ≡ true }
-    ensures first { first.new ≡ (if apart.old then first.old else present.now) }
-{
-    if !*apart {
-        keep(first, present);
-        *apart = true;
-    }
-}
-
-// It stays a call, so that a store is short.
+// Has the range reach over the lines of 64 bytes from a place to another.
 #[cold]
 #[inline(never)]
-fn keep(first: &mut [u8; PAGE_LENGTH], present: &[u8; PAGE_LENGTH])
-    ensures { first.new ≡ present.now }
-{
-    first.copy_from_slice(present);
+fn widen(from: &mut usize, to: &mut usize, at: usize, end: usize) {
+    let low = at / 64 * 64;
+    let high = (end + 63) / 64 * 64;
+    *from = (*from).min(low);
+    *to = (*to).max(high);
+}
+
+fn put_all(into: &mut Vec<u8>, bytes: &[u8]) {
+    if into.len() == bytes.len() {
+        into.copy_from_slice(bytes);
+        return;
+    }
+    into.clear();
+    // There is room.
+    let _ = into.extend_from_slice(bytes);
 }

@@ -191,6 +191,13 @@ impl Memory {
         self.bytes[start..start + PAGE_LENGTH].copy_from_slice(bytes);
     }
 
+    /// Writes bytes over a part of a frame.
+    pub fn copy_part_in(&mut self, frame: Frame, at: usize, bytes: &[u8]) {
+        let start = frame.0 as usize * PAGE_LENGTH;
+        reach(&mut self.bytes, start);
+        self.bytes[start + at..start + at + bytes.len()].copy_from_slice(bytes);
+    }
+
     /// The 4,096 bytes of a frame, without a copy.
     pub fn page(&self, frame: Frame) -> &[u8]
         requires { HasFrame self.now frame }

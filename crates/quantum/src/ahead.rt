@@ -127,6 +127,18 @@ impl Quantum {
         self.views.refill(vpn, frame, flags, row, since)
     }
 
+    /// Its steps happened at a place: it has no views any more, and keeps what they hold.
+    pub fn happened(&mut self, place: u64) {
+        self.views.happened(place);
+        self.steps = 0;
+        self.paused = None;
+    }
+
+    /// An identifier that the row of a page may be loaded with.
+    pub fn near(&self, vpn: Vpn) -> Option<Ident> {
+        self.views.near(vpn)
+    }
+
     /// The views in the order of their filling.
     pub fn views(&self) -> &[PageView]
         ensures views { result.now ≡ self.now.views }
