@@ -1,7 +1,7 @@
 //! The board is free while a processor runs ahead: another one unloads its thread meanwhile.
 
-ghost use Rattle.std.specs.Prelude.{◌≡◌, ◌<◌, IfOk};
-ghost use Rattle.turn_lock.specs.Passes.{end_of, first_of, HasAllNumbers, HasSameRange, IsPassOf};
+ghost use Rattle.std.specs.Prelude.{◌≡◌};
+ghost use Rattle.turn_lock.specs.Passes.{first_of, HasAllNumbers, HasSameRange, IsPassOf};
 
 use crate::gates::Meeting;
 use crate::scenes::{PLAIN, STEPS, Scene, opened};
