@@ -7,4 +7,6 @@ mod calls_tests;
 #[cfg(test)]
 mod ends_tests;
 #[cfg(test)]
+mod late_tests;
+#[cfg(test)]
 mod runs_tests;
