@@ -1,8 +1,8 @@
 #!/usr/bin/env bash
 # Usage: bench/want_of_memory.sh
 # Lets each allocation of the proved programs fail in turn: of v_run on a scenario of words, one of code and one of an executable, on one
-# with more rows than slots, with the journal, on a large one that is made from a number, and on one with a journal that is checked;
-# and of v_drive on lists of operations. Each run ends with status 6 and writes nothing, or answers as the whole run; of a list of
+# with more rows than slots, with the journal, with two frames, on a large one that is made from a number, and on one with a journal that
+# is checked; and of v_drive on lists of operations. Each run ends with status 6 and writes nothing, or answers as the whole run; of a list of
 # operations it may also answer as the whole run up to a line `refused no memory`, for the call that wanted it. Any other has a line,
 # and so has how many there were. It wants cc, and the programs that ./build leaves.
 # Ends with 1 where some run answered otherwise, or a program isn't built.
@@ -81,6 +81,7 @@ refuse_memory tests/runs/nine_pages_through_six_slots.in
 refuse_memory tests/runs/nine_pages_through_six_slots.in --mode journal
 refuse_memory examples/hello.scenario --mode gen --steps 1
 refuse_memory examples/checked.scenario --mode check
+refuse_memory tests/runs/nine_pages_through_six_slots.in --mode page --frames 2
 find_program v_drive
 refuse_memory crates/v_drive/stdin
 for list in healing_loads_the_receivers_of_a_signal a_row_made_and_taken_at_run a_thread_begun_at_run; do

@@ -7,7 +7,7 @@ proved v_run 7 'usage'
 ./run --steps
 ./run --seed 4294967296
 ./run --seed 99999999999999999999
-./run --mode page
+./run --mode pages
 ./run --mode run --mode=gen
 ./run -- --cpus 2
 ./run ''

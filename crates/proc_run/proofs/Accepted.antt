@@ -20,7 +20,7 @@ use Rattle.check_mode.specs.Answers.{HasLegalJournal}
 use Rattle.check_mode.proofs.Printed.{journal_behind, scenario_before}
 use Rattle.board_core.specs.Core.{Recorded}
 use Rattle.run_words.specs.declared.options.Mode.{Mode}
-use Rattle.run_words.specs.declared.options.Mode.TheVariants.{Run, Journal, Gen, Check}
+use Rattle.run_words.specs.declared.options.Mode.TheVariants.{Run, Journal, Gen, Check, Page}
 use Rattle.run_words.specs.declared.options.Options.{Options}
 use Rattle.proc_run.specs.declared.outcome.Kept.{Kept}
 use Rattle.proc_run.specs.declared.outcome.Kept.TheVariants as kept
@@ -28,7 +28,7 @@ use Rattle.proc_run.specs.declared.outcome.RunStatus.{RunStatus}
 use Rattle.proc_run.specs.declared.text.Account.{Account}
 use Rattle.proc_run.specs.declared.text.Account.TheVariants as accounts
 use Rattle.proc_run.specs.Dues.{status_of}
-use Rattle.proc_run.specs.Outcomes.{IsAnswerIn, IsCheckAnswer, IsDue, IsDueBy, IsLegalAt, IsRunAnswer, IsRunOf, IsScenario, IsTold, IsToldIn}
+use Rattle.proc_run.specs.Outcomes.{IsAnswerIn, IsCheckAnswer, IsPageAnswer, IsDue, IsDueBy, IsLegalAt, IsRunAnswer, IsRunOf, IsScenario, IsTold, IsToldIn}
 use Rattle.proc_run.specs.Printed.{printed_run, AskForCheck, IsReturned, IsShortEnough}
 use Rattle.proc_run.proofs.Answered.{due_by_these, due_parts, legal_so, never_too_long, same_text}
 use Rattle.proc_run.proofs.Opened.{fits_and_begins}
@@ -48,11 +48,19 @@ no_board limit bs settled.Stalled b text answer = answer
 no_board limit bs settled.Spent b text answer = answer
 no_board limit bs settled.Running b text answer = answer
 
+-- nor of a run with few frames
+no_board_paged : (limit : ℕ) (bs : List ℕ) (how : Settled) (b : Recorded) (text : List ℕ) → IsPageAnswer limit bs (status_of how) (kept.Board b) text → ⊥
+no_board_paged limit bs settled.Done b text answer = answer
+no_board_paged limit bs settled.Stalled b text answer = answer
+no_board_paged limit bs settled.Spent b text answer = answer
+no_board_paged limit bs settled.Running b text answer = answer
+
 run_in : (mode : Mode) (o : Options) (bs : List ℕ) (how : Settled) (b : Recorded) (text : List ℕ) → IsAnswerIn mode o bs (status_of how) (kept.Board b) text → (account : Account) × IsRunOf account o.steps bs how b text
 run_in Run o bs how b text answer = (accounts.Report, run_answer accounts.Report o.steps bs how b text answer)
 run_in Journal o bs how b text answer = (accounts.Journal, run_answer accounts.Journal o.steps bs how b text answer)
 run_in Gen o bs how b text answer = (accounts.Summary o.seed, run_answer (accounts.Summary o.seed) o.steps bs how b text answer)
 run_in Check o bs how b text answer = absurd (no_board o.steps bs how b text answer)
+run_in Page o bs how b text answer = absurd (no_board_paged o.steps bs how b text answer)
 
 run_by : (o : Options) (bytes left : Option (List ℕ)) (told : List ℕ) (how : Settled) (b : Recorded) (text : List ℕ) → IsTold o bytes told → IsDueBy o bytes left (status_of how) (kept.Board b) text → (account : Account) × IsRunOf account o.steps told how b text
 run_by o bytes left told how b text is due =

@@ -15,13 +15,13 @@ use Rattle.scenario_reader.specs.Scenarios.{scenario}
 use Rattle.run_journal.specs.declared.entries.Entry.{Entry}
 use Rattle.run_journal.specs.Entries.{erase, steps_in}
 use Rattle.run_words.specs.declared.options.Mode.{Mode}
-use Rattle.run_words.specs.declared.options.Mode.TheVariants.{Run, Journal, Gen, Check}
+use Rattle.run_words.specs.declared.options.Mode.TheVariants.{Run, Journal, Gen, Check, Page}
 use Rattle.run_words.specs.declared.options.Options.{Options}
 use Rattle.run_words.specs.Options.{options}
 use Rattle.proc_run.specs.declared.outcome.Kept.{Kept}
 use Rattle.proc_run.specs.declared.outcome.Kept.TheVariants as kept
 use Rattle.proc_run.specs.declared.outcome.RunStatus.{RunStatus}
-use Rattle.proc_run.specs.declared.outcome.RunStatus.TheVariants.{Done, Stalled, Spent, ReadFault, WriteFault, BadScenario, NoMemory, Usage, TooLong, Checked, NotLegal, BadJournal}
+use Rattle.proc_run.specs.declared.outcome.RunStatus.TheVariants.{Done, Stalled, Spent, ReadFault, WriteFault, BadScenario, NoMemory, Usage, TooLong, Checked, NotLegal, BadJournal, Paged}
 use Rattle.check_mode.specs.Answers.{HasLegalJournal}
 use Rattle.check_mode.specs.Parts.{scenario_part}
 use Rattle.check_mode.proofs.Answered.{yes_so, never_no, never_bad, never_faulty}
@@ -34,7 +34,7 @@ use Rattle.proc_run.specs.Running.{IsRun}
 use Rattle.proc_run.specs.declared.text.Account.{Account}
 use Rattle.proc_run.specs.declared.text.Account.TheVariants as accounts
 use Rattle.proc_run.specs.Texts.{text_of}
-use Rattle.proc_run.specs.Outcomes.{IsScenario, HasFault, ComesOut, ComesOutOrNoMemory, ComesOutOfCheck, ComesOutIn, IsLegalAt, IsNoFault, IsRunOf, IsRunAnswer, IsCheckAnswer, IsAnswerIn, IsAnswer, reads_in, ComesFrom, IsDueBy, IsDue, IsToldIn, IsTold, IsFaultlessIn, IsFaultless, reads_source, IsRefusal}
+use Rattle.proc_run.specs.Outcomes.{IsScenario, HasFault, ComesOut, ComesOutOrNoMemory, ComesOutOfCheck, ComesOutOfPage, ComesOutIn, IsLegalAt, IsNoFault, IsRunOf, IsRunAnswer, IsCheckAnswer, IsPageAnswer, IsAnswerIn, IsAnswer, reads_in, ComesFrom, IsDueBy, IsDue, IsToldIn, IsTold, IsFaultlessIn, IsFaultless, reads_source, IsRefusal}
 use Rattle.proc_run.specs.Dues.{status_of}
 use Rattle.scenario_gen.specs.Generated.{text as generated}
 
@@ -93,6 +93,7 @@ comes_out_of_run account limit bs TooLong k text answer = absurd answer
 comes_out_of_run account limit bs (Checked how) k text answer = absurd answer
 comes_out_of_run account limit bs (NotLegal at point) k text answer = absurd answer
 comes_out_of_run account limit bs (BadJournal line) k text answer = absurd answer
+comes_out_of_run account limit bs (Paged how) k text answer = absurd answer
 
 -- what stands behind a scenario is checked, and any other first part is answered by its first fault
 comes_out_of_check : (limit : ℕ) (bs : List ℕ) (status : RunStatus) (k : Kept) (text : List ℕ) → IsCheckAnswer limit bs status k text → ComesOutOfCheck (scenario (scenario_part bs)) status
@@ -114,8 +115,29 @@ comes_out_of_check limit bs (NotLegal at point) (kept.Journal j) text answer = r
 comes_out_of_check limit bs (NotLegal at point) kept.Nothing text answer = absurd answer
 comes_out_of_check limit bs (NotLegal at point) (kept.Board b) text answer = absurd answer
 comes_out_of_check limit bs (BadJournal line) kept.Nothing text answer = rw answer.1 tt
+comes_out_of_check limit bs (Paged how) k text answer = absurd answer
 comes_out_of_check limit bs (BadJournal line) (kept.Journal j) text answer = absurd answer
 comes_out_of_check limit bs (BadJournal line) (kept.Board b) text answer = absurd answer
+
+-- a scenario runs to its end with few frames, and any other text is answered by its first fault
+comes_out_of_page : (limit : ℕ) (bs : List ℕ) (status : RunStatus) (k : Kept) (text : List ℕ) → IsPageAnswer limit bs status k text → ComesOutOfPage (scenario bs) status
+comes_out_of_page limit bs Done k text answer = absurd answer
+comes_out_of_page limit bs Stalled k text answer = absurd answer
+comes_out_of_page limit bs Spent k text answer = absurd answer
+comes_out_of_page limit bs ReadFault k text answer = absurd answer
+comes_out_of_page limit bs WriteFault k text answer = absurd answer
+comes_out_of_page limit bs (BadScenario line rule) kept.Nothing text answer = rw answer.0 refl
+comes_out_of_page limit bs (BadScenario line rule) (kept.Journal j) text answer = absurd answer
+comes_out_of_page limit bs (BadScenario line rule) (kept.Board b) text answer = absurd answer
+comes_out_of_page limit bs NoMemory k text answer = absurd answer
+comes_out_of_page limit bs Usage k text answer = absurd answer
+comes_out_of_page limit bs TooLong k text answer = absurd answer
+comes_out_of_page limit bs (Checked how) k text answer = absurd answer
+comes_out_of_page limit bs (NotLegal at point) k text answer = absurd answer
+comes_out_of_page limit bs (BadJournal line) k text answer = absurd answer
+comes_out_of_page limit bs (Paged how) (kept.Journal j) text answer = rw answer.1 tt
+comes_out_of_page limit bs (Paged how) kept.Nothing text answer = absurd answer
+comes_out_of_page limit bs (Paged how) (kept.Board b) text answer = absurd answer
 
 -- a legal journal is found legal
 legal_answer : (limit : ℕ) (bs : List ℕ) (status : RunStatus) (k : Kept) (text : List ℕ) (ds : List Decl) (j : List Entry) → HasLegalJournal bs ds j → IsCheckAnswer limit bs status k text
@@ -138,6 +160,7 @@ legal_answer limit bs (NotLegal at point) (kept.Journal i) text ds j has answer 
 legal_answer limit bs (NotLegal at point) kept.Nothing text ds j has answer = absurd answer
 legal_answer limit bs (NotLegal at point) (kept.Board b) text ds j has answer = absurd answer
 legal_answer limit bs (BadJournal line) kept.Nothing text ds j has answer = absurd (never_bad bs ds j line text has answer.2)
+legal_answer limit bs (Paged how) k text ds j has answer = absurd answer
 legal_answer limit bs (BadJournal line) (kept.Journal i) text ds j has answer = absurd answer
 legal_answer limit bs (BadJournal line) (kept.Board b) text ds j has answer = absurd answer
 
@@ -146,18 +169,21 @@ comes_out Run o bs status k text answer = comes_out_of_run accounts.Report o.ste
 comes_out Journal o bs status k text answer = comes_out_of_run accounts.Journal o.steps bs status k text answer
 comes_out Gen o bs status k text answer = comes_out_of_run (accounts.Summary o.seed) o.steps bs status k text answer
 comes_out Check o bs status k text answer = comes_out_of_check o.steps bs status k text answer
+comes_out Page o bs status k text answer = comes_out_of_page o.steps bs status k text answer
 
 never_usage : (mode : Mode) (o : Options) (bs : List ℕ) (k : Kept) (text : List ℕ) → IsAnswerIn mode o bs Usage k text → ⊥
 never_usage Run o bs k text answer = answer
 never_usage Journal o bs k text answer = answer
 never_usage Gen o bs k text answer = answer
 never_usage Check o bs k text answer = answer
+never_usage Page o bs k text answer = answer
 
 never_long : (mode : Mode) (o : Options) (bs : List ℕ) (k : Kept) (text : List ℕ) → IsAnswerIn mode o bs TooLong k text → ⊥
 never_long Run o bs k text answer = answer
 never_long Journal o bs k text answer = answer
 never_long Gen o bs k text answer = answer
 never_long Check o bs k text answer = answer
+never_long Page o bs k text answer = answer
 
 -- ---- what is due by options
 
@@ -174,12 +200,14 @@ by_text o bytes left bs TooLong k text from answer = absurd (never_long o.mode o
 by_text o bytes left bs (Checked how) k text from answer = (bs, from, answer)
 by_text o bytes left bs (NotLegal at point) k text from answer = (bs, from, answer)
 by_text o bytes left bs (BadJournal line) k text from answer = (bs, from, answer)
+by_text o bytes left bs (Paged how) k text from answer = (bs, from, answer)
 
 -- the bytes that were read to the end of the source
 pub from_source : (mode : Mode) (seed : ℕ) (bytes left : Option (List ℕ)) (bs : List ℕ) → reads_in mode ≡ true → IsWhole bytes left bs → ComesFrom mode seed bytes left bs
 from_source Run seed bytes left bs reads whole = whole
 from_source Journal seed bytes left bs reads whole = whole
 from_source Check seed bytes left bs reads whole = whole
+from_source Page seed bytes left bs reads whole = whole
 from_source Gen seed bytes left bs reads whole = absurd cc
 
 -- the text that was made from the seed
@@ -190,6 +218,7 @@ pub same_text : (mode : Mode) (seed : ℕ) (bytes left : Option (List ℕ)) (bs 
 same_text Run seed bytes left bs told is from = same_input bytes left bs told is.0 from
 same_text Journal seed bytes left bs told is from = same_input bytes left bs told is.0 from
 same_text Check seed bytes left bs told is from = same_input bytes left bs told is.0 from
+same_text Page seed bytes left bs told is from = same_input bytes left bs told is.0 from
 same_text Gen seed bytes left bs told is from = from.1 ∙ sym is
 
 -- a text that is told isn't too long
@@ -197,6 +226,7 @@ pub never_too_long : (mode : Mode) (seed : ℕ) (bytes left : Option (List ℕ))
 never_too_long Run seed bytes left told is reads long = not_too_long bytes left told is.0 is.1 long
 never_too_long Journal seed bytes left told is reads long = not_too_long bytes left told is.0 is.1 long
 never_too_long Check seed bytes left told is reads long = not_too_long bytes left told is.0 is.1 long
+never_too_long Page seed bytes left told is reads long = not_too_long bytes left told is.0 is.1 long
 never_too_long Gen seed bytes left told is reads long = absurd cc
 
 -- the input was too long, or it is answered
@@ -216,6 +246,7 @@ due_parts o bytes left TooLong (kept.Board b) text due = inr due
 due_parts o bytes left (Checked how) k text due = inr due
 due_parts o bytes left (NotLegal at point) k text due = inr due
 due_parts o bytes left (BadJournal line) k text due = inr due
+due_parts o bytes left (Paged how) k text due = inr due
 
 complete_by : (o : Options) (bytes left : Option (List ℕ)) (status : RunStatus) (k : Kept) (text told : List ℕ) → IsTold o bytes told → IsDueBy o bytes left status k text → ComesOutIn o.mode told status
 complete_by o bytes left status k text told is due =
@@ -250,6 +281,7 @@ by_words words o bytes left TooLong k text taken due = (o, taken, due)
 by_words words o bytes left (Checked how) k text taken due = (o, taken, due)
 by_words words o bytes left (NotLegal at point) k text taken due = (o, taken, due)
 by_words words o bytes left (BadJournal line) k text taken due = (o, taken, due)
+by_words words o bytes left (Paged how) k text taken due = (o, taken, due)
 
 taken_or_not : (words : List (List ℕ)) (o : Options) (P : Type 0) → options words ≡ None → options words ≡ Some o → P
 taken_or_not words o P none some = none_is_some (sym none ∙ some)
@@ -271,6 +303,7 @@ refused_so words bytes left TooLong k text none due = taken_or_not words due.0 _
 refused_so words bytes left (Checked how) k text none due = taken_or_not words due.0 _ none due.1
 refused_so words bytes left (NotLegal at point) k text none due = taken_or_not words due.0 _ none due.1
 refused_so words bytes left (BadJournal line) k text none due = taken_or_not words due.0 _ none due.1
+refused_so words bytes left (Paged how) k text none due = taken_or_not words due.0 _ none due.1
 
 -- the words weren't taken, or it is due by what they ask for
 words_parts : (words : List (List ℕ)) (bytes left : Option (List ℕ)) (status : RunStatus) (k : Kept) (text : List ℕ) → IsDue words bytes left status k text
@@ -289,6 +322,7 @@ words_parts words bytes left TooLong k text due = inr due
 words_parts words bytes left (Checked how) k text due = inr due
 words_parts words bytes left (NotLegal at point) k text due = inr due
 words_parts words bytes left (BadJournal line) k text due = inr due
+words_parts words bytes left (Paged how) k text due = inr due
 
 -- by the options that the words are known to ask for
 pub due_by_these : (words : List (List ℕ)) (o : Options) (bytes left : Option (List ℕ)) (status : RunStatus) (k : Kept) (text : List ℕ) → options words ≡ Some o → IsDue words bytes left status k text → IsDueBy o bytes left status k text
@@ -311,6 +345,7 @@ or_no_memory mode bs TooLong out = out
 or_no_memory mode bs (Checked how) out = out
 or_no_memory mode bs (NotLegal at point) out = out
 or_no_memory mode bs (BadJournal line) out = out
+or_no_memory mode bs (Paged how) out = out
 
 -- what is due where no end fails
 pub completes : (words : List (List ℕ)) (o : Options) (bytes left : Option (List ℕ)) (status : RunStatus) (k : Kept) (text told : List ℕ) → options words ≡ Some o → IsTold o bytes told → IsDue words bytes left status k text → ComesOutOrNoMemory o.mode told status
@@ -325,6 +360,7 @@ faulty_in : (mode : Mode) (P : Type 0) → reads_in mode ≡ true → IsFaultles
 faulty_in Run P reads faultless risen = faultless risen
 faulty_in Journal P reads faultless risen = faultless risen
 faulty_in Check P reads faultless risen = faultless risen
+faulty_in Page P reads faultless risen = faultless risen
 faulty_in Gen P reads faultless risen = absurd cc
 
 -- a source that is read and fails is in the way
@@ -338,6 +374,7 @@ no_fault_in : (mode : Mode) (o : Options) (seed : ℕ) (bytes left : Option (Lis
 no_fault_in Run o seed bytes left bs line rule text gen comes answer = absurd cc
 no_fault_in Journal o seed bytes left bs line rule text gen comes answer = absurd cc
 no_fault_in Check o seed bytes left bs line rule text gen comes answer = absurd cc
+no_fault_in Page o seed bytes left bs line rule text gen comes answer = absurd cc
 no_fault_in Gen o seed bytes left bs line rule text gen comes answer =
     let made = is_scenario seed in
     let both : Ok made.0 ≡ Err (faults.Bad line rule) = sym made.2 ∙ (ap scenario (sym comes.1) ∙ answer.0) in
@@ -350,10 +387,12 @@ only_nothing Run o bs line rule (kept.Journal j) text some answer = answer
 only_nothing Journal o bs line rule (kept.Journal j) text some answer = answer
 only_nothing Gen o bs line rule (kept.Journal j) text some answer = answer
 only_nothing Check o bs line rule (kept.Journal j) text some answer = answer
+only_nothing Page o bs line rule (kept.Journal j) text some answer = answer
 only_nothing Run o bs line rule (kept.Board b) text some answer = answer
 only_nothing Journal o bs line rule (kept.Board b) text some answer = answer
 only_nothing Gen o bs line rule (kept.Board b) text some answer = answer
 only_nothing Check o bs line rule (kept.Board b) text some answer = answer
+only_nothing Page o bs line rule (kept.Board b) text some answer = answer
 
 pub no_fault : (words : List (List ℕ)) (o : Options) (bytes left : Option (List ℕ)) (status : RunStatus) (k : Kept) (text : List ℕ) → options words ≡ Some o → o.mode ≡ Gen
     → IsDue words bytes left status k text → IsNoFault status
@@ -368,6 +407,7 @@ no_fault words o bytes left TooLong k text taken gen due = tt
 no_fault words o bytes left (Checked how) k text taken gen due = tt
 no_fault words o bytes left (NotLegal at point) k text taken gen due = tt
 no_fault words o bytes left (BadJournal line) k text taken gen due = tt
+no_fault words o bytes left (Paged how) k text taken gen due = tt
 no_fault words o bytes left (BadScenario line rule) k text taken gen (p, is, (bs, comes, answer)) = absurd (by k answer)
   where
     mode : p.mode ≡ Gen

@@ -13,7 +13,7 @@ use Rattle.scenario_reader.specs.declared.fault.ScenarioFault.TheVariants as fau
 use Rattle.scenario_reader.specs.Scenarios.{scenario}
 use Rattle.run_journal.specs.declared.entries.Entry.{Entry}
 use Rattle.proc_run.specs.declared.outcome.RunStatus.{RunStatus}
-use Rattle.proc_run.specs.declared.outcome.RunStatus.TheVariants.{Done, Stalled, Spent, ReadFault, WriteFault, BadScenario, NoMemory, Usage, TooLong, Checked, NotLegal, BadJournal}
+use Rattle.proc_run.specs.declared.outcome.RunStatus.TheVariants.{Done, Stalled, Spent, ReadFault, WriteFault, BadScenario, NoMemory, Usage, TooLong, Checked, NotLegal, BadJournal, Paged}
 use Rattle.proc_run.specs.declared.outcome.Kept.{Kept}
 use Rattle.proc_run.specs.declared.outcome.Kept.TheVariants as kept
 use Rattle.run_journal.specs.Entries.{erase, steps_in}
@@ -24,11 +24,12 @@ use Rattle.check_mode.specs.Parts.{scenario_part, journal_part}
 use Rattle.check_mode.specs.Answers.{IsYesOn, IsNoOn, IsNoJournal}
 use Rattle.scenario_gen.specs.Generated.{text as generated}
 use Rattle.run_words.specs.declared.options.Mode.{Mode}
-use Rattle.run_words.specs.declared.options.Mode.TheVariants.{Run, Journal, Gen, Check}
+use Rattle.run_words.specs.declared.options.Mode.TheVariants.{Run, Journal, Gen, Check, Page}
 use Rattle.run_words.specs.declared.options.Options.{Options}
 use Rattle.run_words.specs.Options.{options}
 use Rattle.proc_run.specs.declared.text.Account.{Account}
 use Rattle.proc_run.specs.declared.text.Account.TheVariants as accounts
+use Rattle.paged_run.specs.Runs.{IsPagedRun}
 use Rattle.proc_run.specs.Texts.{text_of}
 
 abbrev pub usage_line : List ℕ
@@ -47,6 +48,7 @@ exit_status TooLong = 8
 exit_status (Checked settled) = 10
 exit_status (NotLegal at point) = 11
 exit_status (BadJournal line) = 12
+exit_status (Paged settled) = 13
 
 -- the bytes are a scenario with these declarations
 abbrev pub IsScenario : List ℕ → List Decl → Type 0
@@ -92,12 +94,24 @@ IsCheckAnswer limit bs (BadJournal line) kept.Nothing text = IsFoundIn bs (λ ds
 IsCheckAnswer limit bs (BadScenario line rule) kept.Nothing text = HasFault (scenario_part bs) line rule × (text ≡ scenario_fault_line line rule)
 IsCheckAnswer limit bs status k text = ⊥
 
+-- The text is a scenario. The journal is that of its run with few frames, to its end at the limit of steps, which is settled so; and
+-- this is its report.
+abbrev pub IsPagedRunOf : ℕ → List ℕ → Settled → List Entry → List ℕ → Type 0
+IsPagedRunOf limit bs how j text = (ds : List Decl) × IsScenario bs ds × IsPagedRun ds limit j how text (Some (flat (erase j)).memory)
+
+-- they are the answer to the text of a scenario that is run with few frames, at a limit of steps
+abbrev pub IsPageAnswer : ℕ → List ℕ → RunStatus → Kept → List ℕ → Type 0
+IsPageAnswer limit bs (Paged how) (kept.Journal j) text = IsPagedRunOf limit bs how j.entries text
+IsPageAnswer limit bs (BadScenario line rule) kept.Nothing text = HasFault bs line rule × (text ≡ scenario_fault_line line rule)
+IsPageAnswer limit bs status k text = ⊥
+
 -- they are the answer to an input, by the mode
 abbrev pub IsAnswerIn : Mode → Options → List ℕ → RunStatus → Kept → List ℕ → Type 0
 IsAnswerIn Run o bs status k text = IsRunAnswer accounts.Report o.steps bs status k text
 IsAnswerIn Journal o bs status k text = IsRunAnswer accounts.Journal o.steps bs status k text
 IsAnswerIn Gen o bs status k text = IsRunAnswer (accounts.Summary o.seed) o.steps bs status k text
 IsAnswerIn Check o bs status k text = IsCheckAnswer o.steps bs status k text
+IsAnswerIn Page o bs status k text = IsPageAnswer o.steps bs status k text
 
 abbrev pub IsAnswer : Options → List ℕ → RunStatus → Kept → List ℕ → Type 0
 IsAnswer o bs status k text = IsAnswerIn o.mode o bs status k text
@@ -108,6 +122,7 @@ reads_in Run = true
 reads_in Journal = true
 reads_in Gen = false
 reads_in Check = true
+reads_in Page = true
 
 -- do the words ask to read the source?
 abbrev pub reads_source : Option Options → Bool
@@ -119,6 +134,7 @@ abbrev pub ComesFrom : Mode → ℕ → Option (List ℕ) → Option (List ℕ) 
 ComesFrom Run seed bytes left bs = IsWhole bytes left bs
 ComesFrom Journal seed bytes left bs = IsWhole bytes left bs
 ComesFrom Check seed bytes left bs = IsWhole bytes left bs
+ComesFrom Page seed bytes left bs = IsWhole bytes left bs
 ComesFrom Gen seed bytes left bs = Keeps bytes left × (bs ≡ generated seed)
 
 -- This text is due by these options with this status, and this is kept, where the source had these bytes and has those
@@ -138,6 +154,7 @@ abbrev pub IsToldIn : Mode → ℕ → Option (List ℕ) → List ℕ → Type 0
 IsToldIn Run seed bytes text = (bytes ≡ Some text) × (length text ≤ most_bytes)
 IsToldIn Journal seed bytes text = (bytes ≡ Some text) × (length text ≤ most_bytes)
 IsToldIn Check seed bytes text = (bytes ≡ Some text) × (length text ≤ most_bytes)
+IsToldIn Page seed bytes text = (bytes ≡ Some text) × (length text ≤ most_bytes)
 IsToldIn Gen seed bytes text = text ≡ generated seed
 
 abbrev pub IsTold : Options → Option (List ℕ) → List ℕ → Type 0
@@ -149,6 +166,7 @@ IsFaultlessIn Run risen = risen → ⊥
 IsFaultlessIn Journal risen = risen → ⊥
 IsFaultlessIn Gen risen = Unit {0}
 IsFaultlessIn Check risen = risen → ⊥
+IsFaultlessIn Page risen = risen → ⊥
 
 abbrev pub IsFaultless : Options → Type 0 → Type 0
 IsFaultless o risen = IsFaultlessIn o.mode risen
@@ -191,6 +209,11 @@ IsRan Stalled = Unit {0}
 IsRan Spent = Unit {0}
 IsRan _ = ⊥
 
+-- a run with few frames came to its end
+abbrev pub IsPaged : RunStatus → Type 0
+IsPaged (Paged how) = Unit {0}
+IsPaged _ = ⊥
+
 -- what is read as a scenario ran to its end, and any other text was answered by its first fault
 abbrev pub ComesOut : Result (List Decl) ScenarioFault → RunStatus → Type 0
 ComesOut (Ok ds) status = IsRan status
@@ -210,12 +233,19 @@ ComesOutOfCheck (Ok ds) status = IsFound status
 ComesOutOfCheck (Err (faults.Bad line rule)) status = status ≡ BadScenario line rule
 ComesOutOfCheck (Err faults.NoMemory) status = ⊥
 
+-- the same of a scenario that was run with few frames
+abbrev pub ComesOutOfPage : Result (List Decl) ScenarioFault → RunStatus → Type 0
+ComesOutOfPage (Ok ds) status = IsPaged status
+ComesOutOfPage (Err (faults.Bad line rule)) status = status ≡ BadScenario line rule
+ComesOutOfPage (Err faults.NoMemory) status = ⊥
+
 -- an input comes out by the mode
 abbrev pub ComesOutIn : Mode → List ℕ → RunStatus → Type 0
 ComesOutIn Run bs status = ComesOut (scenario bs) status
 ComesOutIn Journal bs status = ComesOut (scenario bs) status
 ComesOutIn Gen bs status = ComesOut (scenario bs) status
 ComesOutIn Check bs status = ComesOutOfCheck (scenario (scenario_part bs)) status
+ComesOutIn Page bs status = ComesOutOfPage (scenario bs) status
 
 -- the same, or memory ran out
 abbrev pub ComesOutOrNoMemory : Mode → List ℕ → RunStatus → Type 0

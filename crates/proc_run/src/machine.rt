@@ -15,10 +15,10 @@ ghost use Rattle.run_journal.specs.Entries.{erase, steps_in};
 ghost use Rattle.check_mode.specs.Answers.{IsChecked, HasLegalJournal};
 ghost use Rattle.run_words.specs.declared.options.Options.{Options};
 ghost use Rattle.run_words.specs.Options.{options};
-ghost use Rattle.run_words.specs.Ranges.{cpus_range, IsIn};
+ghost use Rattle.run_words.specs.Ranges.{cpus_range, frames_range, IsIn};
 ghost use Rattle.proc_run.specs.declared.outcome.RunStatus.{RunStatus};
 ghost use Rattle.proc_run.specs.declared.outcome.Kept.TheVariants.{Nothing};
-ghost use Rattle.proc_run.specs.Outcomes.{IsDue, IsDueBy, IsAnswer, IsRunAnswer, IsCheckAnswer, IsScenario, IsTold, IsFaultless, reads_source, OnWritten, OnWriteFault, OnReadFault, OnNothingDue, UnlessReadFault, UnlessWriteFault, ComesOutOrNoMemory, IsLegalAt, IsNoFault, IsRefusal, usage_line};
+ghost use Rattle.proc_run.specs.Outcomes.{IsDue, IsDueBy, IsAnswer, IsRunAnswer, IsCheckAnswer, IsPageAnswer, IsScenario, IsTold, IsFaultless, reads_source, OnWritten, OnWriteFault, OnReadFault, OnNothingDue, UnlessReadFault, UnlessWriteFault, ComesOutOrNoMemory, IsLegalAt, IsNoFault, IsRefusal, usage_line};
 ghost use Rattle.due_text.specs.Inputs.{OnFailed, UnlessFailed};
 ghost use Rattle.due_text.specs.Lines.{scenario_fault_line};
 ghost use Rattle.proc_run.specs.Dues.{status_of};
@@ -32,6 +32,7 @@ use cache_ident::NoMemory;
 use check_mode::{Checked, answer};
 use due_text::{Input, NoText, read_input, scenario_fault_line, too_long_line};
 use flat_state::{Decl, Settled};
+use paged_run::{PagedRun, run_in_memory};
 use processors::Gate;
 use run_words::{Mode, Options, Words, WordsFault};
 use scenario_gen::generate;
@@ -187,6 +188,39 @@ fn due_for_check(alloc: Global, steps: u32, bytes: &[u8]) -> Result<DueText, NoT
     }
 }
 
+// What is due for the run of a scenario with so many frames.
+fn paged(alloc: Global, frames: u32, steps: u32, decls: &[Decl]) -> Result<DueText, NoMemory>
+    requires fit { AllFit nothing_declared decls.now }
+    requires machine { (machine : Machine) × (rest : List Decl) × (decls.now ≡ declaration.Machine machine ∷ rest) }
+    requires frames { IsIn frames_range frames }
+    ensures { IfOk result (λ d. (bs : List ℕ) → IsScenario bs decls.now → IsPageAnswer steps bs d.status d.kept d.text.items) }
+{
+    let run = run_in_memory(alloc, decls, frames, u64::from(steps))?;
+    let PagedRun {
+        journal,
+        settled,
+        report,
+    } = run;
+    Ok(DueText {
+        status: RunStatus::Paged { settled },
+        kept: Kept::Journal(journal),
+        text: report,
+    })
+}
+
+// What is due for the run with so many frames of a scenario whose bytes were read to their end.
+fn due_for_page(alloc: Global, frames: u32, steps: u32, bytes: &[u8]) -> Result<DueText, NoText>
+    requires { IsIn frames_range frames }
+    ensures due { IfOk result (λ d. IsPageAnswer steps bytes.now d.status d.kept d.text.items) }
+    ensures unfailed { OnFailed result ⊥ }
+{
+    match read(alloc, bytes) {
+        Ok(scenario) => Ok(paged(alloc, frames, steps, scenario.decls())?),
+        Err(ScenarioFault::Bad { line, rule }) => Ok(faulty(alloc, line, rule)?),
+        Err(ScenarioFault::NoMemory) => Err(NoText::NoMemory),
+    }
+}
+
 // What is due for the bytes of an input, read to their end.
 fn due_for<R: Threads + Wait + Sync, G: Gate + Sync>(
     rt: &R,
@@ -196,6 +230,7 @@ fn due_for<R: Threads + Wait + Sync, G: Gate + Sync>(
     gate: &G,
 ) -> Result<DueText, NoText>
     requires processors { IsIn cpus_range options.now.cpus }
+    requires frames { IsIn frames_range options.now.frames }
     ensures due { IfOk result (λ d. IsAnswer options.now bytes.now d.status d.kept d.text.items) }
     ensures unfailed { OnFailed result ⊥ }
 {
@@ -205,6 +240,7 @@ fn due_for<R: Threads + Wait + Sync, G: Gate + Sync>(
         Mode::Journal => due_for_run(rt, alloc, Account::Journal, options, bytes, gate),
         Mode::Gen => due_for_run(rt, alloc, Account::Summary { seed }, options, bytes, gate),
         Mode::Check => due_for_check(alloc, options.steps, bytes),
+        Mode::Page => due_for_page(alloc, options.frames, options.steps, bytes),
     }
 }
 
@@ -218,6 +254,7 @@ fn due_of<R: Threads + Wait + Sync, S: Source, G: Gate + Sync>(
 ) -> Result<DueText, NoText>
     requires processors { IsIn cpus_range options.now.cpus }
     requires reads { reads_source (Some options.now) ≡ true }
+    requires frames { IsIn frames_range options.now.frames }
     ensures due { IfOk result (λ d. IsDueBy options.now (S.bytes_left source.old) (S.bytes_left source.new) d.status d.kept d.text.items) }
     ensures fault { OnFailed result (HasRisen (S.faults source.old) (S.faults source.new)) }
     ensures faultless { UnlessFailed result (S.faults source.new ≡ S.faults source.old) }
@@ -237,13 +274,16 @@ fn due_by<R: Threads + Wait + Sync, S: Source, G: Gate + Sync>(
     gate: &G,
 ) -> Result<DueText, NoText>
     requires processors { IsIn cpus_range options.now.cpus }
+    requires frames { IsIn frames_range options.now.frames }
     ensures due { IfOk result (λ d. IsDueBy options.now (S.bytes_left source.old) (S.bytes_left source.new) d.status d.kept d.text.items) }
     ensures unread { reads_source (Some options.now) ≡ false → Keeps (S.bytes_left source.old) (S.bytes_left source.new) }
     ensures fault { OnFailed result (HasRisen (S.faults source.old) (S.faults source.new) × (reads_source (Some options.now) ≡ true)) }
     ensures faultless { UnlessFailed result (S.faults source.new ≡ S.faults source.old) }
 {
     match options.mode {
-        Mode::Run | Mode::Journal | Mode::Check => due_of(rt, alloc, options, source, gate),
+        Mode::Run | Mode::Journal | Mode::Check | Mode::Page => {
+            due_of(rt, alloc, options, source, gate)
+        }
         Mode::Gen => due_for(rt, alloc, options, &generate(alloc, options.seed)?, gate),
     }
 }
@@ -270,9 +310,10 @@ fn due<R: Threads + Wait + Sync, S: Source, G: Gate + Sync>(
 
 /// Reads a scenario from the source to its end, or makes it from the seed in mode gen, runs it on a board with caches
 /// until all its threads have ended, none can go on, or it has taken the steps that the words allow,
-/// by as many processors side by side as the words ask for, and writes the text of the mode to the sink. In mode check it reads a journal behind the scenario, and writes whether
-/// it is legal, with the report of what it leaves, or where it isn't. For a text that is no scenario it writes its first
-/// fault, and for words that aren't taken the usage line. All text is made before the first write.
+/// by as many processors side by side as the words ask for, and writes the text of the mode to the sink. In mode check it reads a
+/// journal behind the scenario, and writes whether it is legal, with the report of what it leaves, or where it isn't. In mode page it
+/// runs the scenario with few frames, and writes the report. For a text that is no scenario it writes its first fault, and for words
+/// that aren't taken the usage line. All text is made before the first write.
 ///
 /// It costs the steps, each of them the logarithm of the rows, a pass over the threads for each entry of the journal,
 /// and memory for the scenario, the machine, one entry for every 256 steps and each thread call, and the text.

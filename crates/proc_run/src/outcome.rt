@@ -37,6 +37,8 @@ pub enum RunStatus {
     /// In mode check: what stands behind the scenario is no journal. This line of it, counted from 1, is the first that isn't an
     /// entry's.
     BadJournal { line: u64 },
+    /// In mode page: the run with few frames is over, and stands so: done, stalled or spent.
+    Paged { settled: Settled },
 }
 
 impl RunStatus {
@@ -57,6 +59,7 @@ impl RunStatus {
             RunStatus::Checked { .. } => 10,
             RunStatus::NotLegal { .. } => 11,
             RunStatus::BadJournal { .. } => 12,
+            RunStatus::Paged { .. } => 13,
         }
     }
 }
@@ -70,7 +73,7 @@ pub enum Kept {
 }
 
 /// How a run came out, and what is kept of it: the board on which it ran, for `Done`, `Stalled` and `Spent`; the journal that was read,
-/// for `Checked` and `NotLegal`; and for a `WriteFault` that of the answer in whose place it came.
+/// for `Checked` and `NotLegal`; the journal of the run, for `Paged`; and for a `WriteFault` that of the answer in whose place it came.
 #[derive(Drop)]
 pub struct Outcome {
     pub status: RunStatus,

@@ -1,7 +1,7 @@
 -- Words by examples: some that are taken, each with what it asks for, and some that aren't.
 use Rattle.std.specs.Prelude.{◌≡◌, List, [], ◌∷◌, Some, None, codes, map}
 use Rattle.clap.specs.Words.{Text}
-use Rattle.run_words.specs.declared.options.Mode.TheVariants.{Journal, Gen, Check}
+use Rattle.run_words.specs.declared.options.Mode.TheVariants.{Journal, Gen, Check, Page}
 use Rattle.run_words.specs.declared.options.Options.{Options}
 use Rattle.run_words.specs.Options.{options, by_default}
 
@@ -14,6 +14,7 @@ taken =
     ∷ (codes "--mode" ∷ codes "journal" ∷ [], record by_default { mode = Journal })
     ∷ (codes "--mode=gen" ∷ [], record by_default { mode = Gen })
     ∷ (codes "--mode=check" ∷ [], record by_default { mode = Check })
+    ∷ (codes "--mode=page" ∷ [], record by_default { mode = Page })
     ∷ (codes "--cpus" ∷ codes "1" ∷ [], by_default)
     ∷ (codes "--cpus=8" ∷ [], record by_default { cpus = 8 })
     ∷ (codes "--steps" ∷ codes "1" ∷ [], record by_default { steps = 1 })
@@ -38,7 +39,7 @@ refused =
     ∷ (codes "run" ∷ [])
     ∷ (codes "--mode" ∷ [])
     ∷ (codes "--mode=" ∷ [])
-    ∷ (codes "--mode" ∷ codes "page" ∷ [])
+    ∷ (codes "--mode" ∷ codes "pages" ∷ [])
     ∷ (codes "--mode" ∷ codes "Run" ∷ [])
     ∷ (codes "--mode" ∷ codes "run" ∷ codes "journal" ∷ [])
     ∷ (codes "--mode" ∷ codes "run" ∷ codes "--mode" ∷ codes "run" ∷ [])

@@ -9,7 +9,7 @@ use Rattle.clap.specs.ValueTests.{is_unsigned_in}
 use Rattle.clap.specs.declared.error.kind.ErrorKind.{ErrorKind}
 use Rattle.clap.specs.declared.error.kind.ErrorKind.TheVariants.{OutOfMemory}
 use Rattle.run_words.specs.declared.options.Mode.{Mode}
-use Rattle.run_words.specs.declared.options.Mode.TheVariants.{Run, Journal, Gen, Check}
+use Rattle.run_words.specs.declared.options.Mode.TheVariants.{Run, Journal, Gen, Check, Page}
 use Rattle.run_words.specs.declared.options.Options.{Options}
 use Rattle.run_words.specs.declared.options.WordsFault.{WordsFault}
 use Rattle.run_words.specs.declared.options.WordsFault.TheVariants.{NoMemory, Refused}
@@ -21,7 +21,7 @@ use Rattle.run_words.specs.Ranges.{is_in, any_number, cpus_range, steps_range, f
 
 -- the mode of that name
 abbrev pub mode_named : Text → Option Mode
-mode_named name = if bytes_eq name (codes "run") then Some Run else (if bytes_eq name (codes "journal") then Some Journal else (if bytes_eq name (codes "gen") then Some Gen else (if bytes_eq name (codes "check") then Some Check else None)))
+mode_named name = if bytes_eq name (codes "run") then Some Run else (if bytes_eq name (codes "journal") then Some Journal else (if bytes_eq name (codes "gen") then Some Gen else (if bytes_eq name (codes "check") then Some Check else (if bytes_eq name (codes "page") then Some Page else None))))
 
 abbrev pub mode_in : List Row → Option Mode
 mode_in rows = option_and_then mode_named (first_of (codes "mode") rows)

@@ -155,7 +155,7 @@ pub fn read(alloc: Global, words: &Words) -> Result<Options, WordsFault>
 
 /// Which words `read` takes, and what it makes of them: of each option alone with any value, and of several by examples.
 pub fn which_words_are_taken()
-    // A mode is one of the four names.
+    // A mode is one of the five names.
     ensures modes { ModesAreNamed }
 
     // A number is one in decimal digits that lies in its option's range.

@@ -17,6 +17,8 @@ pub enum Mode {
     Gen,
     /// What the check of a journal finds, which stands behind its scenario.
     Check,
+    /// The report of a scenario's run with few frames.
+    Page,
 }
 
 impl Mode {
@@ -28,6 +30,7 @@ impl Mode {
             "journal" => Some(Mode::Journal),
             "gen" => Some(Mode::Gen),
             "check" => Some(Mode::Check),
+            "page" => Some(Mode::Page),
             _ => None,
         }
     }

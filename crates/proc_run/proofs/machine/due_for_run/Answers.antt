@@ -12,6 +12,6 @@ returns-in_ok-faulty-in-Err-Bad-clause-due g c =
     rw (made.status, made.kept) (first_fault c.args.bytes.now bad.field-0 _ _ is bad.ensures.meant, made.text)
 
 pub answered-requires-clause-machine : goal.answered-requires-clause-machine
-answered-requires-clause-machine g c =
+answered-requires-clause-machine g c = λ lifetimes within.
     let begins = (fits_and_begins c.args.bytes.now c.in-Ok.scenario c.in-Ok.ensures.meant).1 in
     (begins.0, begins.1, c.decls.ensures ∙ begins.2)

@@ -7,8 +7,8 @@ use Rattle.proc_run.proofs.run.run.Goals as goal
 pub seal-requires : goal.seal-requires
 seal-requires g c = may_be_sealed c.args.decls.now c.args.limit c.in_ok-board.board c.requires.fit c.requires.kernel c.in_ok-board.ensures
 
-pub run_on_several-board-requires-clause-begins : goal.run_on_several-board-requires-clause-begins
-run_on_several-board-requires-clause-begins g c = sealed_begins c.args.decls.now c.args.limit c.in_ok-board.board c.seal.new.board first_ident c.in_ok-board.ensures c.in_ok-seal.ensures
+pub run_on_several-requires-clause-begins : goal.run_on_several-requires-clause-begins
+run_on_several-requires-clause-begins g c = λ lifetimes within. sealed_begins c.args.decls.now c.args.limit c.in_ok-board.board c.seal.new.board first_ident c.in_ok-board.ensures c.in_ok-seal.ensures
 
 pub returns-clause-run : goal.returns-clause-run
 returns-clause-run g c =
