@@ -22,9 +22,8 @@ take_help "$@"
 peers=${1-}
 if [ -n "${2-}" ]; then
     proved=$(realpath -- "$2")
-elif ! find_proved v_run; then
-    say 'no proved v_run is built from the sources as they are; ./build makes one'
-    exit 1
+else
+    want_proved v_run
 fi
 place="$(mktemp -d)"
 trap 'rm -rf "$place"' EXIT

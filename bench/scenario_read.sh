@@ -14,10 +14,7 @@ script=bench/scenario_read.sh
 top="$(cd "$(dirname "${BASH_SOURCE[0]}")/.." && pwd)"
 source "$top/scripts/program.sh"
 take_help "$@"
-if ! find_proved v_run; then
-    say 'no proved v_run is built from the sources as they are; ./build makes one'
-    exit 1
-fi
+want_proved v_run
 place="$(mktemp -d)"
 trap 'rm -rf "$place"' EXIT
 failed=0

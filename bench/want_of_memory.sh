@@ -12,13 +12,6 @@ script=bench/want_of_memory.sh
 top="$(cd "$(dirname "${BASH_SOURCE[0]}")/.." && pwd)"
 source "$top/scripts/program.sh"
 take_help "$@"
-# Sets proved to the program of that name.
-find_program() {
-    if ! find_proved "$1"; then
-        say "no proved $1 is built from the sources as they are; ./build makes one"
-        exit 1
-    fi
-}
 place="$(mktemp -d)"
 trap 'rm -rf "$place"' EXIT
 
@@ -72,7 +65,7 @@ refuse_memory() {
     ((other == 0)) || failed=1
 }
 
-find_program v_run
+want_proved v_run
 refuse_memory examples/hello.scenario
 refuse_memory examples/code.scenario
 refuse_memory examples/squares.scenario
@@ -82,7 +75,7 @@ refuse_memory tests/runs/nine_pages_through_six_slots.in --mode journal
 refuse_memory examples/hello.scenario --mode gen --steps 1
 refuse_memory examples/checked.scenario --mode check
 refuse_memory tests/runs/nine_pages_through_six_slots.in --mode page --frames 2
-find_program v_drive
+want_proved v_drive
 refuse_memory crates/v_drive/stdin
 for list in healing_loads_the_receivers_of_a_signal a_row_made_and_taken_at_run a_thread_begun_at_run; do
     refuse_memory "tests/drive/$list.in"

@@ -87,6 +87,14 @@ find_proved() {
     [ -x "$proved" ]
 }
 
+# want_proved NAME: sets proved to the program of that name, or says that none is built and ends.
+want_proved() {
+    if ! find_proved "$1"; then
+        say "no proved $1 is built from the sources as they are; ./build makes one"
+        exit 1
+    fi
+}
+
 # Sets sum to the one that is kept, and fails where the sources aren't listed as they were when it was found. The line on rt
 # doesn't count where rt isn't on the path.
 take_kept_sum() {
