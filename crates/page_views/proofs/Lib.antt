@@ -1,3 +1,4 @@
 pub mod Tables
 pub mod Indexing
 pub mod Keeping
+pub mod Spotting

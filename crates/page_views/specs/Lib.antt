@@ -2,3 +2,4 @@ pub mod Views
 pub mod Origins
 pub mod Lines
 pub mod Index
+pub mod Spots

@@ -5,6 +5,7 @@ mod index;
 mod lines;
 mod page;
 mod space;
+mod spots;
 mod table;
 
 pub use page::PageView;

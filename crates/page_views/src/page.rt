@@ -175,13 +175,17 @@ impl PageView {
     {
         part(&mut self.apart, &mut self.first, &self.present);
         let bytes = &mut self.present;
-        bytes[at] = (value & 0xff) as u8;
+        // All bytes of a number are written in one place, so that they are one move.
         match width {
-            Width::Byte => {}
+            Width::Byte => {
+                bytes[at] = (value & 0xff) as u8;
+            }
             Width::Half => {
+                bytes[at] = (value & 0xff) as u8;
                 bytes[at + 1] = ((value >> 8) & 0xff) as u8;
             }
             Width::Word => {
+                bytes[at] = (value & 0xff) as u8;
                 bytes[at + 1] = ((value >> 8) & 0xff) as u8;
                 bytes[at + 2] = ((value >> 16) & 0xff) as u8;
                 bytes[at + 3] = ((value >> 24) & 0xff) as u8;

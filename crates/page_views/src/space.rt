@@ -6,7 +6,6 @@ ghost use Rattle.rv32_exec.specs.Pages.{read_through, size_of};
 ghost use Rattle.page_views.specs.Views.{pages_of_views, rest_of, Copied, Dated};
 
 use crate::table::PageViews;
-use cache_ident::Vpn;
 use phys_groups::PAGE_BYTES;
 use rv32_exec::{Access, Hole, Space, Width};
 use rv32_isa::Instr;
@@ -68,6 +67,6 @@ impl Space for PageViews {
 
     #[inline]
     fn touch(&mut self, va: u32, access: Access) {
-        self.mark(Vpn(va / PAGE_BYTES), access);
+        self.mark(va, access);
     }
 }

@@ -1,15 +1,17 @@
 //! Copied pages.
 
-ghost use Rattle.std.specs.Prelude.{◌≡◌, ◌+◌, ◌<◌, ◌≤◌, [], ◌++◌, length, map, find, take, drop, replicate, slice_get, slice_set, vec_capacity, Some, None, is_some, IfOk, IfSome, IsTrue};
+ghost use Rattle.std.specs.Prelude.{◌≡◌, ◌+◌, ◌/◌, ◌<◌, ◌≤◌, [], ◌++◌, length, map, find, take, drop, replicate, slice_get, slice_set, vec_capacity, Some, None, is_some, IfOk, IfSome, IsTrue};
 ghost use Rattle.std.specs.List.{position};
 ghost use Rattle.std.specs.Option.{option_copied, option_map};
 ghost use Rattle.rv32_exec.specs.Pages.{size_of};
 ghost use Rattle.page_views.specs.Lines.{seen_at};
 ghost use Rattle.page_views.specs.Origins.{viewed, viewed_beside};
-ghost use Rattle.page_views.specs.Views.{all_dated, can_fill as can_fill_def, dated, filled, has_message as has_message_def, if_since, is_of_frame, is_of_page, is_touched_of, kept_since as kept_since_def, mark_view_of, nothing_kept, put_in_view, refilled, view_through, with_filled, HaveOneViewAPage, IsReached, View};
+ghost use Rattle.page_views.specs.Spots.{noted_if};
+ghost use Rattle.page_views.specs.Views.{all_dated, can_fill as can_fill_def, dated, filled, has_message as has_message_def, if_since, is_of_frame, is_of_page, is_touched_of, kept_since as kept_since_def, mark_view_of, nothing_kept, put_in_view, refilled, view_through, where_flagged, with_filled, HaveOneViewAPage, IsReached, View};
 
 use crate::index::Index;
 use crate::page::{Origin, PageView};
+use crate::spots::Marked;
 use cache_ident::{Frame, Ident, NoMemory, Vpn};
 use flat_rules::wants;
 use phys_groups::{Flags, PAGE_BYTES};
@@ -34,6 +36,8 @@ pub struct PageViews {
     views: Vec<PageView>,
     most: usize,
     index: Index,
+    // Views that are found without a search, and are marked already.
+    marked: Marked,
     pub(crate) decoded: DecodedWords,
 }
 
@@ -41,12 +45,13 @@ impl Model for PageViews {
     ghost use Rattle.std.specs.Prelude.{◌≤◌, take, vec_capacity};
     ghost use Rattle.page_views.specs.Views.{table_of, IsTable, Table};
     ghost use Rattle.page_views.specs.Index.{IsIndex};
+    ghost use Rattle.page_views.specs.Spots.{AreAllMarkedAt};
 
     ghost Value = { Table };
 
     ghost view = { λ table. table_of table.most table.index.count table.views.items };
 
-    ghost invariant = { λ table. IsTable table.most table.views.items table.index.count × IsIndex (take table.index.count table.views.items) table.index × (table.most ≤ vec_capacity table.views) };
+    ghost invariant = { λ table. IsTable table.most table.views.items table.index.count × IsIndex (take table.index.count table.views.items) table.index × (table.most ≤ vec_capacity table.views) × AreAllMarkedAt (take table.index.count table.views.items) table.marked };
 }
 
 impl PageViews {
@@ -60,6 +65,7 @@ impl PageViews {
             views: Vec::with_capacity(alloc, most)?,
             most,
             index: Index::none(),
+            marked: Marked::none(),
             decoded: DecodedWords::new(alloc)?,
         })
     }
@@ -69,6 +75,7 @@ impl PageViews {
         ensures { self.new ≡ record self.old { views = []; kept = all_dated self.old.views self.old.kept } }
     {
         self.index = Index::none();
+        self.marked = Marked::none();
     }
 
     /// Gives up every view, and all that is kept.
@@ -214,7 +221,21 @@ impl PageViews {
         ensures view { seen_at result self.now.views ≡ view_through self.now.views access va }
         ensures within { IfSome result (λ place. place < length self.now.views) }
     {
-        match self.place(Vpn(va / PAGE_BYTES)) {
+        let page = va / PAGE_BYTES;
+        match self.marked.place(page, access) {
+            Some(place) => Some(place as usize),
+            None => self.search(page, access),
+        }
+    }
+
+    // The place of the view of a page, where that lets an access through. It stays a call, so that an access is short.
+    #[cold]
+    #[inline(never)]
+    fn search(&self, page: u32, access: Access) -> Option<usize>
+        ensures view { seen_at result self.now.views ≡ where_flagged access (find (is_of_page (record { 0 = page })) self.now.views) }
+        ensures within { IfSome result (λ place. place < length self.now.views) }
+    {
+        match self.place(Vpn(page)) {
             Some(place) if wants(access, self.views[place].flags()) => Some(place),
             _ => None,
         }
@@ -263,12 +284,37 @@ impl PageViews {
 
     // Leaves the mark of an access on the view of a page.
     #[inline]
-    pub(crate) fn mark(&mut self, vpn: Vpn, access: Access)
-        ensures { self.new ≡ record self.old { views = map (mark_view_of vpn access) self.old.views } }
+    pub(crate) fn mark(&mut self, va: u32, access: Access)
+        ensures { self.new ≡ record self.old { views = map (mark_view_of (record { 0 = va / 4096 }) access) self.old.views } }
     {
-        if let Some(place) = self.place(vpn) {
-            self.views[place].mark(access);
+        let page = va / PAGE_BYTES;
+        match self.marked.place(page, access) {
+            Some(_) => {}
+            None => self.mark_anew(page, access),
         }
+    }
+
+    // The same of a page, of whose view it isn't known that it has the mark. It stays a call, so that an access is short.
+    #[cold]
+    #[inline(never)]
+    fn mark_anew(&mut self, page: u32, access: Access)
+        ensures { self.new ≡ record self.old { views = map (mark_view_of (record { 0 = page }) access) self.old.views } }
+    {
+        if let Some(place) = self.place(Vpn(page)) {
+            let allowed = wants(access, self.views[place].flags());
+            self.views[place].mark(access);
+            note_if(&mut self.marked, allowed, page, access, place);
+        }
+    }
+}
+
+// Notes the place of the view of a page, where it lets the access through.
+fn note_if(marked: &mut Marked, allowed: bool, page: u32, access: Access, place: usize)
+    requires { place < 64 }
+    ensures { marked.new ≡ noted_if allowed page access place marked.old }
+{
+    if allowed {
+        marked.note(page, access, place as u8);
     }
 }
 
@@ -362,7 +408,9 @@ fn find_touched(views: &[PageView], frame: Frame) -> Option<&PageView>
         .find(|view| view.touched() && view.frame() == frame)
 }
 
-// Puts the low bytes of a number into those of the first `count` views that are of a frame.
+// Puts the low bytes of a number into those of the first `count` views that are of a frame. It stays a call, so that a store is short.
+#[cold]
+#[inline(never)]
 fn put_in(views: &mut [PageView], count: usize, frame: Frame, at: usize, width: Width, value: u32)
     requires count { count ≤ length views.old }
     requires within { at + size_of width < 4097 }

@@ -4,10 +4,12 @@ use Rattle.std.specs.Prelude.{is_some}
 use Rattle.std.proofs.Math.ListN.{length-set}
 use Rattle.page_views.specs.Index.{IsIndex}
 use Rattle.page_views.specs.Origins.{viewed_beside}
+use Rattle.page_views.specs.Spots.{AreAllMarkedAt}
 use Rattle.page_views.specs.Views.{can_fill, is_of_frame, table_of, with_filled, Table, View}
 use Rattle.page_views.proofs.Indexing.{index_filled}
 use Rattle.page_views.proofs.Tables.{table_filled, table_reached, written_over}
 use Rattle.page_views.proofs.Keeping.{table_with}
+use Rattle.page_views.proofs.Spotting.{marked_filled}
 use Rattle.page_views.proofs.table.PageViews.add.Goals as goal
 
 pub invariant_of-self : goal.invariant_of-self
@@ -23,10 +25,12 @@ invariant_of-self c =
     let became = rw c.deref_mut.ensures.value at c.fill_at.ensures in
     let table = table_reached q.most n q.views.items views.items reached c.self.invariant.0 in
     let index = subst (λ (vs : List View). IsIndex vs q.index) (sym same) c.self.invariant.1 in
+    let marked = subst (λ (vs : List View). AreAllMarkedAt vs q.marked) (sym same) c.self.invariant.3 in
     rw c.add.ensures (
       table_filled q.most views.len n views.items c.fill_at.new.views v views.ok.0 reached.behind table room became,
       index_filled views.len n views.items c.fill_at.new.views v c.args.origin c.has_frame-shared.result q.index views.ok.0 reached.behind became refl refl refl shared index,
       omega (arith, c.reach.ensures.capacity, c.self.invariant.2),
+      marked_filled views.len n views.items c.fill_at.new.views v q.marked views.ok.0 reached.behind became marked,
     )
 
 pub returns : goal.returns

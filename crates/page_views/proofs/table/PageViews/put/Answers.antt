@@ -4,6 +4,7 @@ use Rattle.std.specs.Prelude.{slice_get}
 use Rattle.rv32_exec.specs.Pages.{size_of}
 use Rattle.page_views.specs.Views.{put_in_view, table_of, Table, View}
 use Rattle.page_views.proofs.Indexing.{index_within}
+use Rattle.page_views.proofs.Spotting.{marked_put}
 use Rattle.page_views.proofs.Tables.{frame_there, put_copied, put_there, table_after, table_changed, written_over, length-mapped}
 use Rattle.page_views.proofs.table.PageViews.put.Goals as goal
 
@@ -20,6 +21,7 @@ invariant_of-self c =
       table_changed f same q.most q.index.count q.views.items c.put_in.new.views table became,
       index_within f same q.index.count q.views.items c.put_in.new.views q.index table.within became c.self.invariant.1,
       c.self.invariant.2,
+      marked_put c.frame-frame.result count c.args.at c.args.value q.index.count q.views.items c.put_in.new.views q.marked table.within became c.self.invariant.3,
     )
 
 pub returns-then-self : goal.returns-then-self
@@ -49,6 +51,7 @@ invariant_of-self-else-self c =
       table_changed f same q.most q.index.count q.views.items _ table became,
       index_within f same q.index.count q.views.items _ q.index table.within became c.self.invariant.1,
       c.self.invariant.2,
+      marked_put v.frame count c.args.at c.args.value q.index.count q.views.items _ q.marked table.within became c.self.invariant.3,
     )
 
 pub returns-else-self : goal.returns-else-self

@@ -5,6 +5,7 @@ use Rattle.std.proofs.Math.ListN.{length-set}
 use Rattle.page_views.specs.Views.{is_of_frame, kept_since, refilled, table_of, with_filled, Table}
 use Rattle.page_views.proofs.Indexing.{index_filled}
 use Rattle.page_views.proofs.Keeping.{again, again_filled, at_drop, below_drop, kept_there, place_of, table_with}
+use Rattle.page_views.proofs.Spotting.{marked_filled}
 use Rattle.page_views.proofs.Tables.{table_filled, written_over}
 use Rattle.page_views.proofs.table.PageViews.refill.Goals as goal
 
@@ -36,6 +37,7 @@ invariant_of-self c =
       table_filled q.most q.views.len n slots c.recall_at.new.views v q.views.ok.0 below c.self.invariant.0 room became,
       index_filled q.views.len n slots c.recall_at.new.views v (record { vpn = c.args.vpn; frame = c.args.frame; flags = c.args.flags; row = c.args.row; taken = Some place }) c.has_frame-shared.result q.index q.views.ok.0 below became refl refl refl shared c.self.invariant.1,
       c.self.invariant.2,
+      marked_filled q.views.len n slots c.recall_at.new.views v q.marked q.views.ok.0 below became c.self.invariant.3,
     )
 
 pub returns-clause-table : goal.returns-clause-table

@@ -1,0 +1,223 @@
+-- What is noted of views that have marks, and that it stays so.
+use Rattle.std.proofs.Common.{◌≡◌, ℕ, zero, suc, ◌+◌, ◌<◌, ◌≤◌, ◌%◌, Bool, true, false, List, [], ◌∷◌, ◌++◌, map, length, take, drop, set, get_or, Some, None, refl, ap, ap₂, sym, ◌∙◌, subst, arith, inl, inr, eq-eqb}
+use Rattle.std.specs.Prelude.{◌==◌, slice_get, replicate, if◌then◌else◌}
+use Rattle.std.specs.List.{find}
+use Rattle.std.specs.Option.{option_map}
+use Rattle.std.proofs.lemmas.Bool.{eqb-true}
+use Rattle.std.proofs.lemmas.Option.{get_or_from_slice_get, same_Some, slice_get-get_or, slice_get-map, slice_get_within}
+use Rattle.cache_ident.specs.declared.names.Vpn.{Vpn}
+use Rattle.cache_ident.specs.declared.names.Frame.{Frame}
+use Rattle.rv32_exec.specs.declared.statuses.Access.{Access}
+use Rattle.rv32_exec.specs.declared.statuses.Access.TheVariants.{Fetch, Read, Write}
+use Rattle.rv32_exec.specs.Pages.{is_write, put_bytes}
+use Rattle.flat_state.specs.Translation.{wants}
+use Rattle.flat_state.proofs.Finding.{find-passes}
+use Rattle.flat_state.proofs.Places.{get-append, set_cases}
+use Rattle.page_views.specs.declared.spots.Spot.{Spot}
+use Rattle.page_views.specs.declared.spots.Spots.{Spots}
+use Rattle.page_views.specs.declared.spots.Marked.{Marked}
+use Rattle.page_views.specs.Spots.{marked_with, no_spots, noted_if, nothing_marked, with_spot, AreAllMarkedAt, AreMarkedAt, IsMarkedAt, IsSpot}
+use Rattle.page_views.specs.Views.{copied, is_of_page, mark_view, mark_view_of, put_in_view, where_flagged, Copied, HaveOneViewAPage, View}
+use Rattle.std.proofs.lemmas.List.{get_or-take, length-take-le, take_more_set}
+use Rattle.std.proofs.Math.ListN.{length-set}
+use Rattle.page_views.proofs.Tables.{first_mapped, found_at, mark_copied, put_copied, written_over}
+
+-- where nothing is noted
+none_at : (n k : ℕ) (x s : Spot) → slice_get (replicate n x) k ≡ Some s → s ≡ x
+none_at zero k x s e = absurd (cc)
+none_at (suc n) zero x s e = sym (same_Some x s e)
+none_at (suc n) (suc k) x s e = none_at n k x s e
+
+none_spotted : (access : Access) (vs : List View) → AreMarkedAt access vs no_spots
+none_spotted access vs = λ k s there low. absurd (omega (arith, low, ap (λ (t : Spot). t.page) (none_at 16 k (record { page = 4294967295; place = 0 }) s there)))
+
+pub none_marked_at : (vs : List View) → AreAllMarkedAt vs nothing_marked
+none_marked_at vs Fetch = none_spotted Fetch vs
+none_marked_at vs Read = none_spotted Read vs
+none_marked_at vs Write = none_spotted Write vs
+
+-- a view more
+pub marked_more : (vs ws : List View) (m : Marked) → AreAllMarkedAt vs m → AreAllMarkedAt (vs ++ ws) m
+marked_more vs ws m all = λ access k s there low.
+    let old = all access k s there low in
+    record {
+      view = old.view;
+      there = get-append vs ws s.place old.view old.there;
+      page = old.page;
+      allowed = old.allowed;
+      touched = old.touched;
+      written = old.written;
+    }
+
+-- views that are changed, but for what was copied, and that keep their marks
+module _ (f : View → View) (same : (v : View) → copied (f v) ≡ copied v) (touched : (v : View) → v.touched ≡ true → (f v).touched ≡ true) (written : (v : View) → v.written ≡ true → (f v).written ≡ true) where
+  spot_mapped : (access : Access) (vs : List View) (s : Spot) → IsMarkedAt access vs s → IsMarkedAt access (map f vs) s
+  spot_mapped access vs s old =
+      record {
+        view = f old.view;
+        there = slice_get-map f vs s.place ∙ ap (option_map f) old.there;
+        page = ap (λ (c : Copied). c.vpn.0) (same old.view) ∙ old.page;
+        allowed = ap (λ (c : Copied). wants access c.flags) (same old.view) ∙ old.allowed;
+        touched = touched old.view old.touched;
+        written = λ write. written old.view (old.written write);
+      }
+
+  pub marked_mapped : (vs : List View) (m : Marked) → AreAllMarkedAt vs m → AreAllMarkedAt (map f vs) m
+  marked_mapped vs m all = λ access k s there low. spot_mapped access vs s (all access k s there low)
+
+-- a store leaves marks
+pub put_touched : (frame : Frame) (count at value : ℕ) (v : View) → v.touched ≡ true → (put_in_view frame count at value v).touched ≡ true
+put_touched frame count at value v is = by (v.frame.0 == frame.0)
+  where
+    by : (b : Bool) → (if b then record v { present = put_bytes count v.present at value } else v).touched ≡ true
+    by true = is
+    by false = is
+
+pub put_written : (frame : Frame) (count at value : ℕ) (v : View) → v.written ≡ true → (put_in_view frame count at value v).written ≡ true
+put_written frame count at value v is = by (v.frame.0 == frame.0)
+  where
+    by : (b : Bool) → (if b then record v { present = put_bytes count v.present at value } else v).written ≡ true
+    by true = is
+    by false = is
+
+-- .. and so does a mark
+pub mark_touched : (vpn : Vpn) (access : Access) (v : View) → v.touched ≡ true → (mark_view_of vpn access v).touched ≡ true
+mark_touched vpn access v is = by access (v.vpn.0 == vpn.0)
+  where
+    by : (access : Access) (b : Bool) → (if b then mark_view access v else v).touched ≡ true
+    by access false = is
+    by Fetch true = refl
+    by Read true = refl
+    by Write true = refl
+
+pub mark_written : (vpn : Vpn) (access : Access) (v : View) → v.written ≡ true → (mark_view_of vpn access v).written ≡ true
+mark_written vpn access v is = by access (v.vpn.0 == vpn.0)
+  where
+    by : (access : Access) (b : Bool) → (if b then mark_view access v else v).written ≡ true
+    by access false = is
+    by Fetch true = is
+    by Read true = is
+    by Write true = refl
+
+-- a view that is noted is the one of its page
+pub spot_found : (access : Access) (vs : List View) (spots : Spots) (page place : ℕ) → HaveOneViewAPage vs → AreMarkedAt access vs spots → IsSpot spots page place → page < 1048576
+    → (v : View) × (slice_get vs place ≡ Some v) × (find (is_of_page (record { 0 = page })) vs ≡ Some v) × (wants access v.flags ≡ true) × (v.touched ≡ true) × (is_write access ≡ true → v.written ≡ true)
+spot_found access vs spots page place one all is low =
+    let at = all (page % 16) (record { page = page; place = place }) is low in
+    let here = get_or_from_slice_get vs place at.view at.view at.there in
+    (at.view, at.there, found_at (record { 0 = page }) place vs at.view one (slice_get_within vs place at.view at.there) (ap (λ (v : View). v.vpn.0) here ∙ at.page) ∙ ap (λ (v : View). Some v) here, at.allowed, at.touched, at.written)
+
+-- an access goes through it
+pub spot_through : (access : Access) (vs : List View) (spots : Spots) (page place : ℕ) → HaveOneViewAPage vs → AreMarkedAt access vs spots → IsSpot spots page place → page < 1048576
+    → slice_get vs place ≡ where_flagged access (find (is_of_page (record { 0 = page })) vs)
+spot_through access vs spots page place one all is low =
+    let at = spot_found access vs spots page place one all is low in
+    at.1 ∙ sym (ap (where_flagged access) at.2 ∙ ap (λ (b : Bool). if b then Some at.0 else None) at.3)
+
+-- a view that has a mark stays as it is with it
+marked_stays : (access : Access) (v : View) → v.touched ≡ true → (is_write access ≡ true → v.written ≡ true) → mark_view access v ≡ v
+marked_stays Fetch v touched written = ap (λ (b : Bool). record v { touched = b }) (sym touched)
+marked_stays Read v touched written = ap (λ (b : Bool). record v { touched = b }) (sym touched)
+marked_stays Write v touched written = ap₂ (λ (a b : Bool). record v { touched = a; written = b }) (sym touched) (sym (written refl))
+
+-- the others aren't of the page
+stays_behind : (vpn : Vpn) (access : Access) (vs : List View) → ((k : ℕ) (w : View) → slice_get vs k ≡ Some w → w.vpn.0 ≡ vpn.0 → mark_view access w ≡ w) → map (mark_view_of vpn access) vs ≡ vs
+stays_behind vpn access [] each = refl
+stays_behind vpn access (v ∷ vs) each =
+    ap₂ (λ (w : View) (ws : List View). w ∷ ws) (by (v.vpn.0 == vpn.0) refl) (stays_behind vpn access vs (λ k w there. each (suc k) w there))
+  where
+    by : (b : Bool) → (v.vpn.0 == vpn.0) ≡ b → (if b then mark_view access v else v) ≡ v
+    by true same = each zero v refl (eqb-true v.vpn.0 vpn.0 same)
+    by false other = refl
+
+-- the views are as they are marked where the one of the page has the mark
+pub marked_already : (access : Access) (vs : List View) (spots : Spots) (page place : ℕ) → HaveOneViewAPage vs → AreMarkedAt access vs spots → IsSpot spots page place → page < 1048576
+    → vs ≡ map (mark_view_of (record { 0 = page }) access) vs
+marked_already access vs spots page place one all is low =
+    let at = spot_found access vs spots page place one all is low in
+    sym (stays_behind (record { 0 = page }) access vs
+    (λ k w there same.
+    let here = get_or_from_slice_get vs k w w there in
+    let it : w ≡ at.0 = same_Some w at.0 (ap (λ (v : View). Some v) (sym here) ∙ sym (found_at (record { 0 = page }) k vs w one (slice_get_within vs k w there) (ap (λ (v : View). v.vpn.0) here ∙ same)) ∙ at.2) in
+    marked_stays access w (ap (λ (v : View). v.touched) it ∙ at.4) (λ write. ap (λ (v : View). v.written) it ∙ at.5 write)))
+
+-- the view of a page is noted for a kind of access
+spots_with : (access : Access) (vs : List View) (spots : Spots) (page place : ℕ) → IsMarkedAt access vs (record { page = page; place = place }) → AreMarkedAt access vs spots → AreMarkedAt access vs (with_spot page place spots)
+spots_with access vs spots page place new all = λ k s there low.
+    elim (set_cases spots.spots (page % 16) k (record { page = page; place = place }) s there) [
+      | inl here ↦ subst (IsMarkedAt access vs) here.1 new
+      | inr other ↦ all k s other low
+    ]
+
+pub marked_noted : (access : Access) (vs : List View) (m : Marked) (page place : ℕ) → IsMarkedAt access vs (record { page = page; place = place }) → AreAllMarkedAt vs m → AreAllMarkedAt vs (marked_with page access place m)
+marked_noted Fetch vs m page place new all Fetch = spots_with Fetch vs m.fetches page place new (all Fetch)
+marked_noted Fetch vs m page place new all Read = all Read
+marked_noted Fetch vs m page place new all Write = all Write
+marked_noted Read vs m page place new all Fetch = all Fetch
+marked_noted Read vs m page place new all Read = spots_with Read vs m.reads page place new (all Read)
+marked_noted Read vs m page place new all Write = all Write
+marked_noted Write vs m page place new all Fetch = all Fetch
+marked_noted Write vs m page place new all Read = all Read
+marked_noted Write vs m page place new all Write = spots_with Write vs m.writes page place new (all Write)
+
+-- the view that was marked has the mark of the access
+pub newly_marked : (access : Access) (vs : List View) (page place : ℕ) (v : View) → slice_get vs place ≡ Some v → v.vpn.0 ≡ page → wants access v.flags ≡ true
+    → IsMarkedAt access (map (mark_view_of (record { 0 = page }) access) vs) (record { page = page; place = place })
+newly_marked access vs page place v there same allowed =
+    let f = mark_view_of (record { 0 = page }) access in
+    let is : f v ≡ mark_view access v = ap (λ (b : Bool). if b then mark_view access v else v) (eq-eqb v.vpn.0 page same) in
+    let kept = mark_copied (record { 0 = page }) access v in
+    record {
+      view = f v;
+      there = slice_get-map f vs place ∙ ap (option_map f) there;
+      page = ap (λ (c : Copied). c.vpn.0) kept ∙ same;
+      allowed = ap (λ (c : Copied). wants access c.flags) kept ∙ allowed;
+      touched = ap (λ (w : View). w.touched) is ∙ mark_touches access;
+      written = λ write. ap (λ (w : View). w.written) is ∙ mark_writes access write;
+    }
+  where
+    mark_touches : (access : Access) → (mark_view access v).touched ≡ true
+    mark_touches Fetch = refl
+    mark_touches Read = refl
+    mark_touches Write = refl
+
+    mark_writes : (access : Access) → is_write access ≡ true → (mark_view access v).written ≡ true
+    mark_writes Fetch write = absurd (cc)
+    mark_writes Read write = absurd (cc)
+    mark_writes Write write = refl
+
+-- what is noted of the views that there are, once one was added in a slot
+pub marked_filled : (n count : ℕ) (xs ys : List View) (v : View) (m : Marked) → n ≡ length xs → count < length xs → ys ≡ set xs count v → AreAllMarkedAt (take count xs) m
+    → AreAllMarkedAt (take (count + 1) (take n (ys ++ drop (length ys) xs))) m
+marked_filled n count xs ys v m whole below became all =
+    let size : length ys ≡ length xs = ap length became ∙ length-set xs count v in
+    rw (written_over n xs ys whole size)
+    (subst (λ (vs : List View). AreAllMarkedAt vs m) (sym (ap (take (count + 1)) became ∙ take_more_set xs count v below)) (marked_more (take count xs) (v ∷ []) m all))
+
+-- .. and once a store went to a frame, or an access left its mark
+pub marked_put : (frame : Frame) (size at value count : ℕ) (xs ys : List View) (m : Marked) → count ≤ length xs → ys ≡ map (put_in_view frame size at value) (take count xs) ++ drop count xs → AreAllMarkedAt (take count xs) m → AreAllMarkedAt (take count ys) m
+marked_put frame size at value count xs ys m within became all =
+    let f = put_in_view frame size at value in
+    subst (λ (vs : List View). AreAllMarkedAt vs m) (sym (ap (take count) became ∙ first_mapped f count xs within))
+    (marked_mapped f (put_copied frame size at value) (put_touched frame size at value) (put_written frame size at value) (take count xs) m all)
+
+pub marked_marked : (vpn : Vpn) (access : Access) (count : ℕ) (xs ys : List View) (m : Marked) → count ≤ length xs → ys ≡ map (mark_view_of vpn access) (take count xs) ++ drop count xs → AreAllMarkedAt (take count xs) m → AreAllMarkedAt (take count ys) m
+marked_marked vpn access count xs ys m within became all =
+    let f = mark_view_of vpn access in
+    subst (λ (vs : List View). AreAllMarkedAt vs m) (sym (ap (take count) became ∙ first_mapped f count xs within))
+    (marked_mapped f (mark_copied vpn access) (mark_touched vpn access) (mark_written vpn access) (take count xs) m all)
+
+-- .. and the view of the mark is noted, where it lets the access through
+pub marked_noted_if : (allowed : Bool) (page : ℕ) (access : Access) (count place : ℕ) (xs ys : List View) (v : View) (m : Marked) → count ≤ length xs → place < length (take count xs)
+    → slice_get (take count xs) place ≡ find (is_of_page (record { 0 = page })) (take count xs) → v ≡ get_or xs place v → allowed ≡ wants access v.flags
+    → ys ≡ map (mark_view_of (record { 0 = page }) access) (take count xs) ++ drop count xs → AreAllMarkedAt (take count xs) m → AreAllMarkedAt (take count ys) (noted_if allowed page access place m)
+marked_noted_if false page access count place xs ys v m within below found is allowed became all = marked_marked (record { 0 = page }) access count xs ys m within became all
+marked_noted_if true page access count place xs ys v m within below found is allowed became all =
+    let f = mark_view_of (record { 0 = page }) access in
+    let short : place < count = omega (arith, below, length-take-le count xs within) in
+    let there : slice_get (take count xs) place ≡ Some v = slice_get-get_or (take count xs) place v below ∙ ap (λ (w : View). Some w) (get_or-take count xs place v short ∙ sym is) in
+    let passes = find-passes (is_of_page (record { 0 = page })) (take count xs) v (sym found ∙ there) in
+    let new = newly_marked access (take count xs) page place v there (eqb-true v.vpn.0 page passes) (sym allowed) in
+    marked_noted access (take count ys) m page place
+    (subst (λ (vs : List View). IsMarkedAt access vs (record { page = page; place = place })) (sym (ap (take count) became ∙ first_mapped f count xs within)) new)
+    (marked_marked (record { 0 = page }) access count xs ys m within became all)

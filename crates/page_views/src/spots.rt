@@ -1,0 +1,108 @@
+//! Where accesses of late went through.
+
+ghost use Rattle.std.specs.Prelude.{◌≡◌, ◌%◌, IfSome};
+ghost use Rattle.page_views.specs.Spots.{marked_with, no_spots, nothing_marked, spots_of, with_spot, IsSpot};
+
+use rv32_exec::Access;
+
+const LINES: usize = 16;
+
+// No page has this number.
+const NO_PAGE: u32 = u32::MAX;
+
+// The view of a page, by its place.
+#[derive(Clone, Copy)]
+pub(crate) struct Spot {
+    pub(crate) page: u32,
+    pub(crate) place: u8,
+}
+
+// For the pages of each line, the view that was noted last.
+#[derive(Clone, Copy)]
+pub(crate) struct Spots {
+    pub(crate) spots: [Spot; LINES],
+}
+
+impl Spots {
+    pub(crate) fn none() -> Spots
+        ensures { result ≡ no_spots }
+    {
+        Spots {
+            spots: [Spot {
+                page: NO_PAGE,
+                place: 0,
+            }; LINES],
+        }
+    }
+
+    // The place of the view of a page, if that is the one that was noted last for the pages of its line.
+    #[inline]
+    pub(crate) fn place(&self, page: u32) -> Option<u8>
+        ensures { IfSome result (IsSpot self.now page) }
+    {
+        let spot = self.spots[line_of(page)];
+        if spot.page == page {
+            Some(spot.place)
+        } else {
+            None
+        }
+    }
+
+    // Notes the place of the view of a page.
+    pub(crate) fn note(&mut self, page: u32, place: u8)
+        ensures { self.new ≡ with_spot page place self.old }
+    {
+        self.spots[line_of(page)] = Spot { page, place };
+    }
+}
+
+// The line of a page.
+#[inline]
+fn line_of(page: u32) -> usize
+    ensures { result ≡ page % 16 }
+{
+    page as usize % LINES
+}
+
+// Views that let accesses of a kind through, and that have the mark of one.
+#[derive(Clone, Copy)]
+pub(crate) struct Marked {
+    pub(crate) fetches: Spots,
+    pub(crate) reads: Spots,
+    pub(crate) writes: Spots,
+}
+
+impl Marked {
+    pub(crate) fn none() -> Marked
+        ensures { result ≡ nothing_marked }
+    {
+        Marked {
+            fetches: Spots::none(),
+            reads: Spots::none(),
+            writes: Spots::none(),
+        }
+    }
+
+    // The place of the view of a page, where it is known that it lets the access through, and has its mark.
+    #[inline]
+    pub(crate) fn place(&self, page: u32, access: Access) -> Option<u8>
+        ensures { IfSome result (IsSpot (spots_of access self.now) page) }
+    {
+        match access {
+            Access::Fetch => self.fetches.place(page),
+            Access::Read => self.reads.place(page),
+            Access::Write => self.writes.place(page),
+        }
+    }
+
+    // Notes the view of a page that lets the access through and has its mark.
+    pub(crate) fn note(&mut self, page: u32, access: Access, place: u8)
+        ensures { self.new ≡ marked_with page access place self.old }
+    {
+        match access {
+            Access::Fetch => self.fetches.note(page, place),
+            Access::Read => self.reads.note(page, place),
+            Access::Write => self.writes.note(page, place),
+        }
+    }
+}
