@@ -1,2 +1,3 @@
 pub mod StepChanges
 pub mod Translations
+pub mod Decoding

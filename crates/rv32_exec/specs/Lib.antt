@@ -3,3 +3,4 @@ pub mod Changes
 pub mod Registers
 pub mod Actions
 pub mod Steps
+pub mod Decoded

@@ -1,21 +1,16 @@
 // Instructions that were decoded before.
 
 ghost use Rattle.std.specs.Prelude.{◌≡◌, ◌<◌, ◌≤◌, vec_len, vec_capacity, IfSome};
+ghost use Rattle.std.specs.Bool.{OnTrue};
 ghost use Rattle.rv32_isa.specs.Table.{IsValid, instruction_of};
+ghost use Rattle.rv32_exec.specs.Decoded.{HasWord};
 
+use crate::lines::Line;
 use crate::outputs::NoMemory;
 use rv32_isa::{Instr, decode};
 use std::alloc::Global;
 
 const LINES: usize = 1_024;
-
-// A word and the instruction that it is.
-#[derive(Clone, Copy)]
-struct Line {
-    word: u32,
-    instr: Option<Instr>,
-    ghost decoded: { instr ≡ instruction_of word },
-}
 
 /// The instructions of words that were met lately, each remembered by the address of its word.
 ///
@@ -41,24 +36,45 @@ impl DecodedWords {
         ensures decoded { result ≡ instruction_of word }
         ensures valid { IfSome result IsValid }
     {
-        match self.lines.get(place(va)) {
-            Some(line) if line.word == word => line.instr,
-            _ => self.meet(va, word),
+        let place = place(va);
+        self.know(place, word);
+        self.lines[place].instr
+    }
+
+    // Has the line at a place remember a word.
+    #[inline]
+    fn know(&mut self, place: usize, word: u32)
+        requires { place < 1024 }
+        ensures { HasWord self.new.lines.items place word }
+    {
+        if !has_word(&self.lines, place, word) {
+            self.meet(place, word);
         }
     }
 
-    // Decodes a word and remembers it. It stays a call, so that its caller reads the word in one move.
+    // The same where it doesn't yet. It stays a call, and answers nothing through memory, so that its caller is short.
     #[cold]
     #[inline(never)]
-    fn meet(&mut self, va: u32, word: u32) -> Option<Instr>
-        ensures decoded { result ≡ instruction_of word }
-        ensures valid { IfSome result IsValid }
+    fn meet(&mut self, place: usize, word: u32)
+        requires { place < 1024 }
+        ensures { HasWord self.new.lines.items place word }
     {
-        let instr = decode(word);
-        let place = place(va);
         reach(&mut self.lines, place);
-        self.lines[place] = Line { word, instr };
-        instr
+        self.lines[place] = Line {
+            word,
+            instr: decode(word),
+        };
+    }
+}
+
+// Whether the line at a place is there and remembers a word.
+#[inline]
+fn has_word(lines: &[Line], place: usize, word: u32) -> bool
+    ensures { OnTrue result (HasWord lines.now place word) }
+{
+    match lines.get(place) {
+        Some(line) => line.word == word,
+        None => false,
     }
 }
 

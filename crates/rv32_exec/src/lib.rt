@@ -4,6 +4,7 @@
 mod actions;
 mod contexts;
 mod decoded;
+mod lines;
 mod outputs;
 mod spaces;
 mod statuses;

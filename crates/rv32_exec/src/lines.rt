@@ -1,0 +1,14 @@
+// A word that was decoded.
+
+ghost use Rattle.std.specs.Prelude.{◌≡◌};
+ghost use Rattle.rv32_isa.specs.Table.{instruction_of};
+
+use rv32_isa::Instr;
+
+// A word and the instruction that it is.
+#[derive(Clone, Copy)]
+pub(crate) struct Line {
+    pub(crate) word: u32,
+    pub(crate) instr: Option<Instr>,
+    ghost decoded: { instr ≡ instruction_of word },
+}
