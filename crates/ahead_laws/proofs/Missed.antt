@@ -7,32 +7,32 @@ use Rattle.phys_groups.specs.Translation.{Translated, through, no_row, no_flag, 
 use Rattle.rv32_isa.specs.declared.forms.Instr.{Instr}
 use Rattle.rv32_isa.specs.Table.{instruction_of}
 use Rattle.rv32_ma.specs.declared.atomics.AmoOp.{AmoOp}
-use Rattle.rv32_exec.specs.declared.contexts.Context.{Context}
-use Rattle.rv32_exec.specs.declared.statuses.Access.{Access}
-use Rattle.rv32_exec.specs.declared.statuses.Access.TheVariants.{Fetch, Read, Write}
-use Rattle.rv32_exec.specs.declared.statuses.Reason.{Reason}
-use Rattle.rv32_exec.specs.declared.statuses.Status.{Status}
-use Rattle.rv32_exec.specs.declared.statuses.Status.TheVariants.{Ready}
-use Rattle.rv32_exec.specs.declared.spaces.Width.{Width}
-use Rattle.rv32_exec.specs.declared.spaces.Width.TheVariants.{Byte, Half, Word}
-use Rattle.rv32_exec.specs.declared.actions.Action.{Action}
-use Rattle.rv32_exec.specs.declared.actions.Action.TheVariants as actions
-use Rattle.rv32_exec.specs.declared.steps.Stepped.{Stepped}
-use Rattle.rv32_exec.specs.declared.steps.Stepped.TheVariants as steps
-use Rattle.rv32_exec.specs.Pages.{Page, size_of, translation, translates, number_at, read_through, fetched, loaded}
-use Rattle.rv32_exec.specs.Actions.{action_of}
-use Rattle.rv32_exec.specs.Steps.{After, ended, load_found, store_found, write_found, read_found, after_action, after_decoding, after_fetch, after_step as after_instruction}
-use Rattle.flat_state.specs.declared.records.FlatThread.{FlatThread}
-use Rattle.flat_state.specs.declared.records.Signal.{Signal}
-use Rattle.flat_state.specs.State.{FlatState, is_ready}
-use Rattle.flat_state.specs.Translation.{reached, rights_of, row_through}
-use Rattle.flat_state.specs.Pages.{pages_of, page_of}
-use Rattle.flat_state.specs.NextSteps.{is_miss}
-use Rattle.flat_state.specs.Signals.{full_among, is_runnable, next_action, next_signal, receivers_for, signal_of, signal_through}
-use Rattle.flat_state.specs.Step.{after_step, faulted, outcome, step_if, step_of, stepped}
-use Rattle.flat_state.proofs.Translating.{translation-pages}
-use Rattle.page_views.specs.Views.{page_of as view_page, pages_of_views, view_through, View}
-use Rattle.page_views.proofs.Tables.{translation_is}
+use Rattle.flat_machine.specs.rv32_exec.specs.declared.contexts.Context.{Context}
+use Rattle.flat_machine.specs.rv32_exec.specs.declared.statuses.Access.{Access}
+use Rattle.flat_machine.specs.rv32_exec.specs.declared.statuses.Access.TheVariants.{Fetch, Read, Write}
+use Rattle.flat_machine.specs.rv32_exec.specs.declared.statuses.Reason.{Reason}
+use Rattle.flat_machine.specs.rv32_exec.specs.declared.statuses.Status.{Status}
+use Rattle.flat_machine.specs.rv32_exec.specs.declared.statuses.Status.TheVariants.{Ready}
+use Rattle.flat_machine.specs.rv32_exec.specs.declared.spaces.Width.{Width}
+use Rattle.flat_machine.specs.rv32_exec.specs.declared.spaces.Width.TheVariants.{Byte, Half, Word}
+use Rattle.flat_machine.specs.rv32_exec.specs.declared.actions.Action.{Action}
+use Rattle.flat_machine.specs.rv32_exec.specs.declared.actions.Action.TheVariants as actions
+use Rattle.flat_machine.specs.rv32_exec.specs.declared.steps.Stepped.{Stepped}
+use Rattle.flat_machine.specs.rv32_exec.specs.declared.steps.Stepped.TheVariants as steps
+use Rattle.flat_machine.specs.rv32_exec.specs.Pages.{Page, size_of, translation, translates, number_at, read_through, fetched, loaded}
+use Rattle.flat_machine.specs.rv32_exec.specs.Actions.{action_of}
+use Rattle.flat_machine.specs.rv32_exec.specs.Steps.{After, ended, load_found, store_found, write_found, read_found, after_action, after_decoding, after_fetch, after_step as after_instruction}
+use Rattle.flat_machine.specs.flat_state.specs.declared.records.FlatThread.{FlatThread}
+use Rattle.flat_machine.specs.flat_state.specs.declared.records.Signal.{Signal}
+use Rattle.flat_machine.specs.flat_state.specs.State.{FlatState, is_ready}
+use Rattle.flat_machine.specs.flat_state.specs.Translation.{reached, rights_of, row_through}
+use Rattle.flat_machine.specs.flat_state.specs.Pages.{pages_of, page_of}
+use Rattle.flat_machine.specs.flat_state.specs.NextSteps.{is_miss}
+use Rattle.flat_machine.specs.flat_state.specs.Signals.{full_among, is_runnable, next_action, next_signal, receivers_for, signal_of, signal_through}
+use Rattle.flat_machine.specs.flat_state.specs.Step.{after_step, faulted, outcome, step_if, step_of, stepped}
+use Rattle.flat_machine.specs.flat_state.proofs.Translating.{translation-pages}
+use Rattle.quantum.specs.page_views.specs.Views.{page_of as view_page, pages_of_views, view_through, View}
+use Rattle.quantum.specs.page_views.proofs.Tables.{translation_is}
 use Rattle.ahead_laws.specs.Addresses.{address_of}
 use Rattle.quantum.specs.LocalRun.{Shows}
 use Rattle.quantum.proofs.StepsIn.{ShowsAt}

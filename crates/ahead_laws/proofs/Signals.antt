@@ -8,37 +8,37 @@ use Rattle.cache_ident.specs.declared.names.SpaceNo.{SpaceNo}
 use Rattle.phys_groups.specs.declared.rows.Row.{Row}
 use Rattle.phys_groups.specs.Rows.{marked}
 use Rattle.phys_groups.specs.Translation.{Translated, place_in, through}
-use Rattle.signal_pages.specs.Signals.{is_signalling}
+use Rattle.flat_machine.specs.signal_pages.specs.Signals.{is_signalling}
 use Rattle.rv32_isa.specs.declared.forms.Instr.{Instr}
 use Rattle.rv32_isa.specs.Table.{instruction_of}
-use Rattle.rv32_exec.specs.declared.contexts.Context.{Context}
-use Rattle.rv32_exec.specs.declared.statuses.Access.TheVariants.{Fetch, Write}
-use Rattle.rv32_exec.specs.declared.statuses.Status.{Status}
-use Rattle.rv32_exec.specs.declared.statuses.Status.TheVariants.{Ready}
-use Rattle.rv32_exec.specs.declared.spaces.Width.TheVariants.{Word}
-use Rattle.rv32_exec.specs.declared.actions.Action.{Action}
-use Rattle.rv32_exec.specs.declared.actions.Action.TheVariants.{Store}
-use Rattle.rv32_exec.specs.declared.steps.Stepped.TheVariants as steps
-use Rattle.rv32_exec.specs.Pages.{Page, fetched, put_bytes, stored, touched_at, translates}
-use Rattle.rv32_exec.specs.Actions.{action_of}
-use Rattle.rv32_exec.specs.Registers.{next_of}
-use Rattle.rv32_exec.specs.Steps.{after_action, after_decoding, after_fetch, after_step as after_instruction}
-use Rattle.flat_state.specs.declared.records.FlatThread.{FlatThread}
-use Rattle.flat_state.specs.declared.records.Signal.{Signal}
-use Rattle.flat_state.specs.State.{FlatState, is_ready, with_thread}
-use Rattle.flat_state.specs.Declaration.{locks_granted}
-use Rattle.flat_state.specs.Translation.{reached, rights_of, row_through}
-use Rattle.flat_state.specs.Pages.{page_of, pages_of}
-use Rattle.flat_state.specs.NextSteps.{is_miss}
-use Rattle.flat_state.specs.Signals.{delivered, full_among, is_runnable, next_action, next_signal, receivers_for, receivers_of, signal_of, signal_through}
-use Rattle.flat_state.specs.Step.{after_step, outcome, step_if, step_of, stepped, written_back}
-use Rattle.flat_state.specs.WellFormed.{IsWellFormed}
-use Rattle.flat_state.proofs.Translating.{translation-pages}
-use Rattle.flat_mmu.specs.Seen.{beside}
-use Rattle.flat_mmu.proofs.MmuLaws.{store_keeps, store_pages, touch_keeps, touch_pages}
+use Rattle.flat_machine.specs.rv32_exec.specs.declared.contexts.Context.{Context}
+use Rattle.flat_machine.specs.rv32_exec.specs.declared.statuses.Access.TheVariants.{Fetch, Write}
+use Rattle.flat_machine.specs.rv32_exec.specs.declared.statuses.Status.{Status}
+use Rattle.flat_machine.specs.rv32_exec.specs.declared.statuses.Status.TheVariants.{Ready}
+use Rattle.flat_machine.specs.rv32_exec.specs.declared.spaces.Width.TheVariants.{Word}
+use Rattle.flat_machine.specs.rv32_exec.specs.declared.actions.Action.{Action}
+use Rattle.flat_machine.specs.rv32_exec.specs.declared.actions.Action.TheVariants.{Store}
+use Rattle.flat_machine.specs.rv32_exec.specs.declared.steps.Stepped.TheVariants as steps
+use Rattle.flat_machine.specs.rv32_exec.specs.Pages.{Page, fetched, put_bytes, stored, touched_at, translates}
+use Rattle.flat_machine.specs.rv32_exec.specs.Actions.{action_of}
+use Rattle.flat_machine.specs.rv32_exec.specs.Registers.{next_of}
+use Rattle.flat_machine.specs.rv32_exec.specs.Steps.{after_action, after_decoding, after_fetch, after_step as after_instruction}
+use Rattle.flat_machine.specs.flat_state.specs.declared.records.FlatThread.{FlatThread}
+use Rattle.flat_machine.specs.flat_state.specs.declared.records.Signal.{Signal}
+use Rattle.flat_machine.specs.flat_state.specs.State.{FlatState, is_ready, with_thread}
+use Rattle.flat_machine.specs.flat_state.specs.Declaration.{locks_granted}
+use Rattle.flat_machine.specs.flat_state.specs.Translation.{reached, rights_of, row_through}
+use Rattle.flat_machine.specs.flat_state.specs.Pages.{page_of, pages_of}
+use Rattle.flat_machine.specs.flat_state.specs.NextSteps.{is_miss}
+use Rattle.flat_machine.specs.flat_state.specs.Signals.{delivered, full_among, is_runnable, next_action, next_signal, receivers_for, receivers_of, signal_of, signal_through}
+use Rattle.flat_machine.specs.flat_state.specs.Step.{after_step, outcome, step_if, step_of, stepped, written_back}
+use Rattle.flat_machine.specs.flat_state.specs.WellFormed.{IsWellFormed}
+use Rattle.flat_machine.specs.flat_state.proofs.Translating.{translation-pages}
+use Rattle.flat_machine.specs.flat_mmu.specs.Seen.{beside}
+use Rattle.flat_machine.specs.flat_mmu.proofs.MmuLaws.{store_keeps, store_pages, touch_keeps, touch_pages}
 use Rattle.flat_machine.proofs.ChangeSound.{marked_sound, stored_sound}
-use Rattle.flat_events.proofs.RunLaws.{went_back}
-use Rattle.page_views.specs.Views.{pages_of_views, View}
+use Rattle.flat_machine.specs.flat_events.proofs.RunLaws.{went_back}
+use Rattle.quantum.specs.page_views.specs.Views.{pages_of_views, View}
 use Rattle.quantum.specs.LocalRun.{Shows}
 use Rattle.quantum.proofs.StepsIn.{ShowsAt, same_action}
 use Rattle.quantum.proofs.Changed.{shows_at, through_parts}

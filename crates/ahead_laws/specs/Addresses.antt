@@ -1,7 +1,7 @@
 -- Where an action goes in memory.
 use Rattle.std.specs.Prelude.{ℕ, Option, Some, None}
-use Rattle.rv32_exec.specs.declared.actions.Action.{Action}
-use Rattle.rv32_exec.specs.declared.actions.Action.TheVariants as actions
+use Rattle.flat_machine.specs.rv32_exec.specs.declared.actions.Action.{Action}
+use Rattle.flat_machine.specs.rv32_exec.specs.declared.actions.Action.TheVariants as actions
 
 -- the address that the action loads from or stores to, if it does
 abbrev pub address_of : Option Action → Option ℕ

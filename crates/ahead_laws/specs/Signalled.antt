@@ -4,12 +4,12 @@ use Rattle.cache_ident.specs.declared.names.SpaceNo.{SpaceNo}
 use Rattle.phys_groups.specs.declared.rows.Row.{Row}
 use Rattle.phys_groups.specs.Rows.{marked}
 use Rattle.phys_groups.specs.Translation.{place_in}
-use Rattle.rv32_exec.specs.declared.statuses.Status.TheVariants.{Ready}
-use Rattle.rv32_exec.specs.Pages.{put_bytes}
-use Rattle.rv32_exec.specs.Registers.{next_of}
-use Rattle.flat_state.specs.declared.records.FlatThread.{FlatThread}
-use Rattle.flat_state.specs.State.{FlatState, with_thread}
-use Rattle.flat_state.specs.Signals.{receivers_of, sent}
+use Rattle.flat_machine.specs.rv32_exec.specs.declared.statuses.Status.TheVariants.{Ready}
+use Rattle.flat_machine.specs.rv32_exec.specs.Pages.{put_bytes}
+use Rattle.flat_machine.specs.rv32_exec.specs.Registers.{next_of}
+use Rattle.flat_machine.specs.flat_state.specs.declared.records.FlatThread.{FlatThread}
+use Rattle.flat_machine.specs.flat_state.specs.State.{FlatState, with_thread}
+use Rattle.flat_machine.specs.flat_state.specs.Signals.{receivers_of, sent}
 
 -- the word is in memory, and the rows of the fetch and of the store have their marks
 abbrev pub stored_by : FlatState → SpaceNo → ℕ → ℕ → ℕ → Row → FlatState

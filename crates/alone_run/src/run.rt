@@ -1,7 +1,7 @@
 //! Turns on processor 0 until the run is over.
 
 ghost use Rattle.std.specs.Prelude.{◌≡◌, ◌≢◌, true, OnOk};
-ghost use Rattle.flat_state.specs.declared.records.Settled.TheVariants.{Running};
+ghost use Rattle.board_turns.specs.flat_state.specs.declared.records.Settled.TheVariants.{Running};
 ghost use Rattle.board_turns.specs.owners.specs.Owning.{AreOwnersOf};
 ghost use Rattle.board_turns.specs.board_core.specs.Going.{Grew};
 ghost use Rattle.board_turns.specs.board_commits.specs.Tickets.{AreAllAsOf};

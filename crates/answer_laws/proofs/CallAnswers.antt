@@ -12,30 +12,30 @@ use Rattle.cache_ident.specs.declared.names.ThreadNo.{ThreadNo}
 use Rattle.cache_ident.specs.Residents.{IsResident}
 use Rattle.phys_groups.specs.declared.rows.Row.{Row}
 use Rattle.phys_groups.specs.Rows.{row_name}
-use Rattle.flat_state.specs.declared.events.Machine.{Machine}
-use Rattle.flat_state.specs.declared.records.FlatThread.{FlatThread}
-use Rattle.flat_state.specs.declared.records.NextStep.{NextStep}
-use Rattle.flat_state.specs.Call.{has_nothing_to_take, is_completable}
-use Rattle.flat_state.specs.Dependence.{owner, owner_of_thread}
-use Rattle.flat_state.specs.NextSteps.{data_row, faults, fetch_row, next_step_if, next_step_of}
-use Rattle.flat_state.specs.State.{FlatState, is_ready, is_trapped}
-use Rattle.run_journal.specs.Legal.{IsRowResident}
-use Rattle.thread_cache.specs.declared.ThreadRec.{ThreadRec}
-use Rattle.board_core.specs.desc_stores.specs.declared.items.Item.TheVariants as item
-use Rattle.board_core.specs.desc_stores.specs.Contents.{item_as, residents_of, Contents}
-use Rattle.board_core.specs.desc_stores.specs.Sound.{IsExactlyOne}
-use Rattle.board_core.specs.desc_parents.specs.Seen.{seen}
-use Rattle.board_core.specs.shown_state.specs.Shown.{flat_thread, shown, thread_of}
-use Rattle.board_core.specs.shown_state.proofs.LookupLemmas.{found_thread}
-use Rattle.board_core.specs.board_ops.specs.declared.refusals.Refused.{Refused}
-use Rattle.board_core.specs.board_ops.specs.declared.refusals.Refused.TheVariants as why
-use Rattle.board_core.specs.cached_machine.specs.Cached.{is_loaded, state_of}
-use Rattle.board_core.specs.cached_machine.specs.Posts.{mark_of}
-use Rattle.board_core.specs.Core.{contents_of, Recorded}
-use Rattle.board_core.specs.Refusals.{not_ready, not_waiting, over}
-use Rattle.board_checks.specs.Identifiers.{not_a, thread_as}
-use Rattle.board_checks.specs.Refusals.{not_completable, not_owned_as, not_owner, not_trapped, refusal_of_complete, refusal_of_thread, wait_empty}
-use Rattle.board_checks.proofs.IdentifierLemmas.{call_tested, name_is, thread_is}
+use Rattle.board_loads.specs.flat_state.specs.declared.events.Machine.{Machine}
+use Rattle.board_loads.specs.flat_state.specs.declared.records.FlatThread.{FlatThread}
+use Rattle.board_loads.specs.flat_state.specs.declared.records.NextStep.{NextStep}
+use Rattle.board_loads.specs.flat_state.specs.Call.{has_nothing_to_take, is_completable}
+use Rattle.board_loads.specs.flat_state.specs.Dependence.{owner, owner_of_thread}
+use Rattle.board_loads.specs.flat_state.specs.NextSteps.{data_row, faults, fetch_row, next_step_if, next_step_of}
+use Rattle.board_loads.specs.flat_state.specs.State.{FlatState, is_ready, is_trapped}
+use Rattle.board_threads.specs.run_journal.specs.Legal.{IsRowResident}
+use Rattle.board_loads.specs.thread_cache.specs.declared.ThreadRec.{ThreadRec}
+use Rattle.board_threads.specs.desc_stores.specs.declared.items.Item.TheVariants as item
+use Rattle.board_threads.specs.desc_stores.specs.Contents.{item_as, residents_of, Contents}
+use Rattle.board_threads.specs.desc_stores.specs.Sound.{IsExactlyOne}
+use Rattle.board_loads.specs.desc_parents.specs.Seen.{seen}
+use Rattle.board_threads.specs.shown_state.specs.Shown.{flat_thread, shown, thread_of}
+use Rattle.board_threads.specs.shown_state.proofs.LookupLemmas.{found_thread}
+use Rattle.board_threads.specs.board_ops.specs.declared.refusals.Refused.{Refused}
+use Rattle.board_threads.specs.board_ops.specs.declared.refusals.Refused.TheVariants as why
+use Rattle.board_threads.specs.cached_machine.specs.Cached.{is_loaded, state_of}
+use Rattle.board_threads.specs.cached_machine.specs.Posts.{mark_of}
+use Rattle.board_threads.specs.board_core.specs.Core.{contents_of, Recorded}
+use Rattle.board_threads.specs.board_core.specs.Refusals.{not_ready, not_waiting, over}
+use Rattle.board_threads.specs.board_checks.specs.Identifiers.{not_a, thread_as}
+use Rattle.board_threads.specs.board_checks.specs.Refusals.{not_completable, not_owned_as, not_owner, not_trapped, refusal_of_complete, refusal_of_thread, wait_empty}
+use Rattle.board_threads.specs.board_checks.proofs.IdentifierLemmas.{call_tested, name_is, thread_is}
 use Rattle.board_threads.specs.Refusals.{mapped_by, not_faulting, refusal_of_ending, refusal_of_fault, refusal_of_next, row_absent}
 use Rattle.board_threads.proofs.IdentLemmas.{content_named, loaded_if, record_named}
 use Rattle.answer_laws.proofs.Passing.{first, item_named, owned, owns_itself, passes, second, skip, thread_tested}

@@ -3,12 +3,12 @@ use Rattle.std.proofs.Common.{◌≡◌, ℕ, List, Contains, refl, sym, subst}
 use Rattle.cache_ident.specs.declared.idents.Ident.{Ident}
 use Rattle.cache_ident.specs.declared.names.Name.{Name}
 use Rattle.cache_ident.specs.Residents.{Resident, IsNameResident}
-use Rattle.flat_state.specs.Dependence.{directly, further, Depends, DependsFar}
-use Rattle.run_journal.specs.Legal.{AreGood}
-use Rattle.board_core.specs.desc_tables.specs.May.{IsKeptFor}
-use Rattle.board_core.specs.desc_stores.specs.Contents.{residents_of, Contents}
-use Rattle.board_core.specs.desc_parents.specs.Seen.{seen}
-use Rattle.board_core.specs.Core.{contents_of, IsSound, Recorded}
+use Rattle.board_loads.specs.flat_state.specs.Dependence.{directly, further, Depends, DependsFar}
+use Rattle.board_threads.specs.run_journal.specs.Legal.{AreGood}
+use Rattle.board_threads.specs.desc_tables.specs.May.{IsKeptFor}
+use Rattle.board_threads.specs.desc_stores.specs.Contents.{residents_of, Contents}
+use Rattle.board_loads.specs.desc_parents.specs.Seen.{seen}
+use Rattle.board_threads.specs.board_core.specs.Core.{contents_of, IsSound, Recorded}
 use Rattle.board_loads.specs.Loads.{IsLoadedAs}
 
 module _ (c : Contents) (good : AreGood (seen c) (residents_of c)) (n : Name) (keep : List Ident) (kept : IsKeptFor c n keep) where

@@ -17,26 +17,26 @@ use Rattle.cache_ident.specs.Residents.{IsNameResident, IsResident}
 use Rattle.phys_groups.specs.declared.rows.Row.{Row}
 use Rattle.phys_groups.specs.Rows.{row_name}
 use Rattle.phys_groups.specs.Translation.{is_row_of, row_of}
-use Rattle.signal_pages.specs.Signals.{is_signal_row_of}
-use Rattle.flat_state.specs.declared.records.FlatKernel.{FlatKernel}
-use Rattle.flat_state.specs.declared.records.FlatThread.{FlatThread}
-use Rattle.flat_state.specs.Dependence.{owner, owner_of_row, owner_of_thread, signal_rows_of}
-use Rattle.flat_state.specs.Names.{stands}
-use Rattle.flat_state.specs.Translation.{is_fit_row}
-use Rattle.flat_state.proofs.Finding.{find-contains, find-passes}
-use Rattle.board_core.specs.desc_stores.specs.declared.items.Item.TheVariants as item
-use Rattle.board_core.specs.desc_stores.specs.Contents.{residents_of, Contents}
-use Rattle.board_core.specs.desc_stores.specs.Sound.{IsExactlyOne}
-use Rattle.board_core.specs.desc_parents.specs.Idents.{ident_of}
-use Rattle.board_core.specs.desc_parents.specs.Seen.{seen}
-use Rattle.board_core.specs.desc_parents.proofs.IdentLemmas.{ident_back, ident_found, ident_none}
-use Rattle.board_core.specs.store_residents.proofs.ResidentLemmas.{one_each}
-use Rattle.board_core.specs.board_ops.specs.declared.refusals.Refused.{Refused}
-use Rattle.board_core.specs.board_ops.specs.declared.refusals.Refused.TheVariants as why
-use Rattle.board_checks.specs.Identifiers.{not_a_receiver, receiver_as}
-use Rattle.board_checks.specs.Refusals.{already_loaded, beyond_rights, is_absent, not_declared, not_owner, receivers_absent, refusal_in_space, refusal_of_load_kernel, refusal_of_load_mapping, refusal_of_load_space, refusal_of_load_thread, refusal_of_row, wrong_parent, wrong_receiver, wrong_space}
-use Rattle.board_checks.proofs.IdentifierLemmas.{thread_is}
-use Rattle.board_checks.proofs.LoadLemmas.{space_tested}
+use Rattle.board_loads.specs.signal_pages.specs.Signals.{is_signal_row_of}
+use Rattle.board_loads.specs.flat_state.specs.declared.records.FlatKernel.{FlatKernel}
+use Rattle.board_loads.specs.flat_state.specs.declared.records.FlatThread.{FlatThread}
+use Rattle.board_loads.specs.flat_state.specs.Dependence.{owner, owner_of_row, owner_of_thread, signal_rows_of}
+use Rattle.board_loads.specs.flat_state.specs.Names.{stands}
+use Rattle.board_loads.specs.flat_state.specs.Translation.{is_fit_row}
+use Rattle.board_loads.specs.flat_state.proofs.Finding.{find-contains, find-passes}
+use Rattle.board_threads.specs.desc_stores.specs.declared.items.Item.TheVariants as item
+use Rattle.board_threads.specs.desc_stores.specs.Contents.{residents_of, Contents}
+use Rattle.board_threads.specs.desc_stores.specs.Sound.{IsExactlyOne}
+use Rattle.board_loads.specs.desc_parents.specs.Idents.{ident_of}
+use Rattle.board_loads.specs.desc_parents.specs.Seen.{seen}
+use Rattle.board_loads.specs.desc_parents.proofs.IdentLemmas.{ident_back, ident_found, ident_none}
+use Rattle.board_threads.specs.store_residents.proofs.ResidentLemmas.{one_each}
+use Rattle.board_threads.specs.board_ops.specs.declared.refusals.Refused.{Refused}
+use Rattle.board_threads.specs.board_ops.specs.declared.refusals.Refused.TheVariants as why
+use Rattle.board_threads.specs.board_checks.specs.Identifiers.{not_a_receiver, receiver_as}
+use Rattle.board_threads.specs.board_checks.specs.Refusals.{already_loaded, beyond_rights, is_absent, not_declared, not_owner, receivers_absent, refusal_in_space, refusal_of_load_kernel, refusal_of_load_mapping, refusal_of_load_space, refusal_of_load_thread, refusal_of_row, wrong_parent, wrong_receiver, wrong_space}
+use Rattle.board_threads.specs.board_checks.proofs.IdentifierLemmas.{thread_is}
+use Rattle.board_threads.specs.board_checks.proofs.LoadLemmas.{space_tested}
 use Rattle.board_threads.proofs.IdentLemmas.{record_named}
 use Rattle.answer_laws.specs.Given.{IsGiven}
 use Rattle.answer_laws.proofs.Passing.{first, item_named, owned, owns_itself, passes, second, skip, space_given, space_record, stands_so}

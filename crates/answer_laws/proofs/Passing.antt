@@ -14,29 +14,29 @@ use Rattle.cache_ident.specs.declared.names.SpaceNo.{SpaceNo}
 use Rattle.cache_ident.specs.declared.names.ThreadNo.{ThreadNo}
 use Rattle.cache_ident.specs.Names.{kind_of}
 use Rattle.cache_ident.specs.Residents.{Resident, IsResident}
-use Rattle.flat_state.specs.Dependence.{owner}
-use Rattle.flat_state.specs.Names.{stands}
-use Rattle.run_journal.specs.Legal.{is_kind}
-use Rattle.kernel_cache.specs.Kernels as kernel_rec
-use Rattle.kernel_cache.specs.declared.KernelRec.{KernelRec}
-use Rattle.space_cache.specs.Spaces as space_rec
-use Rattle.space_cache.specs.declared.SpaceRec.{SpaceRec}
-use Rattle.thread_cache.specs.declared.ThreadRec.{ThreadRec}
-use Rattle.kind_store.specs.Kept as stored
-use Rattle.board_core.specs.desc_stores.specs.declared.items.Item.{Item}
-use Rattle.board_core.specs.desc_stores.specs.declared.items.Item.TheVariants as item
-use Rattle.board_core.specs.desc_stores.specs.Contents.{content_of, item_as, residents_of, Contents}
-use Rattle.board_core.specs.desc_stores.specs.Items.{name_of}
-use Rattle.board_core.specs.desc_stores.specs.Sound.{IsExactlyOne}
-use Rattle.board_core.specs.desc_parents.specs.Seen.{seen}
-use Rattle.board_core.specs.store_residents.proofs.ContentLemmas.{resident_content, resident_item}
-use Rattle.board_core.specs.store_residents.proofs.ResidentLemmas.{live_iff, one_each, resident_kind}
-use Rattle.board_core.specs.board_ops.specs.declared.refusals.Refused.{Refused}
-use Rattle.board_core.specs.board_ops.specs.declared.refusals.Refused.TheVariants as why
-use Rattle.board_checks.specs.Identifiers.{gone_by, name_as, not_a, not_live, space_as, wrong_kind}
-use Rattle.board_checks.specs.Refusals.{not_declared, not_owned, not_owned_as, not_owner, refusal_of_thread}
-use Rattle.board_checks.proofs.IdentifierLemmas.{item_resident, name_is, space_is}
-use Rattle.board_checks.proofs.OwnerLemmas.{owner_tested}
+use Rattle.board_loads.specs.flat_state.specs.Dependence.{owner}
+use Rattle.board_loads.specs.flat_state.specs.Names.{stands}
+use Rattle.board_threads.specs.run_journal.specs.Legal.{is_kind}
+use Rattle.board_loads.specs.kernel_cache.specs.Kernels as kernel_rec
+use Rattle.board_loads.specs.kernel_cache.specs.declared.KernelRec.{KernelRec}
+use Rattle.board_loads.specs.space_cache.specs.Spaces as space_rec
+use Rattle.board_loads.specs.space_cache.specs.declared.SpaceRec.{SpaceRec}
+use Rattle.board_loads.specs.thread_cache.specs.declared.ThreadRec.{ThreadRec}
+use Rattle.board_loads.specs.kind_store.specs.Kept as stored
+use Rattle.board_threads.specs.desc_stores.specs.declared.items.Item.{Item}
+use Rattle.board_threads.specs.desc_stores.specs.declared.items.Item.TheVariants as item
+use Rattle.board_threads.specs.desc_stores.specs.Contents.{content_of, item_as, residents_of, Contents}
+use Rattle.board_threads.specs.desc_stores.specs.Items.{name_of}
+use Rattle.board_threads.specs.desc_stores.specs.Sound.{IsExactlyOne}
+use Rattle.board_loads.specs.desc_parents.specs.Seen.{seen}
+use Rattle.board_threads.specs.store_residents.proofs.ContentLemmas.{resident_content, resident_item}
+use Rattle.board_threads.specs.store_residents.proofs.ResidentLemmas.{live_iff, one_each, resident_kind}
+use Rattle.board_threads.specs.board_ops.specs.declared.refusals.Refused.{Refused}
+use Rattle.board_threads.specs.board_ops.specs.declared.refusals.Refused.TheVariants as why
+use Rattle.board_threads.specs.board_checks.specs.Identifiers.{gone_by, name_as, not_a, not_live, space_as, wrong_kind}
+use Rattle.board_threads.specs.board_checks.specs.Refusals.{not_declared, not_owned, not_owned_as, not_owner, refusal_of_thread}
+use Rattle.board_threads.specs.board_checks.proofs.IdentifierLemmas.{item_resident, name_is, space_is}
+use Rattle.board_threads.specs.board_checks.proofs.OwnerLemmas.{owner_tested}
 use Rattle.board_threads.proofs.IdentLemmas.{record_named}
 
 -- the first of two that doesn't come leaves the other

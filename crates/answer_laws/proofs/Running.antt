@@ -7,19 +7,19 @@ use Rattle.std.proofs.lemmas.List.Folds.{Any-from_list_any}
 use Rattle.std.proofs.lemmas.Option.{slice_get-get_or}
 use Rattle.cache_ident.specs.declared.names.Name.TheVariants as name
 use Rattle.cache_ident.specs.declared.names.ThreadNo.{ThreadNo}
-use Rattle.flat_state.specs.declared.records.FlatThread.{FlatThread}
-use Rattle.flat_state.specs.declared.records.Settled.{Settled}
-use Rattle.flat_state.specs.declared.records.Settled.TheVariants.{Done, Stalled, Spent, Running}
-use Rattle.flat_state.specs.Call.{is_completable}
-use Rattle.flat_state.specs.Settling.{settled_of}
-use Rattle.flat_state.specs.Signals.{is_runnable}
-use Rattle.flat_state.specs.State.{FlatState, is_ended}
+use Rattle.board_loads.specs.flat_state.specs.declared.records.FlatThread.{FlatThread}
+use Rattle.board_loads.specs.flat_state.specs.declared.records.Settled.{Settled}
+use Rattle.board_loads.specs.flat_state.specs.declared.records.Settled.TheVariants.{Done, Stalled, Spent, Running}
+use Rattle.board_loads.specs.flat_state.specs.Call.{is_completable}
+use Rattle.board_loads.specs.flat_state.specs.Settling.{settled_of}
+use Rattle.board_loads.specs.flat_state.specs.Signals.{is_runnable}
+use Rattle.board_loads.specs.flat_state.specs.State.{FlatState, is_ended}
 use Rattle.ready_queue.specs.declared.Candidate.{Candidate}
-use Rattle.board_core.specs.Core.{contents_of, Recorded}
-use Rattle.board_core.specs.desc_stores.specs.Contents.{residents_of}
-use Rattle.board_core.specs.cached_machine.specs.Cached.{is_loaded, state_of}
-use Rattle.board_core.specs.cached_machine.specs.Posts.{last_of, mark_of}
-use Rattle.board_core.specs.cached_machine.proofs.LoadedLaws.{loaded_by}
+use Rattle.board_threads.specs.board_core.specs.Core.{contents_of, Recorded}
+use Rattle.board_threads.specs.desc_stores.specs.Contents.{residents_of}
+use Rattle.board_threads.specs.cached_machine.specs.Cached.{is_loaded, state_of}
+use Rattle.board_threads.specs.cached_machine.specs.Posts.{last_of, mark_of}
+use Rattle.board_threads.specs.cached_machine.proofs.LoadedLaws.{loaded_by}
 use Rattle.board_threads.specs.Tests.{completes, goes_on, passes, wants_load, IsWanted}
 use Rattle.board_threads.specs.Waiting.{IsWaiting}
 use Rattle.board_threads.proofs.SettleLemmas.{all_done, all_stalled, runnable_spent}

@@ -4,10 +4,10 @@ ghost use Rattle.std.specs.Prelude.{ℕ, Contains};
 ghost use Rattle.cache_ident.specs.declared.idents.Ident.{Ident};
 ghost use Rattle.cache_ident.specs.declared.names.Name.{Name};
 ghost use Rattle.cache_ident.specs.Residents.{Resident, IsNameResident};
-ghost use Rattle.flat_state.specs.Dependence.{DependsFar};
-ghost use Rattle.board_core.specs.desc_stores.specs.Contents.{residents_of};
-ghost use Rattle.board_core.specs.desc_parents.specs.Seen.{seen};
-ghost use Rattle.board_core.specs.Core.{contents_of, IsSound, Recorded};
+ghost use Rattle.board_loads.specs.flat_state.specs.Dependence.{DependsFar};
+ghost use Rattle.board_threads.specs.desc_stores.specs.Contents.{residents_of};
+ghost use Rattle.board_loads.specs.desc_parents.specs.Seen.{seen};
+ghost use Rattle.board_threads.specs.board_core.specs.Core.{contents_of, IsSound, Recorded};
 ghost use Rattle.board_loads.specs.Loads.{IsLoadedAs};
 
 /// All that a name depends on, over any number of steps, is loaded when the name is loaded, and afterwards it is loaded still, with

@@ -14,16 +14,16 @@ ghost use Rattle.cache_ident.specs.Residents.{IsNameResident, IsResident};
 ghost use Rattle.phys_groups.specs.declared.rows.Row.{Row};
 ghost use Rattle.phys_groups.specs.Rows.{row_name};
 ghost use Rattle.phys_groups.specs.Translation.{row_of};
-ghost use Rattle.flat_state.specs.declared.records.FlatKernel.{FlatKernel};
-ghost use Rattle.flat_state.specs.declared.records.FlatThread.{FlatThread};
-ghost use Rattle.flat_state.specs.Dependence.{signal_rows_of};
-ghost use Rattle.flat_state.specs.Translation.{is_fit_row};
-ghost use Rattle.board_core.specs.desc_stores.specs.Contents.{residents_of, Contents};
-ghost use Rattle.board_core.specs.desc_stores.specs.Sound.{IsExactlyOne};
-ghost use Rattle.board_core.specs.desc_parents.specs.Seen.{seen};
-ghost use Rattle.board_core.specs.board_ops.specs.declared.refusals.Refused.{Refused};
-ghost use Rattle.board_core.specs.board_ops.specs.declared.refusals.Refused.TheVariants as why;
-ghost use Rattle.board_checks.specs.Refusals.{already_loaded, beyond_rights, not_owner, receivers_absent, refusal_of_load_kernel, refusal_of_load_mapping, refusal_of_load_space, refusal_of_load_thread, wrong_parent};
+ghost use Rattle.board_loads.specs.flat_state.specs.declared.records.FlatKernel.{FlatKernel};
+ghost use Rattle.board_loads.specs.flat_state.specs.declared.records.FlatThread.{FlatThread};
+ghost use Rattle.board_loads.specs.flat_state.specs.Dependence.{signal_rows_of};
+ghost use Rattle.board_loads.specs.flat_state.specs.Translation.{is_fit_row};
+ghost use Rattle.board_threads.specs.desc_stores.specs.Contents.{residents_of, Contents};
+ghost use Rattle.board_threads.specs.desc_stores.specs.Sound.{IsExactlyOne};
+ghost use Rattle.board_loads.specs.desc_parents.specs.Seen.{seen};
+ghost use Rattle.board_threads.specs.board_ops.specs.declared.refusals.Refused.{Refused};
+ghost use Rattle.board_threads.specs.board_ops.specs.declared.refusals.Refused.TheVariants as why;
+ghost use Rattle.board_threads.specs.board_checks.specs.Refusals.{already_loaded, beyond_rights, not_owner, receivers_absent, refusal_of_load_kernel, refusal_of_load_mapping, refusal_of_load_space, refusal_of_load_thread, wrong_parent};
 ghost use Rattle.answer_laws.specs.Given.{IsGiven};
 
 /// A name is refused as loaded exactly where it is loaded, and the identifier that is told is the one with which it is.

@@ -2,12 +2,12 @@
 
 ghost use Rattle.std.specs.Prelude.{◌≡◌, ◌<◌, ◌≤◌, ℕ, false, None};
 ghost use Rattle.cache_ident.specs.declared.names.ThreadNo.{ThreadNo};
-ghost use Rattle.flat_state.specs.declared.records.Settled.TheVariants.{Running};
-ghost use Rattle.flat_state.specs.Settling.{settled_of};
+ghost use Rattle.board_loads.specs.flat_state.specs.declared.records.Settled.TheVariants.{Running};
+ghost use Rattle.board_loads.specs.flat_state.specs.Settling.{settled_of};
 ghost use Rattle.ready_queue.specs.declared.Candidate.{Candidate};
-ghost use Rattle.board_core.specs.cached_machine.specs.Cached.{state_of};
-ghost use Rattle.board_core.specs.cached_machine.specs.Posts.{mark_of};
-ghost use Rattle.board_core.specs.Core.{contents_of, Recorded};
+ghost use Rattle.board_threads.specs.cached_machine.specs.Cached.{state_of};
+ghost use Rattle.board_threads.specs.cached_machine.specs.Posts.{mark_of};
+ghost use Rattle.board_threads.specs.board_core.specs.Core.{contents_of, Recorded};
 ghost use Rattle.board_threads.specs.Tests.{completes, IsWanted};
 ghost use Rattle.board_threads.specs.Waiting.{IsWaiting};
 

@@ -13,20 +13,20 @@ use Rattle.cache_ident.specs.declared.names.Vpn.{Vpn}
 use Rattle.cache_ident.specs.Residents.{IsResident}
 use Rattle.phys_groups.specs.declared.rows.Row.{Row}
 use Rattle.phys_groups.specs.Translation.{row_of}
-use Rattle.flat_state.specs.State.{FlatState}
-use Rattle.board_core.specs.board_ops.specs.declared.refusals.Refused.{Refused}
-use Rattle.board_core.specs.board_ops.specs.declared.refusals.Refused.TheVariants as why
-use Rattle.board_core.specs.cached_machine.specs.Cached.{state_of}
-use Rattle.board_core.specs.desc_stores.specs.Contents.{residents_of}
-use Rattle.board_core.specs.Core.{contents_of, Recorded}
-use Rattle.board_core.specs.Growth.{IsRoomMade}
-use Rattle.board_checks.specs.Refusals.{refusal_of_load_mapping}
-use Rattle.board_loads.specs.Loads.{IsLoadedAs}
+use Rattle.owners.specs.flat_state.specs.State.{FlatState}
+use Rattle.page_laws.specs.board_ops.specs.declared.refusals.Refused.{Refused}
+use Rattle.page_laws.specs.board_ops.specs.declared.refusals.Refused.TheVariants as why
+use Rattle.page_laws.specs.cached_machine.specs.Cached.{state_of}
+use Rattle.page_laws.specs.desc_stores.specs.Contents.{residents_of}
+use Rattle.page_laws.specs.board_core.specs.Core.{contents_of, Recorded}
+use Rattle.page_laws.specs.board_core.specs.Growth.{IsRoomMade}
+use Rattle.page_laws.specs.board_checks.specs.Refusals.{refusal_of_load_mapping}
+use Rattle.page_laws.specs.board_loads.specs.Loads.{IsLoadedAs}
 use Rattle.owners.specs.Known.{ident_of, receiver_of, IsNoted, Known}
 use Rattle.owner_ports.specs.Boards.{IsRoomyCall, OnTold}
 use Rattle.page_laws.proofs.Kept.{keeps_further, keeps_room}
 use Rattle.page_laws.proofs.Filled.{nothing_noted, reached_after_row}
-use Rattle.page_laws.specs.reach_laws.specs.answer_laws.specs.Given.{IsGiven}
+use Rattle.page_laws.specs.answer_laws.specs.Given.{IsGiven}
 use Rattle.page_laws.specs.reach_laws.specs.Filling.{IsElse, IsFillable, IsNothingToLoad, IsUnfillable}
 use Rattle.page_laws.specs.reach_laws.specs.Reaching.{kernel_ident, loaded_as, IsGot, IsLoadAnswer, IsOwned, IsReached}
 use Rattle.page_laws.specs.reach_laws.proofs.Filling.{another_told, noted_loads, noted_waits, nothing_told, right_or_told, row_filled, IsAnother, IsRight}

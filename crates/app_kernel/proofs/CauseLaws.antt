@@ -3,7 +3,7 @@ use Rattle.std.proofs.Common.{Result, Ok, Err, inl, inr, arith}
 use Rattle.std.specs.Prelude.{IfOk}
 use Rattle.cache_ident.specs.declared.names.ThreadNo.{ThreadNo}
 use Rattle.fault_forward.specs.declared.effects.Notice.{Notice}
-use Rattle.owner_ports.specs.cache_board.specs.board_ops.specs.declared.refusals.Refused.{Refused}
+use Rattle.page_laws.specs.board_ops.specs.declared.refusals.Refused.{Refused}
 use Rattle.owner_ports.specs.declared.port.Heard.{Heard}
 use Rattle.owners.specs.Known.{Known}
 use Rattle.app_kernel.specs.declared.serving.Served.{Served}

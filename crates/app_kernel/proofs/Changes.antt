@@ -1,6 +1,6 @@
 -- What one call, and one behind another, leave of a board that is told.
 use Rattle.std.proofs.Common.{◌≡◌, Option, Some, None, refl}
-use Rattle.board_core.specs.Core.{Recorded}
+use Rattle.page_laws.specs.board_core.specs.Core.{Recorded}
 use Rattle.owner_ports.specs.Boards.{OnTold}
 
 abbrev Change : Type 1

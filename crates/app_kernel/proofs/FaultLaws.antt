@@ -13,25 +13,25 @@ use Rattle.cache_ident.specs.declared.names.ThreadNo.{ThreadNo}
 use Rattle.cache_ident.specs.declared.names.Vpn.{Vpn}
 use Rattle.phys_groups.specs.declared.rows.Row.{Row}
 use Rattle.phys_groups.specs.Rows.{row_name}
-use Rattle.flat_state.specs.declared.events.Event.TheVariants.{Step}
-use Rattle.flat_state.specs.declared.records.FlatThread.{FlatThread}
-use Rattle.flat_state.specs.Events.{applied}
-use Rattle.flat_state.specs.NextSteps.{fetch_row}
-use Rattle.flat_state.specs.State.{FlatState}
-use Rattle.run_journal.specs.declared.entries.Entry.TheVariants as entry
-use Rattle.run_journal.specs.Legal.{IsRowResident}
-use Rattle.board_core.specs.board_ops.specs.declared.refusals.Refused.{Refused}
-use Rattle.board_core.specs.board_ops.specs.declared.refusals.Refused.TheVariants as why
-use Rattle.board_core.specs.desc_stores.specs.Contents.{residents_of}
-use Rattle.board_core.specs.cached_machine.specs.Cached.{state_of}
-use Rattle.board_core.specs.Core.{contents_of, Recorded}
-use Rattle.board_threads.specs.Faults.{HasEnded}
-use Rattle.board_threads.specs.Refusals.{refusal_of_fault}
+use Rattle.owners.specs.flat_state.specs.declared.events.Event.TheVariants.{Step}
+use Rattle.owners.specs.flat_state.specs.declared.records.FlatThread.{FlatThread}
+use Rattle.owners.specs.flat_state.specs.Events.{applied}
+use Rattle.owners.specs.flat_state.specs.NextSteps.{fetch_row}
+use Rattle.owners.specs.flat_state.specs.State.{FlatState}
+use Rattle.owners.specs.run_journal.specs.declared.entries.Entry.TheVariants as entry
+use Rattle.owners.specs.run_journal.specs.Legal.{IsRowResident}
+use Rattle.page_laws.specs.board_ops.specs.declared.refusals.Refused.{Refused}
+use Rattle.page_laws.specs.board_ops.specs.declared.refusals.Refused.TheVariants as why
+use Rattle.page_laws.specs.desc_stores.specs.Contents.{residents_of}
+use Rattle.page_laws.specs.cached_machine.specs.Cached.{state_of}
+use Rattle.page_laws.specs.board_core.specs.Core.{contents_of, Recorded}
+use Rattle.page_laws.specs.board_threads.specs.Faults.{HasEnded}
+use Rattle.page_laws.specs.board_threads.specs.Refusals.{refusal_of_fault}
 use Rattle.owner_ports.specs.Boards.{OnTold}
 use Rattle.owners.specs.Known.{ident_of, space_of, Known}
 use Rattle.owners.specs.Owning.{IsThreadOf}
 use Rattle.page_laws.proofs.Filled.{fetched_space}
-use Rattle.page_laws.specs.reach_laws.specs.owner_laws.proofs.Naming.{names_it}
+use Rattle.page_laws.specs.owner_laws.proofs.Naming.{names_it}
 use Rattle.page_laws.specs.reach_laws.specs.Filling.{IsElse, IsFillable, IsNothingToLoad, IsUnfillable}
 use Rattle.page_laws.specs.reach_laws.specs.Reaching.{kernel_ident, IsOwned, IsReached}
 use Rattle.page_laws.specs.reach_laws.proofs.Calling.{confirms}

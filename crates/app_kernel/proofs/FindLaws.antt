@@ -5,10 +5,10 @@ use Rattle.std.proofs.lemmas.Option.{same_Some}
 use Rattle.cache_ident.specs.declared.names.KernelNo.{KernelNo}
 use Rattle.cache_ident.specs.declared.names.SpaceNo.{SpaceNo}
 use Rattle.cache_ident.specs.declared.names.ThreadNo.{ThreadNo}
-use Rattle.flat_state.specs.State.{FlatState}
-use Rattle.board_core.specs.board_ops.specs.declared.refusals.Refused.{Refused}
-use Rattle.board_core.specs.cached_machine.specs.Cached.{state_of}
-use Rattle.board_core.specs.Core.{Recorded}
+use Rattle.owners.specs.flat_state.specs.State.{FlatState}
+use Rattle.page_laws.specs.board_ops.specs.declared.refusals.Refused.{Refused}
+use Rattle.page_laws.specs.cached_machine.specs.Cached.{state_of}
+use Rattle.page_laws.specs.board_core.specs.Core.{Recorded}
 use Rattle.owners.specs.Known.{space_of, Known}
 use Rattle.owners.specs.Owning.{IsThreadOf}
 use Rattle.owner_ports.specs.Boards.{OnTold}

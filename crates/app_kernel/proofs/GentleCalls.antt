@@ -7,13 +7,13 @@ use Rattle.cache_ident.specs.declared.names.KernelNo.{KernelNo}
 use Rattle.cache_ident.specs.declared.names.Name.TheVariants as name
 use Rattle.cache_ident.specs.declared.names.SpaceNo.{SpaceNo}
 use Rattle.cache_ident.specs.declared.names.ThreadNo.{ThreadNo}
-use Rattle.run_journal.specs.Legal.{first_ident}
-use Rattle.board_core.specs.board_ops.specs.declared.refusals.Refused.{Refused}
-use Rattle.board_core.specs.board_ops.specs.declared.refusals.Refused.TheVariants as why
-use Rattle.board_core.specs.cached_machine.specs.Cached.{state_of}
-use Rattle.board_core.specs.cached_machine.specs.Posts.{mark_of}
-use Rattle.board_core.specs.Core.{contents_of, Recorded}
-use Rattle.board_checks.specs.Refusals.{refusal_of_load_kernel, refusal_of_load_space, refusal_of_load_thread}
+use Rattle.owners.specs.run_journal.specs.Legal.{first_ident}
+use Rattle.page_laws.specs.board_ops.specs.declared.refusals.Refused.{Refused}
+use Rattle.page_laws.specs.board_ops.specs.declared.refusals.Refused.TheVariants as why
+use Rattle.page_laws.specs.cached_machine.specs.Cached.{state_of}
+use Rattle.page_laws.specs.cached_machine.specs.Posts.{mark_of}
+use Rattle.page_laws.specs.board_core.specs.Core.{contents_of, Recorded}
+use Rattle.page_laws.specs.board_checks.specs.Refusals.{refusal_of_load_kernel, refusal_of_load_space, refusal_of_load_thread}
 use Rattle.owners.specs.Keys.{is_thread}
 use Rattle.owners.specs.Known.{ident_of, space_of, IsSpaceLearnt, Known}
 use Rattle.owners.specs.Owning.{IsThreadOf}

@@ -4,12 +4,12 @@ use Rattle.std.specs.Prelude.{Err, Result}
 use Rattle.cache_ident.specs.declared.names.SpaceNo.{SpaceNo}
 use Rattle.cache_ident.specs.declared.names.ThreadNo.{ThreadNo}
 use Rattle.cache_ident.specs.declared.names.Vpn.{Vpn}
-use Rattle.flat_state.specs.NextSteps.{faults, fetch_row}
-use Rattle.flat_state.specs.State.{FlatState}
-use Rattle.board_core.specs.board_ops.specs.declared.refusals.Refused.{Refused}
-use Rattle.board_core.specs.cached_machine.specs.Cached.{state_of}
-use Rattle.board_core.specs.cached_machine.specs.Posts.{mark_of}
-use Rattle.board_core.specs.Core.{contents_of, Recorded}
+use Rattle.owners.specs.flat_state.specs.NextSteps.{faults, fetch_row}
+use Rattle.owners.specs.flat_state.specs.State.{FlatState}
+use Rattle.page_laws.specs.board_ops.specs.declared.refusals.Refused.{Refused}
+use Rattle.page_laws.specs.cached_machine.specs.Cached.{state_of}
+use Rattle.page_laws.specs.cached_machine.specs.Posts.{mark_of}
+use Rattle.page_laws.specs.board_core.specs.Core.{contents_of, Recorded}
 use Rattle.owner_ports.specs.Boards.{IsCall}
 use Rattle.owners.specs.Known.{Known}
 use Rattle.page_laws.specs.reach_laws.specs.Filling.{IsFillable, IsUnfillable}

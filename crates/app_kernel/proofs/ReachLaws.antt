@@ -10,20 +10,20 @@ use Rattle.cache_ident.specs.declared.names.Name.TheVariants as name
 use Rattle.cache_ident.specs.declared.names.SpaceNo.{SpaceNo}
 use Rattle.cache_ident.specs.declared.names.ThreadNo.{ThreadNo}
 use Rattle.cache_ident.specs.Residents.{IsResident}
-use Rattle.flat_state.specs.State.{FlatState}
-use Rattle.run_journal.specs.Legal.{first_ident}
-use Rattle.board_core.specs.board_ops.specs.declared.refusals.Refused.{Refused}
-use Rattle.board_core.specs.board_ops.specs.declared.refusals.Refused.TheVariants as why
-use Rattle.board_core.specs.cached_machine.specs.Cached.{state_of}
-use Rattle.board_core.specs.desc_stores.specs.Contents.{residents_of}
-use Rattle.board_core.specs.Core.{contents_of, Recorded}
-use Rattle.board_checks.specs.Refusals.{refusal_of_load_kernel, refusal_of_load_space, refusal_of_load_thread}
-use Rattle.board_loads.specs.Loads.{IsLoadedAs}
+use Rattle.owners.specs.flat_state.specs.State.{FlatState}
+use Rattle.owners.specs.run_journal.specs.Legal.{first_ident}
+use Rattle.page_laws.specs.board_ops.specs.declared.refusals.Refused.{Refused}
+use Rattle.page_laws.specs.board_ops.specs.declared.refusals.Refused.TheVariants as why
+use Rattle.page_laws.specs.cached_machine.specs.Cached.{state_of}
+use Rattle.page_laws.specs.desc_stores.specs.Contents.{residents_of}
+use Rattle.page_laws.specs.board_core.specs.Core.{contents_of, Recorded}
+use Rattle.page_laws.specs.board_checks.specs.Refusals.{refusal_of_load_kernel, refusal_of_load_space, refusal_of_load_thread}
+use Rattle.page_laws.specs.board_loads.specs.Loads.{IsLoadedAs}
 use Rattle.owners.specs.Known.{ident_of, IsNoted, IsSpaceLearnt, Known}
 use Rattle.owners.specs.Owning.{IsThreadOf}
-use Rattle.board_core.specs.Answers.{IsRefused}
-use Rattle.page_laws.specs.reach_laws.specs.owner_laws.specs.Passing.{Passes}
-use Rattle.page_laws.specs.reach_laws.specs.owner_laws.proofs.Spaces.{is_of_space}
+use Rattle.page_laws.specs.board_core.specs.Answers.{IsRefused}
+use Rattle.page_laws.specs.owner_laws.specs.Passing.{Passes}
+use Rattle.page_laws.specs.owner_laws.proofs.Spaces.{is_of_space}
 use Rattle.owner_ports.specs.Boards.{IsRoomyCall, OnTold}
 use Rattle.page_laws.specs.reach_laws.specs.Reaching.{kernel_ident, loaded_as, IsGot, IsLoadAnswer, IsOwned, IsReached}
 use Rattle.page_laws.specs.reach_laws.specs.Searching.{space_told, IsNearer}

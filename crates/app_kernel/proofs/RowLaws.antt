@@ -11,13 +11,13 @@ use Rattle.cache_ident.specs.declared.names.ThreadNo.{ThreadNo}
 use Rattle.cache_ident.specs.declared.names.Vpn.{Vpn}
 use Rattle.phys_groups.specs.declared.rows.Row.{Row}
 use Rattle.phys_groups.specs.Translation.{row_of}
-use Rattle.board_core.specs.board_ops.specs.declared.refusals.Refused.{Refused}
-use Rattle.board_core.specs.board_ops.specs.declared.refusals.Refused.TheVariants as why
-use Rattle.board_core.specs.cached_machine.specs.Cached.{state_of}
-use Rattle.board_core.specs.Core.{Recorded}
+use Rattle.page_laws.specs.board_ops.specs.declared.refusals.Refused.{Refused}
+use Rattle.page_laws.specs.board_ops.specs.declared.refusals.Refused.TheVariants as why
+use Rattle.page_laws.specs.cached_machine.specs.Cached.{state_of}
+use Rattle.page_laws.specs.board_core.specs.Core.{Recorded}
 use Rattle.owner_ports.specs.Boards.{OnTold}
 use Rattle.owners.specs.Known.{receiver_of, IsReceiverLearnt, Known}
-use Rattle.page_laws.specs.reach_laws.specs.owner_laws.specs.Passing.{thread_named}
+use Rattle.page_laws.specs.owner_laws.specs.Passing.{thread_named}
 use Rattle.page_laws.specs.reach_laws.specs.Filling.{IsNothingToLoad}
 use Rattle.page_laws.specs.reach_laws.specs.Reaching.{IsOwned, IsReached}
 use Rattle.page_laws.specs.reach_laws.proofs.Owning.{reached_learnt}

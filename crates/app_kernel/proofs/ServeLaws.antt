@@ -17,26 +17,26 @@ use Rattle.rv32_exec.specs.declared.statuses.Access.{Access}
 use Rattle.rv32_exec.specs.declared.statuses.Reason.{Reason}
 use Rattle.rv32_exec.specs.declared.statuses.Status.{Status}
 use Rattle.rv32_exec.specs.declared.statuses.Status.TheVariants as statuses
-use Rattle.flat_state.specs.declared.events.Event.TheVariants.{Complete}
-use Rattle.flat_state.specs.declared.records.FlatThread.{FlatThread}
-use Rattle.flat_state.specs.Events.{applied}
-use Rattle.flat_state.specs.Names.{stands}
-use Rattle.flat_state.specs.State.{is_ended, FlatState}
-use Rattle.run_journal.specs.declared.entries.Entry.TheVariants as entry
-use Rattle.board_core.specs.board_ops.specs.declared.refusals.Refused.{Refused}
-use Rattle.board_core.specs.board_ops.specs.declared.refusals.Refused.TheVariants as why
-use Rattle.board_core.specs.cached_machine.specs.Cached.{state_of}
-use Rattle.board_core.specs.shown_state.specs.Shown.{shown}
-use Rattle.board_core.specs.desc_stores.specs.Contents.{residents_of}
-use Rattle.board_core.specs.Core.{contents_of, IsSound, Recorded}
-use Rattle.board_core.specs.desc_parents.specs.Seen.{seen}
-use Rattle.board_calls.specs.Calls.{IsCompletion}
-use Rattle.board_checks.specs.Refusals.{refusal_of_complete}
-use Rattle.board_threads.specs.Faults.{HasEnded}
-use Rattle.board_threads.specs.Refusals.{refusal_of_fault}
+use Rattle.owners.specs.flat_state.specs.declared.events.Event.TheVariants.{Complete}
+use Rattle.owners.specs.flat_state.specs.declared.records.FlatThread.{FlatThread}
+use Rattle.owners.specs.flat_state.specs.Events.{applied}
+use Rattle.owners.specs.flat_state.specs.Names.{stands}
+use Rattle.owners.specs.flat_state.specs.State.{is_ended, FlatState}
+use Rattle.owners.specs.run_journal.specs.declared.entries.Entry.TheVariants as entry
+use Rattle.page_laws.specs.board_ops.specs.declared.refusals.Refused.{Refused}
+use Rattle.page_laws.specs.board_ops.specs.declared.refusals.Refused.TheVariants as why
+use Rattle.page_laws.specs.cached_machine.specs.Cached.{state_of}
+use Rattle.page_laws.specs.shown_state.specs.Shown.{shown}
+use Rattle.page_laws.specs.desc_stores.specs.Contents.{residents_of}
+use Rattle.page_laws.specs.board_core.specs.Core.{contents_of, IsSound, Recorded}
+use Rattle.page_laws.specs.desc_parents.specs.Seen.{seen}
+use Rattle.page_laws.specs.board_calls.specs.Calls.{IsCompletion}
+use Rattle.page_laws.specs.board_checks.specs.Refusals.{refusal_of_complete}
+use Rattle.page_laws.specs.board_threads.specs.Faults.{HasEnded}
+use Rattle.page_laws.specs.board_threads.specs.Refusals.{refusal_of_fault}
 use Rattle.owners.specs.Known.{ident_of, Known}
 use Rattle.owners.specs.Owning.{AreOwnersOf, IsThreadOf}
-use Rattle.page_laws.specs.reach_laws.specs.owner_laws.proofs.Naming.{names_it}
+use Rattle.page_laws.specs.owner_laws.proofs.Naming.{names_it}
 use Rattle.owner_ports.specs.Boards.{IsCall, IsRoomyCall, OnTold}
 use Rattle.page_laws.specs.reach_laws.specs.Reaching.{kernel_ident, IsOwned}
 use Rattle.page_laws.specs.reach_laws.proofs.Calling.{completes, completion_steps, has_ended}

@@ -8,11 +8,11 @@ use Rattle.cache_ident.specs.declared.names.ThreadNo.{ThreadNo}
 use Rattle.cache_ident.specs.declared.names.Vpn.{Vpn}
 use Rattle.rv32_exec.specs.declared.statuses.Status.{Status}
 use Rattle.rv32_exec.specs.declared.statuses.Status.TheVariants as statuses
-use Rattle.flat_state.specs.declared.records.FlatThread.{FlatThread}
-use Rattle.flat_state.specs.State.{is_ready}
-use Rattle.board_core.specs.board_ops.specs.declared.refusals.Refused.{Refused}
-use Rattle.board_core.specs.board_ops.specs.declared.refusals.Refused.TheVariants as why
-use Rattle.board_core.specs.Core.{Recorded}
+use Rattle.owners.specs.flat_state.specs.declared.records.FlatThread.{FlatThread}
+use Rattle.owners.specs.flat_state.specs.State.{is_ready}
+use Rattle.page_laws.specs.board_ops.specs.declared.refusals.Refused.{Refused}
+use Rattle.page_laws.specs.board_ops.specs.declared.refusals.Refused.TheVariants as why
+use Rattle.page_laws.specs.board_core.specs.Core.{Recorded}
 use Rattle.owner_ports.specs.Boards.{OnTold}
 use Rattle.owners.specs.Known.{space_of, Known}
 use Rattle.page_laws.specs.reach_laws.specs.Filling.{IsFillable, IsUnfillable}

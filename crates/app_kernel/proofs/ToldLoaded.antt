@@ -10,12 +10,12 @@ use Rattle.cache_ident.specs.declared.names.Name.TheVariants as name
 use Rattle.cache_ident.specs.declared.names.SpaceNo.{SpaceNo}
 use Rattle.cache_ident.specs.declared.names.ThreadNo.{ThreadNo}
 use Rattle.cache_ident.specs.Residents.{IsResident}
-use Rattle.board_core.specs.board_ops.specs.declared.refusals.Refused.{Refused}
-use Rattle.board_core.specs.board_ops.specs.declared.refusals.Refused.TheVariants as why
-use Rattle.board_core.specs.desc_stores.specs.Contents.{residents_of, Contents}
-use Rattle.board_checks.specs.Refusals.{already_loaded, refusal_of_load_kernel, refusal_of_load_space, refusal_of_load_thread, wrong_space}
-use Rattle.page_laws.specs.reach_laws.specs.answer_laws.proofs.LoadAnswers.{told}
-use Rattle.page_laws.specs.reach_laws.specs.owner_laws.proofs.Tests.{first_passes, not_a_never, not_declared_never, not_owned_never, told_is_later}
+use Rattle.page_laws.specs.board_ops.specs.declared.refusals.Refused.{Refused}
+use Rattle.page_laws.specs.board_ops.specs.declared.refusals.Refused.TheVariants as why
+use Rattle.page_laws.specs.desc_stores.specs.Contents.{residents_of, Contents}
+use Rattle.page_laws.specs.board_checks.specs.Refusals.{already_loaded, refusal_of_load_kernel, refusal_of_load_space, refusal_of_load_thread, wrong_space}
+use Rattle.page_laws.specs.answer_laws.proofs.LoadAnswers.{told}
+use Rattle.page_laws.specs.owner_laws.proofs.Tests.{first_passes, not_a_never, not_declared_never, not_owned_never, told_is_later}
 
 -- a test that refuses for another reason
 never_if : (t : Bool) (x : Refused) (ident : Ident) → (x ≡ why.AlreadyLoaded ident → ⊥) → (if t then None else Some x) ≡ Some (why.AlreadyLoaded ident) → ⊥

@@ -10,27 +10,27 @@ use Rattle.cache_ident.specs.declared.names.SpaceNo.{SpaceNo}
 use Rattle.cache_ident.specs.declared.names.ThreadNo.{ThreadNo}
 use Rattle.cache_ident.specs.declared.names.Vpn.{Vpn}
 use Rattle.cache_ident.specs.Residents.{IsResident}
-use Rattle.flat_state.specs.State.{FlatState}
-use Rattle.run_journal.specs.declared.entries.Entry.{Entry}
-use Rattle.board_core.specs.board_ops.specs.declared.refusals.Refused.{Refused}
-use Rattle.board_core.specs.board_ops.specs.declared.refusals.Refused.TheVariants as why
-use Rattle.board_core.specs.cached_machine.specs.Cached.{state_of}
-use Rattle.board_core.specs.desc_stores.specs.Contents.{residents_of}
-use Rattle.board_core.specs.Answers.{IsRefused}
-use Rattle.board_core.specs.Core.{contents_of, IsSound, Recorded}
-use Rattle.board_core.specs.Growth.{IsRoomMade}
-use Rattle.board_core.proofs.RoomLaws.{same_entries}
-use Rattle.board_checks.specs.Identifiers.{space_as}
-use Rattle.board_checks.specs.Refusals.{refusal_of_load_kernel, refusal_of_load_mapping, refusal_of_load_space, refusal_of_load_thread}
-use Rattle.board_loads.specs.Loads.{IsLoadedAs}
+use Rattle.owners.specs.flat_state.specs.State.{FlatState}
+use Rattle.owners.specs.run_journal.specs.declared.entries.Entry.{Entry}
+use Rattle.page_laws.specs.board_ops.specs.declared.refusals.Refused.{Refused}
+use Rattle.page_laws.specs.board_ops.specs.declared.refusals.Refused.TheVariants as why
+use Rattle.page_laws.specs.cached_machine.specs.Cached.{state_of}
+use Rattle.page_laws.specs.desc_stores.specs.Contents.{residents_of}
+use Rattle.page_laws.specs.board_core.specs.Answers.{IsRefused}
+use Rattle.page_laws.specs.board_core.specs.Core.{contents_of, IsSound, Recorded}
+use Rattle.page_laws.specs.board_core.specs.Growth.{IsRoomMade}
+use Rattle.page_laws.specs.board_core.proofs.RoomLaws.{same_entries}
+use Rattle.page_laws.specs.board_checks.specs.Identifiers.{space_as}
+use Rattle.page_laws.specs.board_checks.specs.Refusals.{refusal_of_load_kernel, refusal_of_load_mapping, refusal_of_load_space, refusal_of_load_thread}
+use Rattle.page_laws.specs.board_loads.specs.Loads.{IsLoadedAs}
 use Rattle.owners.specs.Known.{ident_of, IsNoted, IsReceiverLearnt, Known}
 use Rattle.owners.specs.Owning.{IsThreadOf, WasLoadedAs}
 use Rattle.owners.proofs.Learning.{noted_so}
-use Rattle.page_laws.specs.reach_laws.specs.owner_laws.specs.Passing.{thread_named}
-use Rattle.page_laws.specs.reach_laws.specs.owner_laws.proofs.Naming.{was_given, was_loaded}
-use Rattle.page_laws.specs.reach_laws.specs.owner_laws.proofs.Receivers.{is_receiver}
-use Rattle.page_laws.specs.reach_laws.specs.owner_laws.proofs.Spaces.{stands_for}
-use Rattle.page_laws.specs.reach_laws.specs.owner_laws.proofs.Tests.{both_pass}
+use Rattle.page_laws.specs.owner_laws.specs.Passing.{thread_named}
+use Rattle.page_laws.specs.owner_laws.proofs.Naming.{was_given, was_loaded}
+use Rattle.page_laws.specs.owner_laws.proofs.Receivers.{is_receiver}
+use Rattle.page_laws.specs.owner_laws.proofs.Spaces.{stands_for}
+use Rattle.page_laws.specs.owner_laws.proofs.Tests.{both_pass}
 use Rattle.owner_ports.specs.Boards.{IsCall, IsRoomyCall, OnTold}
 use Rattle.page_laws.specs.reach_laws.specs.Reaching.{loaded_as, IsOwned}
 use Rattle.page_laws.specs.reach_laws.proofs.Keeping.{steps_stay}

@@ -8,8 +8,8 @@ use Rattle.cache_ident.specs.declared.names.SpaceNo.{SpaceNo}
 use Rattle.cache_ident.specs.declared.names.Vpn.{Vpn}
 use Rattle.owner_ports.specs.declared.port.Heard.{Heard}
 use Rattle.owner_ports.specs.declared.port.PortCall.TheVariants as calls
-use Rattle.owner_ports.specs.cache_board.specs.board_ops.specs.declared.refusals.Refused.{Refused}
-use Rattle.owner_ports.specs.cache_board.specs.board_ops.specs.declared.refusals.Refused.TheVariants.{NoMemory}
+use Rattle.page_laws.specs.board_ops.specs.declared.refusals.Refused.{Refused}
+use Rattle.page_laws.specs.board_ops.specs.declared.refusals.Refused.TheVariants.{NoMemory}
 use Rattle.owners.specs.Known.{ident_of, Known}
 
 -- a count rose by so many, or stands at its last value

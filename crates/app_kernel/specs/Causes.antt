@@ -9,8 +9,8 @@ use Rattle.fault_forward.specs.declared.effects.Notice.{Notice}
 use Rattle.fault_forward.specs.declared.effects.Notice.TheVariants as notices
 use Rattle.rv32_exec.specs.declared.statuses.Reason.{Reason}
 use Rattle.rv32_exec.specs.declared.statuses.Status.TheVariants.{Ended}
-use Rattle.owner_ports.specs.cache_board.specs.board_ops.specs.declared.refusals.Refused.{Refused}
-use Rattle.owner_ports.specs.cache_board.specs.board_ops.specs.declared.refusals.Refused.TheVariants as why
+use Rattle.page_laws.specs.board_ops.specs.declared.refusals.Refused.{Refused}
+use Rattle.page_laws.specs.board_ops.specs.declared.refusals.Refused.TheVariants as why
 use Rattle.owner_ports.specs.declared.port.Heard.{Heard}
 use Rattle.owner_ports.specs.declared.port.PortCall.{PortCall}
 use Rattle.owner_ports.specs.declared.port.PortCall.TheVariants as calls

@@ -1,10 +1,9 @@
 pub use Rattle.owner_ports
 pub use Rattle.owners
-pub use Rattle.page_laws
 pub use Rattle.page_laws.specs.reach_laws
 pub use Rattle.owner_ports.specs.left_laws
-pub use Rattle.page_laws.specs.reach_laws.specs.answer_laws
-pub use Rattle.page_laws.specs.reach_laws.specs.owner_laws
+pub use Rattle.page_laws.specs.answer_laws
+pub use Rattle.page_laws.specs.owner_laws
 pub mod Answers
 pub mod Causes
 pub mod Walks

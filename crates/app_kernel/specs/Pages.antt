@@ -10,21 +10,21 @@ use Rattle.cache_ident.specs.declared.names.Vpn.{Vpn}
 use Rattle.cache_ident.specs.Residents.{IsNameResident}
 use Rattle.phys_groups.specs.declared.rows.Row.{Row}
 use Rattle.phys_groups.specs.Translation.{row_of}
-use Rattle.flat_state.specs.declared.events.Event.TheVariants.{Step}
-use Rattle.flat_state.specs.declared.records.FlatThread.{FlatThread}
-use Rattle.flat_state.specs.Events.{applied}
-use Rattle.flat_state.specs.NextSteps.{faults, fetch_row}
-use Rattle.flat_state.specs.State.{is_ready}
-use Rattle.run_journal.specs.declared.entries.Entry.{Entry}
-use Rattle.run_journal.specs.declared.entries.Entry.TheVariants.{Ended}
-use Rattle.board_core.specs.board_ops.specs.declared.refusals.Refused.{Refused}
-use Rattle.board_core.specs.board_ops.specs.declared.refusals.Refused.TheVariants.{NoMemory, ReceiversAbsent, WrongParent}
-use Rattle.board_core.specs.desc_stores.specs.Contents.{residents_of}
-use Rattle.board_core.specs.cached_machine.specs.Cached.{state_of}
-use Rattle.board_core.specs.cached_machine.specs.Posts.{mark_of}
-use Rattle.board_core.specs.Core.{contents_of, Recorded}
+use Rattle.owners.specs.flat_state.specs.declared.events.Event.TheVariants.{Step}
+use Rattle.owners.specs.flat_state.specs.declared.records.FlatThread.{FlatThread}
+use Rattle.owners.specs.flat_state.specs.Events.{applied}
+use Rattle.owners.specs.flat_state.specs.NextSteps.{faults, fetch_row}
+use Rattle.owners.specs.flat_state.specs.State.{is_ready}
+use Rattle.owners.specs.run_journal.specs.declared.entries.Entry.{Entry}
+use Rattle.owners.specs.run_journal.specs.declared.entries.Entry.TheVariants.{Ended}
+use Rattle.page_laws.specs.board_ops.specs.declared.refusals.Refused.{Refused}
+use Rattle.page_laws.specs.board_ops.specs.declared.refusals.Refused.TheVariants.{NoMemory, ReceiversAbsent, WrongParent}
+use Rattle.page_laws.specs.desc_stores.specs.Contents.{residents_of}
+use Rattle.page_laws.specs.cached_machine.specs.Cached.{state_of}
+use Rattle.page_laws.specs.cached_machine.specs.Posts.{mark_of}
+use Rattle.page_laws.specs.board_core.specs.Core.{contents_of, Recorded}
 use Rattle.owner_ports.specs.Boards.{OnTold}
-use Rattle.page_laws.specs.reach_laws.specs.answer_laws.specs.Given.{IsGiven}
+use Rattle.page_laws.specs.answer_laws.specs.Given.{IsGiven}
 use Rattle.owners.specs.Known.{receiver_of, space_of, Known}
 use Rattle.page_laws.specs.Keeping.{KeepsRows}
 use Rattle.page_laws.specs.reach_laws.specs.Filling.{IsElse, IsFillable, IsNothingToLoad, IsUnfillable}

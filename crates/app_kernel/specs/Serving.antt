@@ -7,17 +7,17 @@ use Rattle.fault_forward.specs.declared.effects.Notice.{Notice}
 use Rattle.fault_forward.specs.declared.effects.Notice.TheVariants.{Trap}
 use Rattle.rv32_exec.specs.declared.statuses.Reason.{Reason}
 use Rattle.rv32_exec.specs.declared.statuses.Status.TheVariants as statuses
-use Rattle.flat_state.specs.declared.events.Event.TheVariants.{Complete}
-use Rattle.flat_state.specs.declared.records.FlatThread.{FlatThread}
-use Rattle.flat_state.specs.Call.{is_completable}
-use Rattle.flat_state.specs.Events.{applied}
-use Rattle.flat_state.specs.State.{FlatState}
-use Rattle.run_journal.specs.declared.entries.Entry.{Entry}
-use Rattle.run_journal.specs.declared.entries.Entry.TheVariants.{Completed}
-use Rattle.board_core.specs.board_ops.specs.declared.refusals.Refused.{Refused}
-use Rattle.board_core.specs.board_ops.specs.declared.refusals.Refused.TheVariants.{NoMemory}
-use Rattle.board_core.specs.cached_machine.specs.Cached.{state_of}
-use Rattle.board_core.specs.Core.{IsSound, Recorded}
+use Rattle.owners.specs.flat_state.specs.declared.events.Event.TheVariants.{Complete}
+use Rattle.owners.specs.flat_state.specs.declared.records.FlatThread.{FlatThread}
+use Rattle.owners.specs.flat_state.specs.Call.{is_completable}
+use Rattle.owners.specs.flat_state.specs.Events.{applied}
+use Rattle.owners.specs.flat_state.specs.State.{FlatState}
+use Rattle.owners.specs.run_journal.specs.declared.entries.Entry.{Entry}
+use Rattle.owners.specs.run_journal.specs.declared.entries.Entry.TheVariants.{Completed}
+use Rattle.page_laws.specs.board_ops.specs.declared.refusals.Refused.{Refused}
+use Rattle.page_laws.specs.board_ops.specs.declared.refusals.Refused.TheVariants.{NoMemory}
+use Rattle.page_laws.specs.cached_machine.specs.Cached.{state_of}
+use Rattle.page_laws.specs.board_core.specs.Core.{IsSound, Recorded}
 use Rattle.owner_ports.specs.Boards.{status_in}
 use Rattle.owners.specs.Known.{space_of, Known}
 use Rattle.owners.specs.Owning.{AreOwnersOf, IsThreadOf}

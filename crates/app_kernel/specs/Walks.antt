@@ -8,15 +8,15 @@ use Rattle.cache_ident.specs.declared.names.SpaceNo.{SpaceNo}
 use Rattle.cache_ident.specs.declared.names.ThreadNo.{ThreadNo}
 use Rattle.cache_ident.specs.declared.names.Vpn.{Vpn}
 use Rattle.cache_ident.specs.Residents.{IsResident}
-use Rattle.board_core.specs.board_ops.specs.declared.refusals.Refused.{Refused}
-use Rattle.board_core.specs.board_ops.specs.declared.refusals.Refused.TheVariants.{NoMemory, WrongParent}
-use Rattle.board_core.specs.desc_stores.specs.Contents.{residents_of}
-use Rattle.board_core.specs.cached_machine.specs.Cached.{state_of}
-use Rattle.board_core.specs.Core.{contents_of, Recorded}
+use Rattle.page_laws.specs.board_ops.specs.declared.refusals.Refused.{Refused}
+use Rattle.page_laws.specs.board_ops.specs.declared.refusals.Refused.TheVariants.{NoMemory, WrongParent}
+use Rattle.page_laws.specs.desc_stores.specs.Contents.{residents_of}
+use Rattle.page_laws.specs.cached_machine.specs.Cached.{state_of}
+use Rattle.page_laws.specs.board_core.specs.Core.{contents_of, Recorded}
 use Rattle.owner_ports.specs.Boards.{OnTold}
 use Rattle.owners.specs.Known.{ident_of, IsNoted, IsReceiverLearnt, Known}
 use Rattle.owners.specs.Owning.{IsThreadOf}
-use Rattle.page_laws.specs.reach_laws.specs.owner_laws.specs.Passing.{thread_named}
+use Rattle.page_laws.specs.owner_laws.specs.Passing.{thread_named}
 use Rattle.page_laws.specs.reach_laws.specs.Reaching.{kernel_ident, IsOwned, IsReached}
 use Rattle.page_laws.specs.reach_laws.specs.Searching.{space_told, IsNearer}
 use Rattle.app_kernel.specs.declared.walk.Trust.{Trust}

@@ -6,7 +6,7 @@ ghost use Rattle.cache_ident.specs.declared.names.SpaceNo.{SpaceNo};
 ghost use Rattle.owner_ports.specs.Boards.{OnTold};
 ghost use Rattle.owners.specs.Known.{ident_of, receiver_of};
 ghost use Rattle.page_laws.specs.reach_laws.specs.Reaching.{loaded_as, IsOwned, IsReached};
-ghost use Rattle.page_laws.specs.reach_laws.specs.owner_laws.specs.Passing.{thread_named};
+ghost use Rattle.page_laws.specs.owner_laws.specs.Passing.{thread_named};
 ghost use Rattle.app_kernel.specs.Answers.{HasRisenBy, IsAsked, IsReason};
 ghost use Rattle.app_kernel.specs.Pages.{AreGentle, AskFills, AskIsVain, IsNoneMissing, IsPassedOn, IsReceiverGot, RowFills, RowIsVain};
 ghost use Rattle.app_kernel.specs.Walks.{AreWalked, IsLearntSo, IsNotedSo, IsReceiverTold};

@@ -24,7 +24,7 @@ use Rattle.phys_groups.specs.declared.rows.Flags.{Flags}
 use Rattle.phys_groups.specs.declared.rows.Row.{Row}
 use Rattle.phys_groups.specs.Rows.{row_name}
 use Rattle.phys_groups.specs.Translation.{implies, is_fit, is_row_of, right_on, row_of, without}
-use Rattle.signal_pages.specs.Signals.{is_signal_row_of}
+use Rattle.row_store.specs.signal_pages.specs.Signals.{is_signal_row_of}
 use Rattle.flat_state.specs.declared.events.Decl.{Decl}
 use Rattle.flat_state.specs.declared.events.Decl.TheVariants as decls
 use Rattle.flat_state.specs.declared.records.FlatKernel.{FlatKernel}
@@ -44,14 +44,14 @@ use Rattle.flat_state.proofs.Places.{get-append, get-set_other, get-set_same}
 use Rattle.board_core.specs.flat_events.specs.declared.asked.Asked.{Asked}
 use Rattle.board_core.specs.flat_events.specs.declared.asked.Asked.TheVariants.{Nothing, Refused, Declares, Unmaps}
 use Rattle.board_core.specs.flat_events.specs.Asked.{after_asked, CanBeDone}
-use Rattle.flat_laws.proofs.EventKeeps.{event_keeps, Keeps}
-use Rattle.flat_laws.proofs.Members.{Contains-filter}
-use Rattle.flat_laws.proofs.ParentLaws.{there_is}
-use Rattle.run_journal.specs.Legal.{AreGood, StaysGood}
-use Rattle.run_journal.proofs.Others.{Contains-from_filter}
-use Rattle.board_core.specs.desc_stores.specs.declared.items.Item.TheVariants as item
-use Rattle.board_core.specs.desc_stores.specs.Contents.{item_as, residents_of, Contents}
-use Rattle.board_core.specs.desc_stores.specs.Sound.{IsExactlyOne}
+use Rattle.board_checks.specs.flat_laws.proofs.EventKeeps.{event_keeps, Keeps}
+use Rattle.board_checks.specs.flat_laws.proofs.Members.{Contains-filter}
+use Rattle.board_checks.specs.flat_laws.proofs.ParentLaws.{there_is}
+use Rattle.board_checks.specs.run_journal.specs.Legal.{AreGood, StaysGood}
+use Rattle.board_checks.specs.run_journal.proofs.Others.{Contains-from_filter}
+use Rattle.board_checks.specs.desc_stores.specs.declared.items.Item.TheVariants as item
+use Rattle.board_checks.specs.desc_stores.specs.Contents.{item_as, residents_of, Contents}
+use Rattle.board_checks.specs.desc_stores.specs.Sound.{IsExactlyOne}
 use Rattle.board_core.specs.store_residents.proofs.ResidentLemmas.{resident_kind}
 use Rattle.board_core.specs.cached_machine.specs.Cached.{state_of, Cached}
 use Rattle.board_core.specs.cached_machine.proofs.CompleteLaws.{row_gone}

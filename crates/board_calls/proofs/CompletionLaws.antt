@@ -20,19 +20,19 @@ use Rattle.flat_state.proofs.FormedEvents.{applied_formed}
 use Rattle.flat_rules.specs.Readings.{OfThread}
 use Rattle.board_core.specs.flat_events.specs.declared.asked.Asked.TheVariants.{Nothing}
 use Rattle.board_core.specs.flat_events.specs.Asked.{asked_of}
-use Rattle.flat_laws.proofs.EventKeeps.{event_keeps}
-use Rattle.flat_laws.proofs.StepSame.{same_class}
-use Rattle.run_journal.specs.declared.entries.Entry.TheVariants as entry
-use Rattle.run_journal.specs.Legal.{AreGood}
-use Rattle.thread_cache.specs.declared.ThreadRec.{ThreadRec}
-use Rattle.board_core.specs.desc_stores.specs.declared.items.Item.TheVariants as item
-use Rattle.board_core.specs.desc_stores.specs.Contents.{content_of, item_as, residents_of, Contents}
-use Rattle.board_core.specs.shown_state.specs.Shown.{flat_thread, thread_of}
-use Rattle.board_core.specs.shown_state.proofs.LookupLemmas.{found_thread}
+use Rattle.board_checks.specs.flat_laws.proofs.EventKeeps.{event_keeps}
+use Rattle.board_checks.specs.flat_laws.proofs.StepSame.{same_class}
+use Rattle.board_checks.specs.run_journal.specs.declared.entries.Entry.TheVariants as entry
+use Rattle.board_checks.specs.run_journal.specs.Legal.{AreGood}
+use Rattle.board_checks.specs.thread_cache.specs.declared.ThreadRec.{ThreadRec}
+use Rattle.board_checks.specs.desc_stores.specs.declared.items.Item.TheVariants as item
+use Rattle.board_checks.specs.desc_stores.specs.Contents.{content_of, item_as, residents_of, Contents}
+use Rattle.board_checks.specs.shown_state.specs.Shown.{flat_thread, thread_of}
+use Rattle.board_checks.specs.shown_state.proofs.LookupLemmas.{found_thread}
 use Rattle.board_core.specs.store_residents.proofs.ContentLemmas.{resident_item}
 use Rattle.board_core.specs.store_residents.proofs.ResidentLemmas.{one_each, resident_kind}
-use Rattle.board_core.specs.desc_groups.specs.Whole.{IsWhole}
-use Rattle.board_core.specs.desc_parents.specs.Seen.{seen}
+use Rattle.board_checks.specs.desc_groups.specs.Whole.{IsWhole}
+use Rattle.board_checks.specs.desc_parents.specs.Seen.{seen}
 use Rattle.board_core.specs.cached_machine.specs.Cached.{state_of}
 use Rattle.board_core.specs.Core.{contents_of, Recorded}
 use Rattle.board_core.specs.Growth.{count_loaded, GrowsBy, KeepsPlaces, IsRoomMade}

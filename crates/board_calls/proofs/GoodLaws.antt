@@ -14,18 +14,18 @@ use Rattle.cache_ident.specs.Residents.{Resident, IsNameResident}
 use Rattle.phys_groups.specs.declared.rows.Row.{Row}
 use Rattle.phys_groups.specs.Rows.{row_name}
 use Rattle.phys_groups.specs.Translation.{row_of}
-use Rattle.signal_pages.specs.Signals.{is_signal_row_of}
+use Rattle.row_store.specs.signal_pages.specs.Signals.{is_signal_row_of}
 use Rattle.flat_state.specs.declared.records.FlatKernel.{FlatKernel}
 use Rattle.flat_state.specs.declared.records.FlatThread.{FlatThread}
 use Rattle.flat_state.specs.Dependence.{parents, parents_of_found, parents_of_row, signal_rows_of}
 use Rattle.flat_state.specs.Names.{class_of, class_of_row, is_fit_found, is_fit_name, stands}
 use Rattle.flat_state.specs.State.{FlatState}
 use Rattle.flat_state.specs.Translation.{is_fit_row}
-use Rattle.flat_laws.specs.Rows.{IsButForBits}
-use Rattle.flat_laws.proofs.EventKeeps.{Keeps}
-use Rattle.flat_laws.proofs.Members.{Contains-behind, Contains-cases, Contains-filter, Contains-from_map, Contains-here, Contains-map, contains_nothing}
-use Rattle.run_journal.specs.Groups.{HasParents}
-use Rattle.run_journal.proofs.Others.{Contains-from_filter}
+use Rattle.board_checks.specs.flat_laws.specs.Rows.{IsButForBits}
+use Rattle.board_checks.specs.flat_laws.proofs.EventKeeps.{Keeps}
+use Rattle.board_checks.specs.flat_laws.proofs.Members.{Contains-behind, Contains-cases, Contains-filter, Contains-from_map, Contains-here, Contains-map, contains_nothing}
+use Rattle.board_checks.specs.run_journal.specs.Groups.{HasParents}
+use Rattle.board_checks.specs.run_journal.proofs.Others.{Contains-from_filter}
 
 -- a name stands, is fit, and has all that it depends on resident
 pub record IsGood (s : FlatState) (rs : List Resident) (n : Name) : Type 0 where

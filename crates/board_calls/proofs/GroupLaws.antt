@@ -11,28 +11,28 @@ use Rattle.cache_ident.specs.Names.{kind_of}
 use Rattle.cache_ident.specs.Residents.{Resident}
 use Rattle.cache_ident.specs.Rolls.{is_same}
 use Rattle.cache_ident.proofs.RollLemmas.{same_ident}
-use Rattle.depend_lists.specs.declared.nodes.Node.{Node}
+use Rattle.board_checks.specs.depend_lists.specs.declared.nodes.Node.{Node}
 use Rattle.phys_groups.specs.declared.rows.Row.{Row}
 use Rattle.phys_groups.specs.Translation.{row_of}
-use Rattle.writeback_order.specs.Order.{directly, further, rank_of, DependsOn}
+use Rattle.board_checks.specs.writeback_order.specs.Order.{directly, further, rank_of, DependsOn}
 use Rattle.flat_state.specs.declared.records.FlatThread.{FlatThread}
 use Rattle.flat_state.specs.Dependence.{parents, parents_of_found, Depends}
 use Rattle.flat_state.specs.Names.{class_by, class_of, class_of_row, is_fit_name, stands}
 use Rattle.flat_state.specs.State.{FlatState}
 use Rattle.flat_state.specs.WellFormed.{IsWellFormed}
-use Rattle.flat_laws.specs.Rows.{IsButForBits}
-use Rattle.flat_laws.proofs.EventKeeps.{Keeps}
-use Rattle.flat_laws.proofs.Members.{Contains-cases, Contains-from_map, Contains-here, Contains-behind, Contains-option_map, contains_nothing}
-use Rattle.flat_laws.proofs.ParentLaws.{parent_leaves_later, parent_stands}
-use Rattle.flat_laws.proofs.ShortChains.{own_row}
-use Rattle.run_journal.specs.declared.entries.Entry.{Entry}
-use Rattle.run_journal.specs.Groups.{IsGroup}
-use Rattle.run_journal.specs.Legal.{AreGood}
-use Rattle.run_journal.proofs.Others.{other_ident}
+use Rattle.board_checks.specs.flat_laws.specs.Rows.{IsButForBits}
+use Rattle.board_checks.specs.flat_laws.proofs.EventKeeps.{Keeps}
+use Rattle.board_checks.specs.flat_laws.proofs.Members.{Contains-cases, Contains-from_map, Contains-here, Contains-behind, Contains-option_map, contains_nothing}
+use Rattle.board_checks.specs.flat_laws.proofs.ParentLaws.{parent_leaves_later, parent_stands}
+use Rattle.board_checks.specs.flat_laws.proofs.ShortChains.{own_row}
+use Rattle.board_checks.specs.run_journal.specs.declared.entries.Entry.{Entry}
+use Rattle.board_checks.specs.run_journal.specs.Groups.{IsGroup}
+use Rattle.board_checks.specs.run_journal.specs.Legal.{AreGood}
+use Rattle.board_checks.specs.run_journal.proofs.Others.{other_ident}
 use Rattle.board_core.specs.journal_laws.specs.Leaving.{HaveOneEach}
 use Rattle.board_core.specs.group_laws.proofs.Remaining.{stays_without_all, without_all_cases}
 use Rattle.board_core.specs.group_laws.proofs.StayingOne.{one_all_left}
-use Rattle.board_core.specs.desc_groups.proofs.LeaveLemmas.{ident_of}
+use Rattle.board_checks.specs.desc_groups.proofs.LeaveLemmas.{ident_of}
 use Rattle.board_core.specs.board_laws.proofs.Departing.{group_idents}
 use Rattle.board_calls.specs.Departures.{LeaveInTurn, LeavesIfThere}
 use Rattle.board_calls.specs.Leaving.{AreBad}

@@ -8,7 +8,7 @@ use Rattle.std.proofs.lemmas.Iterator.Consumers.{YieldsList-end, YieldsList-from
 use Rattle.std.proofs.lemmas.List.{map-id}
 use Rattle.std.proofs.lemmas.List.Elements.{Contains-append_left, Contains-push, Contains-push_cases}
 use Rattle.cache_ident.specs.declared.idents.Ident.{Ident}
-use Rattle.flat_laws.proofs.Members.{Contains-behind, Contains-cases, Contains-here, contains_nothing}
+use Rattle.board_checks.specs.flat_laws.proofs.Members.{Contains-behind, Contains-cases, Contains-here, contains_nothing}
 use Rattle.cache_ident.specs.declared.names.Frame.{Frame}
 use Rattle.board_core.specs.cached_machine.specs.Cached.{Cached}
 use Rattle.board_calls.specs.declared.leaving.Grant.{Grant}

@@ -13,27 +13,27 @@ use Rattle.cache_ident.specs.declared.names.Vpn.{Vpn}
 use Rattle.cache_ident.specs.Residents.{Resident, IsNameResident, IsResident}
 use Rattle.phys_groups.specs.declared.rows.Row.{Row}
 use Rattle.phys_groups.specs.Translation.{is_row_of, row_of}
-use Rattle.signal_pages.specs.Signals.{is_signal_row_of}
-use Rattle.slot_cache.specs.Rows.{row_name}
+use Rattle.row_store.specs.signal_pages.specs.Signals.{is_signal_row_of}
+use Rattle.row_store.specs.slot_cache.specs.Rows.{row_name}
 use Rattle.flat_state.specs.declared.events.Machine.{Machine}
 use Rattle.flat_state.specs.State.{FlatState}
 use Rattle.flat_state.specs.WellFormed.{IsWellFormed}
 use Rattle.flat_state.proofs.Finding.{find-contains}
-use Rattle.flat_laws.proofs.Members.{Contains-filter}
-use Rattle.flat_laws.proofs.StepSame.{IsSameBut}
-use Rattle.run_journal.specs.Legal.{AreGood}
-use Rattle.board_core.specs.desc_stores.specs.declared.items.Item.{Item}
-use Rattle.board_core.specs.desc_stores.specs.declared.items.Item.TheVariants as item
-use Rattle.board_core.specs.desc_stores.specs.Contents.{content_of, item_as, residents_of, Contents}
-use Rattle.board_core.specs.desc_stores.specs.Sound.{IsExactlyOne}
-use Rattle.board_core.specs.shown_state.specs.Shown.{row_of_item, shown}
-use Rattle.board_core.specs.shown_state.proofs.LookupLemmas.{found_row}
+use Rattle.board_checks.specs.flat_laws.proofs.Members.{Contains-filter}
+use Rattle.board_checks.specs.flat_laws.proofs.StepSame.{IsSameBut}
+use Rattle.board_checks.specs.run_journal.specs.Legal.{AreGood}
+use Rattle.board_checks.specs.desc_stores.specs.declared.items.Item.{Item}
+use Rattle.board_checks.specs.desc_stores.specs.declared.items.Item.TheVariants as item
+use Rattle.board_checks.specs.desc_stores.specs.Contents.{content_of, item_as, residents_of, Contents}
+use Rattle.board_checks.specs.desc_stores.specs.Sound.{IsExactlyOne}
+use Rattle.board_checks.specs.shown_state.specs.Shown.{row_of_item, shown}
+use Rattle.board_checks.specs.shown_state.proofs.LookupLemmas.{found_row}
 use Rattle.board_core.specs.store_residents.specs.Frames.{IsResidentOn}
 use Rattle.board_core.specs.store_residents.proofs.ContentLemmas.{resident_item}
 use Rattle.board_core.specs.store_residents.proofs.ResidentLemmas.{one_each}
-use Rattle.board_core.specs.desc_parents.specs.Idents.{ident_of}
-use Rattle.board_core.specs.desc_parents.specs.Seen.{seen}
-use Rattle.board_core.specs.desc_parents.proofs.IdentLemmas.{ident_back, ident_found, ident_none}
+use Rattle.board_checks.specs.desc_parents.specs.Idents.{ident_of}
+use Rattle.board_checks.specs.desc_parents.specs.Seen.{seen}
+use Rattle.board_checks.specs.desc_parents.proofs.IdentLemmas.{ident_back, ident_found, ident_none}
 use Rattle.board_core.specs.cached_machine.proofs.GoodLaws.{good_before}
 use Rattle.board_checks.proofs.IdentifierLemmas.{item_resident}
 use Rattle.board_calls.specs.Leaving.{is_absent, is_message, passes, IsOf, IsRowAs}

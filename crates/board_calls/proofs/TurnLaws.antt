@@ -9,15 +9,15 @@ use Rattle.cache_ident.specs.declared.names.ThreadNo.{ThreadNo}
 use Rattle.cache_ident.specs.Residents.{Resident, IsIdentResident}
 use Rattle.flat_state.specs.Events.{after_events}
 use Rattle.flat_state.specs.State.{FlatState}
-use Rattle.run_journal.specs.declared.entries.Entry.{Entry}
-use Rattle.board_core.specs.desc_stores.specs.Changes.{room_of}
-use Rattle.board_core.specs.desc_stores.specs.Contents.{residents_of, Contents}
+use Rattle.board_checks.specs.run_journal.specs.declared.entries.Entry.{Entry}
+use Rattle.board_checks.specs.desc_stores.specs.Changes.{room_of}
+use Rattle.board_checks.specs.desc_stores.specs.Contents.{residents_of, Contents}
 use Rattle.board_core.specs.group_laws.specs.Leaving.{without_all}
 use Rattle.board_core.specs.group_laws.proofs.Remaining.{without_all_cases}
-use Rattle.board_core.specs.desc_groups.specs.declared.departures.Gone.{Gone}
-use Rattle.board_core.specs.desc_groups.specs.Moves.{idents_of}
-use Rattle.board_core.specs.desc_groups.specs.Whole.{IsWhole}
-use Rattle.board_core.specs.desc_parents.specs.Seen.{seen}
+use Rattle.board_checks.specs.desc_groups.specs.declared.departures.Gone.{Gone}
+use Rattle.board_checks.specs.desc_groups.specs.Moves.{idents_of}
+use Rattle.board_checks.specs.desc_groups.specs.Whole.{IsWhole}
+use Rattle.board_checks.specs.desc_parents.specs.Seen.{seen}
 use Rattle.board_core.specs.board_laws.specs.Moves.{written_back, IsUnload}
 use Rattle.board_core.specs.cached_machine.specs.Cached.{is_loaded, state_of}
 use Rattle.board_core.specs.cached_machine.specs.Posts.{mark_of, HasLoadedMarks, OnlyLoadedAreOut}

@@ -13,15 +13,15 @@ use Rattle.flat_state.specs.Call.{is_completable}
 use Rattle.flat_state.specs.Declaration.{broken_rule}
 use Rattle.flat_state.specs.Events.{applied}
 use Rattle.flat_rules.specs.Readings.{OfThread}
-use Rattle.run_journal.specs.declared.entries.Entry.{Entry}
-use Rattle.run_journal.specs.declared.entries.Entry.TheVariants as entry
-use Rattle.run_journal.specs.Legal.{first_ident}
+use Rattle.board_checks.specs.run_journal.specs.declared.entries.Entry.{Entry}
+use Rattle.board_checks.specs.run_journal.specs.declared.entries.Entry.TheVariants as entry
+use Rattle.board_checks.specs.run_journal.specs.Legal.{first_ident}
 use Rattle.board_core.specs.flat_events.specs.declared.asked.Asked.TheVariants.{Nothing}
 use Rattle.board_core.specs.flat_events.specs.Asked.{asked_of}
-use Rattle.board_core.specs.desc_stores.specs.Contents.{residents_of}
-use Rattle.board_core.specs.desc_parents.specs.Seen.{seen}
-use Rattle.board_core.specs.board_ops.specs.declared.refusals.Refused.{Refused}
-use Rattle.board_core.specs.board_ops.specs.declared.refusals.Refused.TheVariants as why
+use Rattle.board_checks.specs.desc_stores.specs.Contents.{residents_of}
+use Rattle.board_checks.specs.desc_parents.specs.Seen.{seen}
+use Rattle.board_checks.specs.board_ops.specs.declared.refusals.Refused.{Refused}
+use Rattle.board_checks.specs.board_ops.specs.declared.refusals.Refused.TheVariants as why
 use Rattle.board_core.specs.cached_machine.specs.Cached.{state_of}
 use Rattle.board_core.specs.cached_machine.specs.Posts.{HasLoadedMarks, HasSameMarks}
 use Rattle.board_core.specs.Core.{contents_of, Recorded}

@@ -4,13 +4,13 @@ use Rattle.cache_ident.specs.declared.idents.Cause.TheVariants.{Unloaded}
 use Rattle.cache_ident.specs.declared.idents.Ident.{Ident}
 use Rattle.cache_ident.specs.Residents.{Resident, IsIdentResident}
 use Rattle.flat_state.specs.State.{FlatState}
-use Rattle.run_journal.specs.declared.entries.Entry.{Entry}
-use Rattle.run_journal.specs.Groups.{IsGroup}
-use Rattle.board_core.specs.desc_stores.specs.Changes.{room_of}
-use Rattle.board_core.specs.desc_stores.specs.Contents.{residents_of}
+use Rattle.board_checks.specs.run_journal.specs.declared.entries.Entry.{Entry}
+use Rattle.board_checks.specs.run_journal.specs.Groups.{IsGroup}
+use Rattle.board_checks.specs.desc_stores.specs.Changes.{room_of}
+use Rattle.board_checks.specs.desc_stores.specs.Contents.{residents_of}
 use Rattle.board_core.specs.group_laws.specs.Leaving.{without_all}
-use Rattle.board_core.specs.desc_groups.specs.Moves.{gone_as}
-use Rattle.board_core.specs.desc_parents.specs.Seen.{seen}
+use Rattle.board_checks.specs.desc_groups.specs.Moves.{gone_as}
+use Rattle.board_checks.specs.desc_parents.specs.Seen.{seen}
 use Rattle.board_core.specs.board_laws.specs.Moves.{written_back}
 use Rattle.board_core.specs.cached_machine.specs.Cached.{state_of}
 use Rattle.board_core.specs.cached_machine.specs.Posts.{HasLoadedMarks}

@@ -11,7 +11,7 @@ use Rattle.cache_ident.specs.Residents.{Resident, IsNameResident, IsResident}
 use Rattle.phys_groups.specs.declared.rows.Row.{Row}
 use Rattle.phys_groups.specs.Rows.{row_name}
 use Rattle.phys_groups.specs.Translation.{covers, right_on}
-use Rattle.signal_pages.specs.Signals.{is_signal_row_of}
+use Rattle.row_store.specs.signal_pages.specs.Signals.{is_signal_row_of}
 use Rattle.flat_state.specs.declared.events.Decl.{Decl}
 use Rattle.flat_state.specs.declared.events.Decl.TheVariants as decls
 use Rattle.flat_state.specs.Declaration.{with_right}
@@ -21,11 +21,11 @@ use Rattle.flat_state.specs.State.{FlatState}
 use Rattle.flat_state.specs.Translation.{is_fit_row, rights_in, rights_of}
 use Rattle.board_core.specs.flat_events.specs.declared.asked.Asked.{Asked}
 use Rattle.board_core.specs.flat_events.specs.declared.asked.Asked.TheVariants.{Nothing, Refused, Declares, Unmaps}
-use Rattle.run_journal.specs.Legal.{StaysGood}
-use Rattle.board_core.specs.desc_stores.specs.declared.items.Item.{Item}
-use Rattle.board_core.specs.desc_stores.specs.declared.items.Item.TheVariants as item
-use Rattle.board_core.specs.desc_stores.specs.Contents.{item_as, residents_of, Contents}
-use Rattle.board_core.specs.desc_parents.specs.Idents.{ident_of}
+use Rattle.board_checks.specs.run_journal.specs.Legal.{StaysGood}
+use Rattle.board_checks.specs.desc_stores.specs.declared.items.Item.{Item}
+use Rattle.board_checks.specs.desc_stores.specs.declared.items.Item.TheVariants as item
+use Rattle.board_checks.specs.desc_stores.specs.Contents.{item_as, residents_of, Contents}
+use Rattle.board_checks.specs.desc_parents.specs.Idents.{ident_of}
 use Rattle.board_core.specs.cached_machine.specs.Cached.{state_of, Cached}
 use Rattle.board_calls.specs.declared.leaving.Grant.{Grant}
 

@@ -3,10 +3,10 @@
 ghost use Rattle.std.specs.Prelude.{◌≡◌, ◌≢◌, ◌+◌, ◌<◌, ◌≤◌, ◌⊎◌, [], true, None, Some, Contains, IfErr, IfOk, OnOk};
 ghost use Rattle.cache_ident.specs.declared.idents.Kind.TheVariants.{Mapping};
 ghost use Rattle.flat_state.specs.WellFormed.{IsWellFormed};
-ghost use Rattle.run_journal.specs.Legal.{AreGood};
-ghost use Rattle.board_core.specs.board_ops.specs.declared.refusals.Refused.TheVariants.{NoMemory};
-ghost use Rattle.board_core.specs.desc_stores.specs.Contents.{residents_of};
-ghost use Rattle.board_core.specs.desc_groups.specs.Whole.{IsWhole};
+ghost use Rattle.board_checks.specs.run_journal.specs.Legal.{AreGood};
+ghost use Rattle.board_checks.specs.board_ops.specs.declared.refusals.Refused.TheVariants.{NoMemory};
+ghost use Rattle.board_checks.specs.desc_stores.specs.Contents.{residents_of};
+ghost use Rattle.board_checks.specs.desc_groups.specs.Whole.{IsWhole};
 ghost use Rattle.board_core.specs.cached_machine.specs.Cached.{state_of};
 ghost use Rattle.board_core.specs.cached_machine.specs.Posts.{OnlyLoadedAreOut};
 ghost use Rattle.board_checks.specs.Refusals.{refusal_of_complete};

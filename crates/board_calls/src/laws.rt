@@ -3,8 +3,8 @@
 ghost use Rattle.std.specs.Prelude.{◌≡◌, ℕ};
 ghost use Rattle.std.specs.Option.{option_or};
 ghost use Rattle.cache_ident.specs.declared.idents.Ident.{Ident};
-ghost use Rattle.board_core.specs.desc_stores.specs.Contents.{residents_of, Contents};
-ghost use Rattle.board_core.specs.desc_parents.specs.Seen.{seen};
+ghost use Rattle.board_checks.specs.desc_stores.specs.Contents.{residents_of, Contents};
+ghost use Rattle.board_checks.specs.desc_parents.specs.Seen.{seen};
 ghost use Rattle.board_core.specs.board_laws.specs.Moves.{written_back};
 ghost use Rattle.board_checks.specs.Refusals.{not_completable, refusal_of_complete, refusal_of_thread};
 ghost use Rattle.board_core.specs.Core.{contents_of, Recorded};

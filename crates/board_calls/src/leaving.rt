@@ -14,9 +14,9 @@ ghost use Rattle.flat_state.specs.Translation.{is_fit_row as is_fit_row_def, rig
 ghost use Rattle.flat_state.specs.WellFormed.{IsWellFormed};
 ghost use Rattle.flat_rules.specs.Readings.{OfThread};
 ghost use Rattle.board_core.specs.flat_events.specs.Asked.{asked_of, CanBeDone};
-ghost use Rattle.run_journal.specs.Legal.{AreGood};
-ghost use Rattle.board_core.specs.desc_stores.specs.Contents.{item_as, residents_of};
-ghost use Rattle.board_core.specs.desc_stores.specs.Sound.{IsExactlyOne};
+ghost use Rattle.board_checks.specs.run_journal.specs.Legal.{AreGood};
+ghost use Rattle.board_checks.specs.desc_stores.specs.Contents.{item_as, residents_of};
+ghost use Rattle.board_checks.specs.desc_stores.specs.Sound.{IsExactlyOne};
 ghost use Rattle.board_core.specs.cached_machine.specs.Cached.{state_of};
 ghost use Rattle.board_calls.specs.Leaving.{after_grant, goes_so, is_absent as is_absent_def, is_message as is_message_def, lacks_rows as lacks_rows_def, passes, takes_away, AddsThose, AreBad, GoesFor, GoesForDecl, IsOf, IsRowAs, IsRowGoing, IsRowInGroup};
 

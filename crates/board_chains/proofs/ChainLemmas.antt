@@ -5,7 +5,7 @@ use Rattle.std.proofs.lemmas.Bool.{cases_eq}
 use Rattle.std.proofs.lemmas.List.{append-nil, append_assoc, get_or_append_left, get_or_default}
 use Rattle.std.proofs.lemmas.List.Elements.{Contains-append_cases, Contains-append_left, Contains-append_right, Contains-push_cases}
 use Rattle.std.proofs.lemmas.List.Sums.{length-filter}
-use Rattle.flat_laws.proofs.Members.{Contains-filter, Contains-from_flat_map, contains_nothing}
+use Rattle.cached_machine.specs.flat_laws.proofs.Members.{Contains-filter, Contains-from_flat_map, contains_nothing}
 use Rattle.cache_ident.specs.declared.idents.Kind.{Kind}
 use Rattle.cache_ident.specs.declared.idents.Kind.TheVariants as kind
 use Rattle.cache_ident.specs.declared.names.Name.{Name}
@@ -14,11 +14,11 @@ use Rattle.flat_state.specs.declared.records.FlatThread.{FlatThread}
 use Rattle.flat_state.specs.Dependence.{parents, up}
 use Rattle.flat_state.specs.State.{FlatState}
 use Rattle.flat_state.specs.WellFormed.{IsWellFormed}
-use Rattle.flat_laws.specs.Counts.{AtMost}
-use Rattle.flat_laws.proofs.ShortChains.{AreFew}
-use Rattle.flat_laws.proofs.StepChains.{chain_is_few}
-use Rattle.flat_laws.proofs.WholeChains.{chain_is_whole}
-use Rattle.run_journal.specs.Legal.{is_kind}
+use Rattle.cached_machine.specs.flat_laws.specs.Counts.{AtMost}
+use Rattle.cached_machine.specs.flat_laws.proofs.ShortChains.{AreFew}
+use Rattle.cached_machine.specs.flat_laws.proofs.StepChains.{chain_is_few}
+use Rattle.cached_machine.specs.flat_laws.proofs.WholeChains.{chain_is_whole}
+use Rattle.cached_machine.specs.run_journal.specs.Legal.{is_kind}
 use Rattle.cached_machine.specs.store_residents.proofs.SlotLemmas.{kind_is}
 use Rattle.cached_machine.specs.desc_tables.specs.May.{wanted_of}
 use Rattle.board_chains.specs.Chains.{chain_at, chain_found, HasParents, HoldsAllParents, IsFewByKind, IsPart, StartsWith}

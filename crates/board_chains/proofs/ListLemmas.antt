@@ -4,10 +4,10 @@ use Rattle.std.specs.Prelude.{if◌then◌else◌}
 use Rattle.std.proofs.lemmas.Bool.{cases_Bool, false≢true}
 use Rattle.std.proofs.lemmas.List.{append-nil}
 use Rattle.std.proofs.lemmas.List.Elements.{Contains-append_cases, Contains-append_left, Contains-append_right, Contains-push_cases}
-use Rattle.flat_laws.proofs.Members.{Contains-behind, Contains-cases, Contains-filter, Contains-here, contains_nothing}
+use Rattle.cached_machine.specs.flat_laws.proofs.Members.{Contains-behind, Contains-cases, Contains-filter, Contains-here, contains_nothing}
 use Rattle.cache_ident.specs.declared.names.Name.{Name}
-use Rattle.kind_store.specs.Changes.{is_name}
-use Rattle.owner_shelf.proofs.NameLemmas.{eq_itself, same_by_eq}
+use Rattle.cached_machine.specs.kind_store.specs.Changes.{is_name}
+use Rattle.cached_machine.specs.owner_shelf.proofs.NameLemmas.{eq_itself, same_by_eq}
 use Rattle.board_chains.specs.Lists.{has, with_also, AreAllOnce}
 
 -- ---- whether a name is there

@@ -5,14 +5,14 @@ use Rattle.std.specs.Option.{option_map}
 use Rattle.std.proofs.lemmas.Bool.{and_from, and_parts, cases_Bool, eq-eqb, false≢true}
 use Rattle.std.proofs.lemmas.List.Elements.{Contains-append_cases, Contains-push_cases, filter-append}
 use Rattle.std.proofs.lemmas.Option.{same_Some}
-use Rattle.flat_laws.proofs.Members.{Contains-behind, Contains-cases, Contains-filter, Contains-from_map, Contains-here, Contains-option_map, contains_nothing}
+use Rattle.cached_machine.specs.flat_laws.proofs.Members.{Contains-behind, Contains-cases, Contains-filter, Contains-from_map, Contains-here, Contains-option_map, contains_nothing}
 use Rattle.cache_ident.specs.declared.names.Name.{Name}
 use Rattle.cache_ident.specs.declared.names.Name.TheVariants.{Kernel, Space, Thread, Mapping}
 use Rattle.cache_ident.specs.declared.names.ThreadNo.{ThreadNo}
 use Rattle.phys_groups.specs.declared.rows.Row.{Row}
 use Rattle.phys_groups.specs.Rows.{row_name, HasOneRowAPage}
 use Rattle.phys_groups.specs.Translation.{is_row_of, row_of}
-use Rattle.signal_pages.specs.Signals.{is_signal_row_of}
+use Rattle.flat_state.specs.signal_pages.specs.Signals.{is_signal_row_of}
 use Rattle.flat_state.specs.declared.records.FlatThread.{FlatThread}
 use Rattle.flat_state.specs.Dependence.{parents, parents_of_found, parents_of_row, signal_rows_of, Depends}
 use Rattle.flat_state.specs.Names.{is_fit_found, is_fit_name, stands}
@@ -20,9 +20,9 @@ use Rattle.flat_state.specs.State.{FlatState}
 use Rattle.flat_state.specs.Translation.{is_fit_row}
 use Rattle.flat_state.specs.WellFormed.{IsWellFormed}
 use Rattle.flat_state.proofs.Places.{get_from_Contains}
-use Rattle.flat_laws.proofs.ParentLaws.{parent_stands}
-use Rattle.flat_laws.proofs.ShortChains.{no_signals, own_row, received, signal_row}
-use Rattle.flat_laws.proofs.WholeChains.{below, height}
+use Rattle.cached_machine.specs.flat_laws.proofs.ParentLaws.{parent_stands}
+use Rattle.cached_machine.specs.flat_laws.proofs.ShortChains.{no_signals, own_row, received, signal_row}
+use Rattle.cached_machine.specs.flat_laws.proofs.WholeChains.{below, height}
 use Rattle.board_chains.specs.Chains.{row_parents, MayBeChained}
 use Rattle.board_chains.specs.Lists.{with_any, AreAllOnce}
 use Rattle.board_chains.specs.Ranks.{is_row, rank_of, AreInOrder}

@@ -8,7 +8,7 @@ use Rattle.std.proofs.lemmas.List.{append_assoc}
 use Rattle.std.proofs.Math.Seq.{take-append_seam}
 use Rattle.std.proofs.lemmas.List.Elements.{Contains-append_cases, Contains-append_left, Contains-append_right, Contains-push_cases}
 use Rattle.std.proofs.lemmas.Option.{same_Some}
-use Rattle.flat_laws.proofs.Members.{Contains-behind, Contains-cases, Contains-filter, Contains-from_flat_map, Contains-here, contains_nothing}
+use Rattle.cached_machine.specs.flat_laws.proofs.Members.{Contains-behind, Contains-cases, Contains-filter, Contains-from_flat_map, Contains-here, contains_nothing}
 use Rattle.cache_ident.specs.declared.names.Name.{Name}
 use Rattle.cache_ident.specs.declared.names.Name.TheVariants.{Kernel, Space, Thread, Mapping}
 use Rattle.cache_ident.specs.declared.names.SpaceNo.{SpaceNo}
@@ -18,9 +18,9 @@ use Rattle.phys_groups.specs.declared.rows.Flags.{Flags}
 use Rattle.phys_groups.specs.declared.rows.Row.{Row}
 use Rattle.phys_groups.specs.Rows.{row_name}
 use Rattle.phys_groups.specs.Translation.{allows_fetch, is_fit, translated}
-use Rattle.rv32_exec.specs.declared.statuses.Status.{Status}
-use Rattle.rv32_exec.specs.declared.statuses.Status.TheVariants.{Ready}
-use Rattle.rv32_exec.specs.declared.actions.Action.{Action}
+use Rattle.flat_state.specs.rv32_exec.specs.declared.statuses.Status.{Status}
+use Rattle.flat_state.specs.rv32_exec.specs.declared.statuses.Status.TheVariants.{Ready}
+use Rattle.flat_state.specs.rv32_exec.specs.declared.actions.Action.{Action}
 use Rattle.flat_state.specs.declared.records.DataAccess.{DataAccess}
 use Rattle.flat_state.specs.declared.records.FlatThread.{FlatThread}
 use Rattle.flat_state.specs.declared.records.NextStep.{NextStep}
@@ -34,8 +34,8 @@ use Rattle.flat_state.specs.Translation.{rights_of, row_through, wants}
 use Rattle.flat_state.specs.WellFormed.{IsWellFormed}
 use Rattle.flat_state.proofs.Found.{found-fit}
 use Rattle.flat_state.proofs.Places.{Contains-from_get}
-use Rattle.flat_laws.proofs.ShortChains.{goes_through}
-use Rattle.flat_laws.proofs.WholeChains.{first_in_up}
+use Rattle.cached_machine.specs.flat_laws.proofs.ShortChains.{goes_through}
+use Rattle.cached_machine.specs.flat_laws.proofs.WholeChains.{first_in_up}
 use Rattle.board_chains.specs.Chains.{chain_at, chain_found, row_parents, rows_in_order, AreParentsFirst, IsChainInOrder, HoldsAllParents, IsFewByKind, IsPart, MayBeChained, StartsWith}
 use Rattle.board_chains.specs.Lists.{with_also, with_any, AreAllOnce}
 use Rattle.board_chains.specs.Ranks.{is_row, rank_of, AreInOrder}

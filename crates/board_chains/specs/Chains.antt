@@ -9,7 +9,7 @@ use Rattle.flat_state.specs.Dependence.{parents, Depends}
 use Rattle.flat_state.specs.Names.{is_fit_name, stands}
 use Rattle.flat_state.specs.NextSteps.{chain}
 use Rattle.flat_state.specs.State.{FlatState}
-use Rattle.run_journal.specs.Legal.{is_kind}
+use Rattle.cached_machine.specs.run_journal.specs.Legal.{is_kind}
 use Rattle.cached_machine.specs.desc_tables.specs.May.{wanted_of}
 use Rattle.board_chains.specs.Lists.{with_any, AreAllOnce}
 use Rattle.board_chains.specs.Ranks.{is_row, AreInOrder}

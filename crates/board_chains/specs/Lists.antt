@@ -2,7 +2,7 @@
 use Rattle.std.specs.Prelude.{Bool, if◌then◌else◌, List, [], ◌∷◌, ◌++◌, Contains, Option, Some, None}
 use Rattle.std.specs.List.{list_any}
 use Rattle.cache_ident.specs.declared.names.Name.{Name}
-use Rattle.kind_store.specs.Changes.{is_name}
+use Rattle.cached_machine.specs.kind_store.specs.Changes.{is_name}
 
 -- whether a name is in the list
 abbrev pub has : List Name → Name → Bool

@@ -3,7 +3,7 @@
 ghost use Rattle.std.specs.Prelude.{◌≡◌, ℕ, ◌≤◌, Some, Contains, filter, length, take};
 ghost use Rattle.cache_ident.specs.declared.idents.Kind.{Kind};
 ghost use Rattle.cache_ident.specs.declared.names.Name.{Name};
-ghost use Rattle.rv32_exec.specs.declared.statuses.Status.TheVariants.{Ready};
+ghost use Rattle.flat_state.specs.rv32_exec.specs.declared.statuses.Status.TheVariants.{Ready};
 ghost use Rattle.flat_state.specs.Dependence.{Depends, parents as parents_def};
 ghost use Rattle.flat_state.specs.NextSteps.{next_step as next_step_def};
 ghost use Rattle.flat_rules.specs.Readings.{OfThread};

@@ -6,7 +6,7 @@ use Rattle.std.specs.Option.{option_map}
 use Rattle.std.proofs.lemmas.Bool.{cases_Bool}
 use Rattle.std.proofs.lemmas.Iterator.Consumers.{YieldsList-end, YieldsList-from_first, YieldsList-so_far, YieldsList-turn}
 use Rattle.std.proofs.lemmas.List.{map-id}
-use Rattle.flat_laws.proofs.Members.{find-map}
+use Rattle.board_ops.specs.flat_laws.proofs.Members.{find-map}
 use Rattle.cache_ident.specs.declared.idents.Ident.{Ident}
 use Rattle.cache_ident.specs.declared.names.Frame.{Frame}
 use Rattle.cache_ident.specs.declared.names.Name.{Name}
@@ -17,12 +17,12 @@ use Rattle.cache_ident.specs.Residents.{IsNameResident, IsResident}
 use Rattle.phys_groups.specs.declared.rows.Row.{Row}
 use Rattle.phys_groups.specs.Rows.{row_name}
 use Rattle.phys_groups.specs.Translation.{implies, is_fit}
-use Rattle.signal_pages.specs.Signals.{is_signal_row_of}
+use Rattle.board_ops.specs.signal_pages.specs.Signals.{is_signal_row_of}
 use Rattle.kernel_cache.specs.declared.KernelRec.{KernelRec}
-use Rattle.flat_state.specs.Dependence.{owner}
-use Rattle.flat_state.specs.Names.{is_fit_found}
-use Rattle.flat_state.specs.Translation.{is_fit_row}
-use Rattle.row_store.specs.Kept.{signal_names}
+use Rattle.board_ops.specs.flat_state.specs.Dependence.{owner}
+use Rattle.board_ops.specs.flat_state.specs.Names.{is_fit_found}
+use Rattle.board_ops.specs.flat_state.specs.Translation.{is_fit_row}
+use Rattle.desc_tables.specs.row_store.specs.Kept.{signal_names}
 use Rattle.desc_tables.specs.desc_stores.specs.declared.items.Item.TheVariants as item
 use Rattle.desc_tables.specs.desc_stores.specs.declared.items.ItemRef.{ItemRef}
 use Rattle.desc_tables.specs.desc_stores.specs.declared.items.ItemRef.TheVariants as ref

@@ -3,7 +3,7 @@ use Rattle.std.proofs.Common.{◌≡◌, Bor, true, false, List, [], ◌∷◌, 
 use Rattle.std.specs.Prelude.{◌/◌, if◌then◌else◌, is_some}
 use Rattle.std.specs.Option.{option_and_then, option_map}
 use Rattle.std.proofs.lemmas.Option.{same_Some}
-use Rattle.flat_laws.proofs.Members.{contains_nothing, Contains-cases, Contains-here, Contains-behind, Contains-option_map, Contains-some}
+use Rattle.board_ops.specs.flat_laws.proofs.Members.{contains_nothing, Contains-cases, Contains-here, Contains-behind, Contains-option_map, Contains-some}
 use Rattle.cache_ident.specs.declared.idents.Ident.{Ident}
 use Rattle.cache_ident.specs.declared.idents.Kind.{Kind}
 use Rattle.cache_ident.specs.declared.idents.Kind.TheVariants as kind
@@ -20,9 +20,9 @@ use Rattle.phys_groups.specs.Translation.{is_fit, row_of}
 use Rattle.kernel_cache.specs.declared.KernelRec.{KernelRec}
 use Rattle.space_cache.specs.declared.SpaceRec.{SpaceRec}
 use Rattle.thread_cache.specs.declared.ThreadRec.{ThreadRec}
-use Rattle.flat_state.specs.declared.records.FlatThread.{FlatThread}
-use Rattle.flat_state.specs.Dependence.{directly, further, owner, parents, parents_of_found, Depends, DependsFar}
-use Rattle.flat_state.specs.Names.{stands}
+use Rattle.board_ops.specs.flat_state.specs.declared.records.FlatThread.{FlatThread}
+use Rattle.board_ops.specs.flat_state.specs.Dependence.{directly, further, owner, parents, parents_of_found, Depends, DependsFar}
+use Rattle.board_ops.specs.flat_state.specs.Names.{stands}
 use Rattle.desc_tables.specs.desc_stores.specs.declared.items.Item.{Item}
 use Rattle.desc_tables.specs.desc_stores.specs.declared.items.Item.TheVariants as item
 use Rattle.desc_tables.specs.desc_stores.specs.declared.items.ItemRef.{ItemRef}

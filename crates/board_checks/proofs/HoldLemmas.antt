@@ -11,13 +11,13 @@ use Rattle.cache_ident.specs.declared.names.Name.{Name}
 use Rattle.cache_ident.specs.declared.names.Name.TheVariants as name
 use Rattle.cache_ident.specs.Names.{amount_of, first_name}
 use Rattle.cache_ident.specs.Residents.{Resident, IsResident}
-use Rattle.depend_lists.specs.declared.nodes.Node.{Node}
+use Rattle.board_ops.specs.depend_lists.specs.declared.nodes.Node.{Node}
 use Rattle.kernel_cache.specs.declared.KernelRec.{KernelRec}
-use Rattle.flat_state.specs.Dependence.{owner}
-use Rattle.flat_state.specs.Names.{stands}
-use Rattle.run_journal.specs.Legal.{limit_of, locked_by}
+use Rattle.board_ops.specs.flat_state.specs.Dependence.{owner}
+use Rattle.board_ops.specs.flat_state.specs.Names.{stands}
+use Rattle.desc_tables.specs.run_journal.specs.Legal.{limit_of, locked_by}
 use Rattle.kind_store.specs.Changes.{is_name}
-use Rattle.owner_shelf.proofs.NameLemmas.{eq_same}
+use Rattle.kind_store.specs.owner_shelf.proofs.NameLemmas.{eq_same}
 use Rattle.desc_tables.specs.desc_stores.specs.declared.items.Item.TheVariants as item
 use Rattle.desc_tables.specs.desc_stores.specs.Contents.{content_of, resident_as, residents_of, Contents, LockIs}
 use Rattle.desc_tables.specs.shown_state.proofs.ContentLemmas.{item_has_name}

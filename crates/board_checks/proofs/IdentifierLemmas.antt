@@ -20,7 +20,7 @@ use Rattle.space_cache.specs.Spaces as space_rec
 use Rattle.thread_cache.specs.declared.ThreadRec.{ThreadRec}
 use Rattle.thread_cache.specs.Threads as thread_rec
 use Rattle.kind_store.specs.Rolls.{loaded_as}
-use Rattle.run_journal.specs.Legal.{is_kind}
+use Rattle.desc_tables.specs.run_journal.specs.Legal.{is_kind}
 use Rattle.desc_tables.specs.desc_stores.specs.declared.items.Item.{Item}
 use Rattle.desc_tables.specs.desc_stores.specs.declared.items.Item.TheVariants as item
 use Rattle.desc_tables.specs.desc_stores.specs.declared.items.ItemRef.{ItemRef}
@@ -34,7 +34,7 @@ use Rattle.desc_tables.specs.store_residents.proofs.ContentLemmas.{loaded_item}
 use Rattle.desc_tables.specs.store_residents.proofs.KindLemmas.{live_loaded, loaded_live}
 use Rattle.desc_tables.specs.store_residents.proofs.ResidentLemmas.{loaded_resident}
 use Rattle.desc_tables.specs.desc_groups.proofs.OwnerLemmas.{found_loaded}
-use Rattle.flat_state.specs.declared.records.FlatThread.{FlatThread}
+use Rattle.board_ops.specs.flat_state.specs.declared.records.FlatThread.{FlatThread}
 use Rattle.board_ops.specs.declared.refusals.Refused.TheVariants as why
 use Rattle.board_checks.specs.Refusals.{not_completable, not_trapped, wait_empty}
 use Rattle.board_checks.specs.Identifiers.{gone_by, kernel_as, kernel_number, name_as, not_live, space_as, space_number, thread_as, wrong_kind}

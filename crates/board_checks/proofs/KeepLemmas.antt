@@ -8,7 +8,7 @@ use Rattle.std.proofs.lemmas.List.Elements.{Contains-append_left, Contains-appen
 use Rattle.std.proofs.lemmas.List.Kept.{AllPairs-filter}
 use Rattle.std.proofs.lemmas.List.Quantifiers.{all_pairs_push}
 use Rattle.std.proofs.lemmas.List.Sums.{length-filter}
-use Rattle.flat_laws.proofs.Members.{Contains-behind, Contains-cases, Contains-filter, Contains-filter_map, Contains-here, contains_nothing, length-filter_map}
+use Rattle.board_ops.specs.flat_laws.proofs.Members.{Contains-behind, Contains-cases, Contains-filter, Contains-filter_map, Contains-here, contains_nothing, length-filter_map}
 use Rattle.desc_tables.specs.group_laws.proofs.Remaining.{pairs_head, pairs_tail}
 use Rattle.cache_ident.specs.declared.idents.Ident.{Ident}
 use Rattle.cache_ident.specs.declared.idents.Kind.{Kind}
@@ -16,14 +16,14 @@ use Rattle.cache_ident.specs.declared.idents.Kind.TheVariants as kind
 use Rattle.cache_ident.specs.declared.names.Name.{Name}
 use Rattle.cache_ident.specs.Names.{kind_of}
 use Rattle.cache_ident.specs.Residents.{Resident, IsNameResident}
-use Rattle.flat_state.specs.declared.events.Machine.{Machine}
-use Rattle.flat_state.specs.Dependence.{all_parents, parents, Depends, DependsFar, directly, further}
-use Rattle.flat_state.specs.State.{FlatState}
-use Rattle.flat_state.proofs.Places.{count_by-cons}
-use Rattle.flat_laws.specs.Counts.{AtMost}
-use Rattle.flat_laws.proofs.FarParents.{far_is_there, name_is_few}
-use Rattle.flat_laws.proofs.ShortChains.{AreFew}
-use Rattle.run_journal.specs.Legal.{is_kind}
+use Rattle.board_ops.specs.flat_state.specs.declared.events.Machine.{Machine}
+use Rattle.board_ops.specs.flat_state.specs.Dependence.{all_parents, parents, Depends, DependsFar, directly, further}
+use Rattle.board_ops.specs.flat_state.specs.State.{FlatState}
+use Rattle.board_ops.specs.flat_state.proofs.Places.{count_by-cons}
+use Rattle.board_ops.specs.flat_laws.specs.Counts.{AtMost}
+use Rattle.board_ops.specs.flat_laws.proofs.FarParents.{far_is_there, name_is_few}
+use Rattle.board_ops.specs.flat_laws.proofs.ShortChains.{AreFew}
+use Rattle.desc_tables.specs.run_journal.specs.Legal.{is_kind}
 use Rattle.desc_tables.specs.resident_pairs.specs.Among.{AreParents}
 use Rattle.desc_tables.specs.desc_stores.specs.declared.items.Item.{Item}
 use Rattle.desc_tables.specs.desc_stores.specs.Contents.{item_as, residents_of, Contents}

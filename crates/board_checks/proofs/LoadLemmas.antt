@@ -5,8 +5,8 @@ use Rattle.std.specs.Option.{option_and_then, option_eq, option_map}
 use Rattle.std.proofs.lemmas.Bool.{eqb-true}
 use Rattle.std.proofs.lemmas.Option.{same_Some}
 use Rattle.std.proofs.lemmas.List.Elements.{Contains-append_cases}
-use Rattle.flat_laws.proofs.Members.{contains_nothing, Contains-cases, Contains-from_map, Contains-option_map}
-use Rattle.flat_state.proofs.Places.{fails_if_not_found, get_from_Contains}
+use Rattle.board_ops.specs.flat_laws.proofs.Members.{contains_nothing, Contains-cases, Contains-from_map, Contains-option_map}
+use Rattle.board_ops.specs.flat_state.proofs.Places.{fails_if_not_found, get_from_Contains}
 use Rattle.cache_ident.specs.declared.idents.Ident.{Ident}
 use Rattle.cache_ident.specs.declared.names.KernelNo.{KernelNo}
 use Rattle.cache_ident.specs.declared.names.SpaceNo.{SpaceNo}
@@ -20,13 +20,13 @@ use Rattle.phys_groups.specs.Rows.{row_name}
 use Rattle.phys_groups.specs.Translation.{row_of}
 use Rattle.kernel_cache.specs.declared.KernelRec.{KernelRec}
 use Rattle.space_cache.specs.declared.SpaceRec.{SpaceRec}
-use Rattle.flat_state.specs.declared.records.FlatThread.{FlatThread}
-use Rattle.flat_state.specs.Dependence.{owner, parents, parents_of_found, signal_rows_of}
-use Rattle.flat_state.specs.Names.{is_fit_found, is_fit_name, stands}
-use Rattle.flat_state.specs.Translation.{is_fit_row}
-use Rattle.run_journal.specs.Groups.{HasParents}
+use Rattle.board_ops.specs.flat_state.specs.declared.records.FlatThread.{FlatThread}
+use Rattle.board_ops.specs.flat_state.specs.Dependence.{owner, parents, parents_of_found, signal_rows_of}
+use Rattle.board_ops.specs.flat_state.specs.Names.{is_fit_found, is_fit_name, stands}
+use Rattle.board_ops.specs.flat_state.specs.Translation.{is_fit_row}
+use Rattle.desc_tables.specs.run_journal.specs.Groups.{HasParents}
 use Rattle.kind_store.specs.Changes.{is_name}
-use Rattle.owner_shelf.proofs.NameLemmas.{same_by_eq}
+use Rattle.kind_store.specs.owner_shelf.proofs.NameLemmas.{same_by_eq}
 use Rattle.desc_tables.specs.desc_stores.specs.declared.items.Item.{Item}
 use Rattle.desc_tables.specs.desc_stores.specs.declared.items.Item.TheVariants as item
 use Rattle.desc_tables.specs.desc_stores.specs.Contents.{item_as, residents_of, Contents, IsShelved}

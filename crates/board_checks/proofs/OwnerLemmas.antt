@@ -2,7 +2,7 @@
 use Rattle.std.proofs.Common.{◌≡◌, Bool, Bor, [], Option, Some, None, sym, ◌∙◌, ap}
 use Rattle.std.specs.Prelude.{if◌then◌else◌, is_some}
 use Rattle.std.specs.Option.{option_and_then, option_map}
-use Rattle.flat_laws.proofs.Members.{is_some-option_map}
+use Rattle.board_ops.specs.flat_laws.proofs.Members.{is_some-option_map}
 use Rattle.cache_ident.specs.declared.idents.Ident.{Ident}
 use Rattle.cache_ident.specs.declared.names.KernelNo.{KernelNo}
 use Rattle.cache_ident.specs.declared.names.Name.{Name}
@@ -11,8 +11,8 @@ use Rattle.phys_groups.specs.declared.rows.Row.{Row}
 use Rattle.kernel_cache.specs.declared.KernelRec.{KernelRec}
 use Rattle.space_cache.specs.declared.SpaceRec.{SpaceRec}
 use Rattle.thread_cache.specs.declared.ThreadRec.{ThreadRec}
-use Rattle.flat_state.specs.Dependence.{owner}
-use Rattle.flat_state.specs.Names.{stands}
+use Rattle.board_ops.specs.flat_state.specs.Dependence.{owner}
+use Rattle.board_ops.specs.flat_state.specs.Names.{stands}
 use Rattle.desc_tables.specs.desc_stores.specs.declared.items.Item.TheVariants as item
 use Rattle.desc_tables.specs.desc_stores.specs.declared.items.ItemRef.{ItemRef}
 use Rattle.desc_tables.specs.desc_stores.specs.Contents.{content_of, item_as, Contents}

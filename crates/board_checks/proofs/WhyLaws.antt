@@ -19,11 +19,11 @@ use Rattle.cache_ident.specs.Residents.{Resident}
 use Rattle.cache_ident.specs.Rolls.{standing_in}
 use Rattle.phys_groups.specs.declared.rows.Row.{Row}
 use Rattle.phys_groups.specs.Translation.{row_of}
-use Rattle.flat_state.specs.declared.records.FlatThread.{FlatThread}
-use Rattle.flat_state.specs.Dependence.{owner, signal_rows_of}
-use Rattle.flat_state.specs.Names.{stands}
-use Rattle.flat_state.specs.Translation.{is_fit_row}
-use Rattle.run_journal.specs.Legal.{is_kind, limit_of, locked_by}
+use Rattle.board_ops.specs.flat_state.specs.declared.records.FlatThread.{FlatThread}
+use Rattle.board_ops.specs.flat_state.specs.Dependence.{owner, signal_rows_of}
+use Rattle.board_ops.specs.flat_state.specs.Names.{stands}
+use Rattle.board_ops.specs.flat_state.specs.Translation.{is_fit_row}
+use Rattle.desc_tables.specs.run_journal.specs.Legal.{is_kind, limit_of, locked_by}
 use Rattle.kind_store.specs.Changes.{is_name}
 use Rattle.desc_tables.specs.desc_stores.specs.Contents.{resident_as, residents_of, Contents}
 use Rattle.desc_tables.specs.desc_parents.specs.Idents.{ident_of}

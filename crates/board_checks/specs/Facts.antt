@@ -1,10 +1,10 @@
 -- What is so where a call isn't refused.
 use Rattle.std.specs.Prelude.{◌≡◌, ℕ, Bool, true, ◌&&◌, is_none, List, Option}
 use Rattle.cache_ident.specs.declared.names.Name.{Name}
-use Rattle.flat_state.specs.declared.events.Machine.{Machine}
-use Rattle.flat_state.specs.Names.{is_fit_found, is_fit_name}
-use Rattle.flat_state.specs.WellFormed.{IsWellFormed}
-use Rattle.run_journal.specs.Groups.{HasParents}
+use Rattle.board_ops.specs.flat_state.specs.declared.events.Machine.{Machine}
+use Rattle.board_ops.specs.flat_state.specs.Names.{is_fit_found, is_fit_name}
+use Rattle.board_ops.specs.flat_state.specs.WellFormed.{IsWellFormed}
+use Rattle.desc_tables.specs.run_journal.specs.Groups.{HasParents}
 use Rattle.desc_tables.specs.desc_stores.specs.Contents.{content_of, residents_of, Contents, IsShelved}
 use Rattle.desc_tables.specs.shown_state.specs.Shown.{row_of_item, shown}
 use Rattle.desc_tables.specs.desc_parents.specs.Idents.{ident_of}

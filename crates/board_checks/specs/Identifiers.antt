@@ -11,13 +11,13 @@ use Rattle.cache_ident.specs.declared.names.SpaceNo.{SpaceNo}
 use Rattle.cache_ident.specs.declared.names.Name.{Name}
 use Rattle.cache_ident.specs.declared.names.Name.TheVariants as name
 use Rattle.cache_ident.specs.Rolls.{standing_in}
-use Rattle.run_journal.specs.Legal.{is_kind}
+use Rattle.desc_tables.specs.run_journal.specs.Legal.{is_kind}
 use Rattle.desc_tables.specs.desc_stores.specs.declared.items.Item.{Item}
 use Rattle.desc_tables.specs.desc_stores.specs.declared.items.Item.TheVariants as item
 use Rattle.desc_tables.specs.desc_stores.specs.Contents.{item_as, Contents}
 use Rattle.desc_tables.specs.desc_stores.specs.Items.{name_of}
 use Rattle.desc_tables.specs.shown_state.specs.Shown.{thread_of}
-use Rattle.flat_state.specs.declared.records.FlatThread.{FlatThread}
+use Rattle.board_ops.specs.flat_state.specs.declared.records.FlatThread.{FlatThread}
 use Rattle.board_ops.specs.declared.refusals.Refused.{Refused}
 use Rattle.board_ops.specs.declared.refusals.Refused.TheVariants as why
 

@@ -3,7 +3,7 @@ use Rattle.std.specs.Prelude.{◌≡◌, ◌≢◌, ◌⊎◌, List, [], ◌∷�
 use Rattle.cache_ident.specs.declared.idents.Ident.{Ident}
 use Rattle.cache_ident.specs.declared.names.Name.{Name}
 use Rattle.cache_ident.specs.Residents.{Resident, IsNameResident}
-use Rattle.flat_state.specs.Dependence.{DependsFar}
+use Rattle.board_ops.specs.flat_state.specs.Dependence.{DependsFar}
 use Rattle.desc_tables.specs.desc_stores.specs.Contents.{residents_of, Contents}
 use Rattle.desc_tables.specs.May.{MayBeLoaded}
 use Rattle.desc_tables.specs.desc_parents.specs.Seen.{seen}

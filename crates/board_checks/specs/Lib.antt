@@ -4,6 +4,17 @@ pub use Rattle.desc_tables.specs.desc_parents
 pub use Rattle.desc_tables.specs.desc_stores
 pub use Rattle.desc_tables
 pub use Rattle.desc_tables.specs.shown_state
+pub use Rattle.desc_tables.specs.run_journal
+pub use Rattle.board_ops.specs.page_views
+pub use Rattle.board_ops.specs.flat_laws
+pub use Rattle.board_ops.specs.flat_state
+pub use Rattle.board_ops.specs.writeback_order
+pub use Rattle.board_ops.specs.depend_lists
+pub use Rattle.desc_tables.specs.row_store
+pub use Rattle.kind_store
+pub use Rattle.thread_cache
+pub use Rattle.space_cache
+pub use Rattle.kernel_cache
 pub mod Identifiers
 pub mod Refusals
 pub mod Facts

@@ -3,7 +3,7 @@
 ghost use Rattle.std.specs.Prelude.{◌≡◌, true, Some, IfOk};
 ghost use Rattle.std.specs.Option.{option_or};
 ghost use Rattle.std.specs.Result.{result_err};
-ghost use Rattle.flat_state.specs.Call.{is_completable};
+ghost use Rattle.board_ops.specs.flat_state.specs.Call.{is_completable};
 ghost use Rattle.desc_tables.specs.desc_stores.specs.Contents.{item_as};
 ghost use Rattle.desc_tables.specs.desc_stores.specs.declared.items.Item.{Item};
 ghost use Rattle.desc_tables.specs.shown_state.specs.Shown.{flat_thread};

@@ -12,7 +12,7 @@ ghost use Rattle.desc_tables.specs.desc_stores.specs.declared.items.Item.{Item};
 ghost use Rattle.desc_tables.specs.desc_stores.specs.Contents.{content_of, item_as, residents_of};
 ghost use Rattle.desc_tables.specs.desc_stores.specs.Items.{shown};
 ghost use Rattle.cache_ident.specs.declared.names.Name.{Name};
-ghost use Rattle.flat_state.specs.Names.{stands};
+ghost use Rattle.board_ops.specs.flat_state.specs.Names.{stands};
 ghost use Rattle.desc_tables.specs.desc_parents.specs.Seen.{seen};
 ghost use Rattle.desc_tables.specs.desc_groups.specs.Moves.{MayBeLocked};
 ghost use Rattle.board_checks.specs.Identifiers.{not_a, not_live};

@@ -4,7 +4,7 @@ ghost use Rattle.std.specs.Prelude.{◌≡◌, Some};
 ghost use Rattle.std.specs.Option.{option_and_then};
 ghost use Rattle.std.specs.Result.{result_err};
 ghost use Rattle.cache_ident.specs.declared.names.Name.{Name};
-ghost use Rattle.flat_state.specs.Dependence.{owner as owner_in};
+ghost use Rattle.board_ops.specs.flat_state.specs.Dependence.{owner as owner_in};
 ghost use Rattle.desc_tables.specs.desc_stores.specs.Contents.{content_of};
 ghost use Rattle.desc_tables.specs.desc_stores.specs.Items.{name_of, shown};
 ghost use Rattle.desc_tables.specs.desc_parents.specs.Seen.{seen};

@@ -9,10 +9,10 @@ use Rattle.cache_ident.specs.declared.names.Name.TheVariants as name
 use Rattle.cache_ident.specs.declared.names.SpaceNo.{SpaceNo}
 use Rattle.cache_ident.specs.Residents.{IsIdentResident, IsResident}
 use Rattle.phys_groups.specs.Memory.{page_at}
-use Rattle.rv32_exec.specs.declared.contexts.Context.{Context}
-use Rattle.flat_state.specs.declared.records.FlatThread.{FlatThread}
-use Rattle.flat_laws.proofs.Members.{Contains-filter}
-use Rattle.page_views.specs.Views.{View}
+use Rattle.thread_cache.specs.rv32_exec.specs.declared.contexts.Context.{Context}
+use Rattle.flat_rules.specs.flat_state.specs.declared.records.FlatThread.{FlatThread}
+use Rattle.board_threads.specs.flat_laws.proofs.Members.{Contains-filter}
+use Rattle.board_threads.specs.page_views.specs.Views.{View}
 use Rattle.board_threads.specs.quantum.specs.Ahead.{Ahead}
 use Rattle.board_threads.specs.quantum.specs.LocalRun.{touched_views, CouldRun, Shows}
 use Rattle.thread_cache.specs.declared.ThreadRec.{ThreadRec}

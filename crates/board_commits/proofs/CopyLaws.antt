@@ -5,12 +5,12 @@ use Rattle.cache_ident.specs.declared.idents.Ident.{Ident}
 use Rattle.cache_ident.specs.declared.names.Name.TheVariants as name
 use Rattle.cache_ident.specs.declared.names.SpaceNo.{SpaceNo}
 use Rattle.phys_groups.specs.Translation.{row_of}
-use Rattle.flat_state.proofs.Places.{get_from_Contains, get_from_map, Contains-from_get}
-use Rattle.rv32_exec.specs.declared.contexts.Context.{Context}
-use Rattle.flat_laws.proofs.Members.{contains_nothing}
-use Rattle.run_journal.specs.declared.entries.Entry.{Entry}
-use Rattle.run_journal.specs.declared.entries.Entry.TheVariants.{Loaded}
-use Rattle.page_views.specs.Views.{copied, copies_of, dated, Copied, Dated, View}
+use Rattle.flat_rules.specs.flat_state.proofs.Places.{get_from_Contains, get_from_map, Contains-from_get}
+use Rattle.thread_cache.specs.rv32_exec.specs.declared.contexts.Context.{Context}
+use Rattle.board_threads.specs.flat_laws.proofs.Members.{contains_nothing}
+use Rattle.board_threads.specs.run_journal.specs.declared.entries.Entry.{Entry}
+use Rattle.board_threads.specs.run_journal.specs.declared.entries.Entry.TheVariants.{Loaded}
+use Rattle.board_threads.specs.page_views.specs.Views.{copied, copies_of, dated, Copied, Dated, View}
 use Rattle.board_threads.specs.quantum.specs.Ahead.{begun, Ahead, HasSameCopies}
 use Rattle.board_commits.specs.Tickets.{state_at, AreAllAsOf, AreOfTicket, IsCopiedIn, IsOfTicket}
 use Rattle.board_commits.proofs.KeptLaws.{kept_begun}

@@ -13,12 +13,12 @@ use Rattle.cache_ident.specs.declared.names.Frame.{Frame}
 use Rattle.cache_ident.specs.declared.names.Vpn.{Vpn}
 use Rattle.phys_groups.specs.declared.rows.Flags.{Flags}
 use Rattle.phys_groups.specs.Memory.{page_at}
-use Rattle.rv32_exec.specs.declared.contexts.Context.{Context}
-use Rattle.flat_laws.proofs.Members.{Contains-behind, Contains-cases, Contains-here, Contains-map, contains_nothing}
-use Rattle.flat_state.specs.Events.{flat}
-use Rattle.page_views.specs.Views.{all_dated, dated, filled, if_since, is_touched_of, kept_since, next_kept, Dated, View}
-use Rattle.run_journal.specs.declared.entries.Entry.{Entry}
-use Rattle.run_journal.specs.Entries.{erase}
+use Rattle.thread_cache.specs.rv32_exec.specs.declared.contexts.Context.{Context}
+use Rattle.board_threads.specs.flat_laws.proofs.Members.{Contains-behind, Contains-cases, Contains-here, Contains-map, contains_nothing}
+use Rattle.flat_rules.specs.flat_state.specs.Events.{flat}
+use Rattle.board_threads.specs.page_views.specs.Views.{all_dated, dated, filled, if_since, is_touched_of, kept_since, next_kept, Dated, View}
+use Rattle.board_threads.specs.run_journal.specs.declared.entries.Entry.{Entry}
+use Rattle.board_threads.specs.run_journal.specs.Entries.{erase}
 use Rattle.board_threads.specs.quantum.specs.Ahead.{again_with, begun, more_with, unbegun, Ahead}
 use Rattle.board_threads.specs.board_core.specs.Core.{Recorded}
 use Rattle.board_threads.specs.board_core.specs.Stamps.{IsSince}

@@ -2,13 +2,13 @@
 use Rattle.std.proofs.Common.{◌≡◌, ℕ, ◌<◌, [], ◌∷◌, List, Option, Some, None, zero, suc, append-nil, refl, sym, ◌∙◌, ap, subst, arith}
 use Rattle.std.specs.Prelude.{◌==◌, ◌+◌, if◌then◌else◌, replicate, slice_get}
 use Rattle.cache_ident.specs.declared.names.ThreadNo.{ThreadNo}
-use Rattle.flat_state.specs.declared.events.Event.{Event}
-use Rattle.flat_state.specs.declared.events.Event.TheVariants.{Step}
-use Rattle.flat_state.specs.declared.records.FlatThread.{FlatThread}
-use Rattle.flat_state.specs.Events.{after_events}
-use Rattle.flat_state.specs.State.{FlatState}
-use Rattle.flat_state.proofs.Places.{get-set_same}
-use Rattle.run_journal.specs.Entries.{erase}
+use Rattle.flat_rules.specs.flat_state.specs.declared.events.Event.{Event}
+use Rattle.flat_rules.specs.flat_state.specs.declared.events.Event.TheVariants.{Step}
+use Rattle.flat_rules.specs.flat_state.specs.declared.records.FlatThread.{FlatThread}
+use Rattle.flat_rules.specs.flat_state.specs.Events.{after_events}
+use Rattle.flat_rules.specs.flat_state.specs.State.{FlatState}
+use Rattle.flat_rules.specs.flat_state.proofs.Places.{get-set_same}
+use Rattle.board_threads.specs.run_journal.specs.Entries.{erase}
 use Rattle.board_threads.specs.quantum.specs.Ahead.{Ahead}
 use Rattle.board_threads.specs.quantum.specs.LocalRun.{committed, state_after, status_by, CouldRun, IsLocalRun}
 use Rattle.board_threads.specs.board_laws.specs.Moves.{KeepsLoaded}

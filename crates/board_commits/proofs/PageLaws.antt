@@ -9,7 +9,7 @@ use Rattle.cache_ident.specs.Residents.{IsResident}
 use Rattle.phys_groups.specs.declared.rows.Row.{Row}
 use Rattle.phys_groups.specs.Memory.{page_at}
 use Rattle.phys_groups.specs.Translation.{row_of}
-use Rattle.page_views.specs.Views.{filled, View}
+use Rattle.board_threads.specs.page_views.specs.Views.{filled, View}
 use Rattle.board_threads.specs.quantum.specs.Ahead.{Ahead}
 use Rattle.thread_cache.specs.declared.ThreadRec.{ThreadRec}
 use Rattle.board_threads.specs.desc_stores.specs.declared.items.Item.TheVariants as item

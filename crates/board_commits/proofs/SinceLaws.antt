@@ -13,23 +13,23 @@ use Rattle.cache_ident.specs.Rolls.{is_same}
 use Rattle.cache_ident.proofs.RollLemmas.{same_ident}
 use Rattle.phys_groups.specs.declared.rows.Row.{Row}
 use Rattle.phys_groups.specs.Translation.{row_of}
-use Rattle.flat_state.specs.declared.events.Event.{Event}
-use Rattle.flat_state.specs.declared.events.Event.TheVariants.{Complete, Declare, Step}
-use Rattle.flat_state.specs.declared.records.FlatThread.{FlatThread}
-use Rattle.flat_state.specs.Events.{after_events, applied}
-use Rattle.flat_state.specs.Names.{stands}
-use Rattle.flat_state.specs.State.{FlatState}
-use Rattle.flat_laws.proofs.EventKeeps.{event_keeps}
-use Rattle.flat_laws.proofs.Members.{contains_nothing, Contains-from_map, Contains-map}
-use Rattle.flat_laws.proofs.StepSame.{same_stands, step_same}
-use Rattle.run_journal.specs.declared.entries.Entry.{Entry}
-use Rattle.run_journal.specs.declared.entries.Entry.TheVariants.{Completed, Declared, Ended, Loaded, Locked, Ran, Sealed, Unlocked, WrittenBack}
-use Rattle.run_journal.specs.Entries.{events_of}
-use Rattle.run_journal.specs.Legal.{AreLegal, IsLegal, MayCome, MayHappen}
-use Rattle.run_journal.specs.Told.{nothing_told, residents_after, residents_from, told, told_after, told_from, Told}
-use Rattle.run_journal.proofs.Growth.{legal-split, loads_after, residents_told, residents_told_from, state_after, state_from, told_from-append}
-use Rattle.run_journal.proofs.Others.{locked_keeps, other_ident, stays_without, without_cases}
-use Rattle.run_journal.proofs.Whole.{nothing_whole, whole_after, whole_from, IsWhole}
+use Rattle.flat_rules.specs.flat_state.specs.declared.events.Event.{Event}
+use Rattle.flat_rules.specs.flat_state.specs.declared.events.Event.TheVariants.{Complete, Declare, Step}
+use Rattle.flat_rules.specs.flat_state.specs.declared.records.FlatThread.{FlatThread}
+use Rattle.flat_rules.specs.flat_state.specs.Events.{after_events, applied}
+use Rattle.flat_rules.specs.flat_state.specs.Names.{stands}
+use Rattle.flat_rules.specs.flat_state.specs.State.{FlatState}
+use Rattle.board_threads.specs.flat_laws.proofs.EventKeeps.{event_keeps}
+use Rattle.board_threads.specs.flat_laws.proofs.Members.{contains_nothing, Contains-from_map, Contains-map}
+use Rattle.board_threads.specs.flat_laws.proofs.StepSame.{same_stands, step_same}
+use Rattle.board_threads.specs.run_journal.specs.declared.entries.Entry.{Entry}
+use Rattle.board_threads.specs.run_journal.specs.declared.entries.Entry.TheVariants.{Completed, Declared, Ended, Loaded, Locked, Ran, Sealed, Unlocked, WrittenBack}
+use Rattle.board_threads.specs.run_journal.specs.Entries.{events_of}
+use Rattle.board_threads.specs.run_journal.specs.Legal.{AreLegal, IsLegal, MayCome, MayHappen}
+use Rattle.board_threads.specs.run_journal.specs.Told.{nothing_told, residents_after, residents_from, told, told_after, told_from, Told}
+use Rattle.board_threads.specs.run_journal.proofs.Growth.{legal-split, loads_after, residents_told, residents_told_from, state_after, state_from, told_from-append}
+use Rattle.board_threads.specs.run_journal.proofs.Others.{locked_keeps, other_ident, stays_without, without_cases}
+use Rattle.board_threads.specs.run_journal.proofs.Whole.{nothing_whole, whole_after, whole_from, IsWhole}
 use Rattle.board_threads.specs.store_residents.proofs.SlotLaws.{what_is_there}
 use Rattle.board_commits.specs.Tickets.{state_at}
 

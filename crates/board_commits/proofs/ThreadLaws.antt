@@ -11,9 +11,9 @@ use Rattle.cache_ident.specs.declared.names.Name.TheVariants as name
 use Rattle.cache_ident.specs.declared.names.Vpn.{Vpn}
 use Rattle.cache_ident.specs.Rolls.{standing_in}
 use Rattle.cache_ident.specs.Residents.{IsIdentResident, IsNameResident, IsResident}
-use Rattle.rv32_exec.specs.declared.contexts.Context.{Context}
-use Rattle.flat_state.specs.declared.records.FlatThread.{FlatThread}
-use Rattle.run_journal.specs.Legal.{is_kind}
+use Rattle.thread_cache.specs.rv32_exec.specs.declared.contexts.Context.{Context}
+use Rattle.flat_rules.specs.flat_state.specs.declared.records.FlatThread.{FlatThread}
+use Rattle.board_threads.specs.run_journal.specs.Legal.{is_kind}
 use Rattle.thread_cache.specs.declared.ThreadRec.{ThreadRec}
 use Rattle.board_threads.specs.desc_stores.specs.declared.items.ItemRef.{ItemRef}
 use Rattle.board_threads.specs.desc_stores.specs.declared.items.Item.TheVariants as item

@@ -12,22 +12,22 @@ use Rattle.cache_ident.specs.Residents.{IsResident, Resident}
 use Rattle.phys_groups.specs.declared.rows.Row.{Row}
 use Rattle.phys_groups.specs.Memory.{page_at, HasFrame}
 use Rattle.phys_groups.specs.Translation.{is_row_of, row_of}
-use Rattle.flat_state.specs.declared.records.FlatThread.{FlatThread}
-use Rattle.flat_state.specs.Events.{flat}
-use Rattle.flat_state.specs.Names.{is_fit_found, is_fit_name, stands}
-use Rattle.flat_state.specs.State.{FlatState}
-use Rattle.flat_state.specs.Translation.{is_fit_row}
-use Rattle.flat_state.specs.WellFormed.{IsWellFormed}
-use Rattle.flat_state.proofs.Finding.{find-contains}
-use Rattle.flat_state.proofs.Places.{get-append}
-use Rattle.page_views.specs.Views.{View}
+use Rattle.flat_rules.specs.flat_state.specs.declared.records.FlatThread.{FlatThread}
+use Rattle.flat_rules.specs.flat_state.specs.Events.{flat}
+use Rattle.flat_rules.specs.flat_state.specs.Names.{is_fit_found, is_fit_name, stands}
+use Rattle.flat_rules.specs.flat_state.specs.State.{FlatState}
+use Rattle.flat_rules.specs.flat_state.specs.Translation.{is_fit_row}
+use Rattle.flat_rules.specs.flat_state.specs.WellFormed.{IsWellFormed}
+use Rattle.flat_rules.specs.flat_state.proofs.Finding.{find-contains}
+use Rattle.flat_rules.specs.flat_state.proofs.Places.{get-append}
+use Rattle.board_threads.specs.page_views.specs.Views.{View}
 use Rattle.board_threads.specs.quantum.specs.Ahead.{Ahead}
 use Rattle.board_threads.specs.quantum.specs.LocalRun.{Shows}
-use Rattle.run_journal.specs.declared.entries.Entry.{Entry}
-use Rattle.run_journal.specs.declared.entries.Entry.TheVariants.{Loaded}
-use Rattle.run_journal.specs.Entries.{erase}
-use Rattle.run_journal.specs.Told.{nothing_told, told}
-use Rattle.run_journal.proofs.Whole.{nothing_whole, whole_from, IsWhole}
+use Rattle.board_threads.specs.run_journal.specs.declared.entries.Entry.{Entry}
+use Rattle.board_threads.specs.run_journal.specs.declared.entries.Entry.TheVariants.{Loaded}
+use Rattle.board_threads.specs.run_journal.specs.Entries.{erase}
+use Rattle.board_threads.specs.run_journal.specs.Told.{nothing_told, told}
+use Rattle.board_threads.specs.run_journal.proofs.Whole.{nothing_whole, whole_from, IsWhole}
 use Rattle.board_threads.specs.desc_stores.specs.Contents.{residents_of}
 use Rattle.board_threads.specs.shown_state.specs.Shown.{shown}
 use Rattle.board_threads.specs.store_residents.proofs.SlotLaws.{what_is_there}

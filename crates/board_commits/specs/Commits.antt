@@ -10,10 +10,10 @@ use Rattle.phys_groups.specs.declared.rows.Flags.{Flags}
 use Rattle.phys_groups.specs.declared.rows.Row.{Row}
 use Rattle.phys_groups.specs.Memory.{page_at}
 use Rattle.phys_groups.specs.Translation.{row_of}
-use Rattle.flat_state.specs.declared.records.FlatThread.{FlatThread}
-use Rattle.flat_state.specs.WellFormed.{IsWellFormed}
+use Rattle.flat_rules.specs.flat_state.specs.declared.records.FlatThread.{FlatThread}
+use Rattle.flat_rules.specs.flat_state.specs.WellFormed.{IsWellFormed}
 use Rattle.flat_rules.specs.Readings.{OfThread}
-use Rattle.page_views.specs.Views.{filled}
+use Rattle.board_threads.specs.page_views.specs.Views.{filled}
 use Rattle.board_threads.specs.quantum.specs.Ahead.{more_with, Ahead}
 use Rattle.board_threads.specs.quantum.specs.LocalRun.{committed, state_after, status_by, touched_views, CouldRun, GoesThrough}
 use Rattle.board_threads.specs.desc_stores.specs.Contents.{residents_of}

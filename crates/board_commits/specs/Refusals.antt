@@ -4,9 +4,9 @@ use Rattle.std.specs.Option.{option_and_then, option_eq, option_map, option_or}
 use Rattle.cache_ident.specs.declared.names.Name.TheVariants as name
 use Rattle.cache_ident.specs.declared.names.Vpn.{Vpn}
 use Rattle.phys_groups.specs.Memory.{page_at}
-use Rattle.rv32_exec.specs.declared.contexts.Context.{Context}
-use Rattle.flat_state.specs.declared.records.FlatThread.{FlatThread}
-use Rattle.page_views.specs.Views.{View}
+use Rattle.thread_cache.specs.rv32_exec.specs.declared.contexts.Context.{Context}
+use Rattle.flat_rules.specs.flat_state.specs.declared.records.FlatThread.{FlatThread}
+use Rattle.board_threads.specs.page_views.specs.Views.{View}
 use Rattle.board_threads.specs.quantum.specs.Ahead.{Ahead}
 use Rattle.board_threads.specs.desc_stores.specs.Contents.{Contents}
 use Rattle.board_threads.specs.board_ops.specs.declared.refusals.Refused.{Refused}

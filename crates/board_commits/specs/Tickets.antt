@@ -7,13 +7,13 @@ use Rattle.cache_ident.specs.declared.names.ThreadNo.{ThreadNo}
 use Rattle.phys_groups.specs.declared.rows.Row.{Row}
 use Rattle.phys_groups.specs.Memory.{page_at}
 use Rattle.phys_groups.specs.Translation.{row_of}
-use Rattle.flat_state.specs.declared.records.FlatThread.{FlatThread}
-use Rattle.flat_state.specs.Events.{flat}
-use Rattle.flat_state.specs.State.{FlatState}
-use Rattle.run_journal.specs.declared.entries.Entry.{Entry}
-use Rattle.run_journal.specs.declared.entries.Entry.TheVariants.{Loaded}
-use Rattle.run_journal.specs.Entries.{erase}
-use Rattle.page_views.specs.Views.{all_dated, dated, Dated, View}
+use Rattle.flat_rules.specs.flat_state.specs.declared.records.FlatThread.{FlatThread}
+use Rattle.flat_rules.specs.flat_state.specs.Events.{flat}
+use Rattle.flat_rules.specs.flat_state.specs.State.{FlatState}
+use Rattle.board_threads.specs.run_journal.specs.declared.entries.Entry.{Entry}
+use Rattle.board_threads.specs.run_journal.specs.declared.entries.Entry.TheVariants.{Loaded}
+use Rattle.board_threads.specs.run_journal.specs.Entries.{erase}
+use Rattle.board_threads.specs.page_views.specs.Views.{all_dated, dated, Dated, View}
 use Rattle.board_threads.specs.quantum.specs.Ahead.{Ahead}
 
 -- the machine with unlimited tables behind so many entries

@@ -5,7 +5,7 @@ ghost use Rattle.std.specs.Bool.{OnTrue};
 ghost use Rattle.std.specs.Result.{result_err};
 ghost use Rattle.board_threads.specs.board_core.specs.Growth.{AreInMemory};
 ghost use Rattle.phys_groups.specs.Memory.{page_at, HasFrame};
-ghost use Rattle.page_views.specs.Views.{dated};
+ghost use Rattle.board_threads.specs.page_views.specs.Views.{dated};
 ghost use Rattle.board_threads.specs.board_ops.specs.declared.refusals.Refused.TheVariants.{NoMemory};
 ghost use Rattle.board_threads.specs.board_core.specs.Answers.{HasCallRoom, IsRefused};
 ghost use Rattle.board_threads.specs.board_core.specs.Core.{contents_of};

@@ -2,8 +2,8 @@
 
 ghost use Rattle.std.specs.Prelude.{ℕ, ◌++◌, List};
 ghost use Rattle.cache_ident.specs.declared.idents.Ident.{Ident};
-ghost use Rattle.rv32_exec.specs.declared.contexts.Context.{Context};
-ghost use Rattle.run_journal.specs.declared.entries.Entry.{Entry};
+ghost use Rattle.thread_cache.specs.rv32_exec.specs.declared.contexts.Context.{Context};
+ghost use Rattle.board_threads.specs.run_journal.specs.declared.entries.Entry.{Entry};
 ghost use Rattle.board_threads.specs.quantum.specs.Ahead.{begun, unbegun, Ahead, HasSameCopies};
 ghost use Rattle.board_commits.specs.Tickets.{AreAllAsOf, AreOfTicket};
 

@@ -9,7 +9,7 @@ ghost use Rattle.board_threads.specs.desc_stores.specs.Contents.{content_of, res
 ghost use Rattle.board_threads.specs.shown_state.specs.Shown.{flat_thread};
 ghost use Rattle.phys_groups.specs.Memory.{HasFrame};
 ghost use Rattle.phys_groups.specs.Translation.{row_of};
-ghost use Rattle.page_views.specs.Views.{can_fill};
+ghost use Rattle.board_threads.specs.page_views.specs.Views.{can_fill};
 ghost use Rattle.board_threads.specs.board_checks.specs.Identifiers.{not_live, thread_as};
 ghost use Rattle.board_threads.specs.cached_machine.specs.Cached.{state_of};
 ghost use Rattle.board_threads.specs.board_core.specs.Core.{contents_of};

@@ -19,9 +19,9 @@ use Rattle.rv32_exec.specs.declared.contexts.Context.{Context}
 use Rattle.rv32_exec.specs.declared.statuses.Status.{Status}
 use Rattle.flat_state.proofs.Finding.{find-contains}
 use Rattle.flat_state.proofs.Places.{Contains-from_get}
-use Rattle.flat_laws.proofs.Members.{map-agree, Contains-behind, Contains-here}
+use Rattle.board_ops.specs.flat_laws.proofs.Members.{map-agree, Contains-behind, Contains-here}
 use Rattle.cached_machine.specs.group_laws.proofs.Remaining.{pairs_head, pairs_tail}
-use Rattle.page_views.specs.Views.{View, HaveOneViewAPage}
+use Rattle.board_ops.specs.page_views.specs.Views.{View, HaveOneViewAPage}
 use Rattle.cached_machine.specs.quantum.specs.Ahead.{Ahead}
 use Rattle.cached_machine.specs.quantum.specs.LocalRun.{committed, status_by, touched_views, with_marks_of, with_view_marks, with_views, CouldRun, IsLocalRun}
 use Rattle.cached_machine.specs.Cached.{state_of, Cached}

@@ -10,7 +10,7 @@ use Rattle.cache_ident.specs.declared.names.Caps.{Caps}
 use Rattle.cache_ident.specs.declared.names.Name.{Name}
 use Rattle.cache_ident.specs.Residents.{locked_if, without, Resident}
 use Rattle.cache_ident.specs.Rolls.{standing_in}
-use Rattle.depend_lists.specs.declared.nodes.Node.{Node}
+use Rattle.board_ops.specs.depend_lists.specs.declared.nodes.Node.{Node}
 use Rattle.flat_state.proofs.Places.{count_by-cons}
 use Rattle.run_journal.specs.Groups.{IsGroup}
 use Rattle.cached_machine.specs.group_laws.specs.Leaving.{without_all}

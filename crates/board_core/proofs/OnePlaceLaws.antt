@@ -5,14 +5,14 @@ use Rattle.std.proofs.lemmas.List.Elements.{All-head, All-tail}
 use Rattle.cache_ident.specs.declared.names.KernelNo.{KernelNo}
 use Rattle.cache_ident.specs.declared.names.Name.{Name}
 use Rattle.cache_ident.specs.declared.names.Name.TheVariants as name
-use Rattle.owner_shelf.specs.declared.shelved.Shelved.{Shelved}
-use Rattle.owner_shelf.specs.Rows.{content_under, is_named, row_under}
-use Rattle.owner_shelf.proofs.RowLaws.{found_named}
-use Rattle.kernel_cache.specs.Kernels as kernel_rec
-use Rattle.kind_store.specs.Kept as stored
-use Rattle.slot_cache.specs.Rows.{row_name}
-use Rattle.slot_cache.proofs.SlotLemmas.{some_same}
-use Rattle.space_cache.specs.Spaces as space_rec
+use Rattle.cached_machine.specs.owner_shelf.specs.declared.shelved.Shelved.{Shelved}
+use Rattle.cached_machine.specs.owner_shelf.specs.Rows.{content_under, is_named, row_under}
+use Rattle.cached_machine.specs.owner_shelf.proofs.RowLaws.{found_named}
+use Rattle.cached_machine.specs.kernel_cache.specs.Kernels as kernel_rec
+use Rattle.cached_machine.specs.kind_store.specs.Kept as stored
+use Rattle.thread_cache.specs.slot_cache.specs.Rows.{row_name}
+use Rattle.thread_cache.specs.slot_cache.proofs.SlotLemmas.{some_same}
+use Rattle.cached_machine.specs.space_cache.specs.Spaces as space_rec
 use Rattle.thread_cache.specs.Threads as thread_rec
 use Rattle.flat_state.specs.Dependence.{owner}
 use Rattle.flat_state.specs.Names.{stands}

@@ -9,7 +9,7 @@ use Rattle.cache_ident.specs.declared.names.ThreadNo.{ThreadNo}
 use Rattle.cache_ident.specs.Names.{first_name}
 use Rattle.cache_ident.specs.Residents.{Resident}
 use Rattle.cache_ident.specs.Rolls.{standing_in}
-use Rattle.depend_lists.specs.declared.nodes.Node.{Node}
+use Rattle.board_ops.specs.depend_lists.specs.declared.nodes.Node.{Node}
 use Rattle.phys_groups.specs.Memory.{page_at, HasFrame}
 use Rattle.flat_state.specs.declared.events.Decl.{Decl}
 use Rattle.flat_state.specs.declared.events.Decl.TheVariants as decls
@@ -20,7 +20,7 @@ use Rattle.flat_state.specs.Names.{stands}
 use Rattle.flat_state.specs.State.{FlatState}
 use Rattle.flat_state.specs.WellFormed.{IsWellFormed}
 use Rattle.flat_state.proofs.Storing.{length-put_bytes, page_at-put_bytes_other, written-word}
-use Rattle.flat_laws.proofs.Members.{contains_nothing}
+use Rattle.board_ops.specs.flat_laws.proofs.Members.{contains_nothing}
 use Rattle.cached_machine.specs.flat_machine.proofs.DeclareSound.{word_rules}
 use Rattle.run_journal.specs.declared.entries.Entry.{Entry}
 use Rattle.run_journal.specs.declared.entries.Entry.TheVariants.{Declared, Loaded, Locked, Sealed}

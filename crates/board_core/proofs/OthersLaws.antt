@@ -4,15 +4,15 @@ use Rattle.std.specs.Prelude.{if◌then◌else◌, unwrap_or, length}
 use Rattle.cache_ident.specs.declared.names.ThreadNo.{ThreadNo}
 use Rattle.cache_ident.specs.declared.names.Vpn.{Vpn}
 use Rattle.phys_groups.specs.Translation.{row_of, without}
-use Rattle.signal_pages.specs.Signals.{address_of}
+use Rattle.flat_state.specs.signal_pages.specs.Signals.{address_of}
 use Rattle.rv32_exec.specs.declared.statuses.Status.{Status}
 use Rattle.rv32_exec.specs.declared.statuses.Status.TheVariants.{Ready, Trapped, Ended}
 use Rattle.rv32_exec.specs.declared.steps.Stepped.{Stepped}
 use Rattle.rv32_exec.specs.declared.steps.Stepped.TheVariants.{Next, Call, Stop, Miss}
 use Rattle.rv32_exec.specs.Steps.{After}
-use Rattle.fault_forward.specs.declared.effects.Effect.{Effect}
-use Rattle.fault_forward.specs.declared.effects.Effect.TheVariants as effects
-use Rattle.fault_forward.specs.Calls.{Completion, completion_of}
+use Rattle.flat_state.specs.fault_forward.specs.declared.effects.Effect.{Effect}
+use Rattle.flat_state.specs.fault_forward.specs.declared.effects.Effect.TheVariants as effects
+use Rattle.flat_state.specs.fault_forward.specs.Calls.{Completion, completion_of}
 use Rattle.flat_state.specs.declared.events.Decl.{Decl}
 use Rattle.flat_state.specs.declared.events.Decl.TheVariants as decls
 use Rattle.flat_state.specs.declared.events.Event.TheVariants.{Complete, Step}

@@ -8,7 +8,7 @@ use Rattle.cache_ident.specs.declared.idents.Standing.TheVariants.{Live}
 use Rattle.cache_ident.specs.declared.names.Caps.{Caps}
 use Rattle.cache_ident.specs.declared.names.Name.{Name}
 use Rattle.cache_ident.specs.Rolls.{standing_in}
-use Rattle.depend_lists.specs.declared.nodes.Node.{Node}
+use Rattle.board_ops.specs.depend_lists.specs.declared.nodes.Node.{Node}
 use Rattle.run_journal.specs.declared.entries.Entry.{Entry}
 use Rattle.run_journal.specs.declared.entries.Entry.TheVariants.{Loaded, Locked, Unlocked}
 use Rattle.run_journal.specs.Entries.{Written}

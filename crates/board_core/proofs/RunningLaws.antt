@@ -10,7 +10,7 @@ use Rattle.cache_ident.specs.declared.names.ThreadNo.{ThreadNo}
 use Rattle.cache_ident.specs.Residents.{IsNameResident}
 use Rattle.cache_ident.specs.declared.names.Caps.{Caps}
 use Rattle.cache_ident.specs.declared.idents.Ident.{Ident}
-use Rattle.depend_lists.specs.declared.nodes.Node.{Node}
+use Rattle.board_ops.specs.depend_lists.specs.declared.nodes.Node.{Node}
 use Rattle.phys_groups.specs.Memory.{page_at, HasFrame}
 use Rattle.rv32_exec.specs.declared.statuses.Status.{Status}
 use Rattle.rv32_exec.specs.declared.statuses.Status.TheVariants.{Ready}
@@ -25,7 +25,7 @@ use Rattle.flat_state.specs.NextSteps.{next_step, next_step_of}
 use Rattle.flat_state.specs.State.{is_trapped, FlatState}
 use Rattle.flat_state.specs.Step.{after_step}
 use Rattle.flat_state.specs.WellFormed.{IsWellFormed}
-use Rattle.flat_laws.proofs.RightsLaws.{keeps_size}
+use Rattle.board_ops.specs.flat_laws.proofs.RightsLaws.{keeps_size}
 use Rattle.flat_rules.specs.Readings.{OfThread}
 use Rattle.run_journal.specs.declared.entries.Entry.{Entry}
 use Rattle.run_journal.specs.declared.entries.Entry.TheVariants.{Completed}

@@ -32,8 +32,8 @@ use Rattle.flat_state.proofs.FormedEvents.{pages_are}
 use Rattle.flat_state.proofs.Places.{get_from_Contains, get_from_map}
 use Rattle.flat_state.proofs.StepKeeps.{step_keeps}
 use Rattle.flat_state.proofs.Translating.{translation-pages}
-use Rattle.flat_laws.proofs.Members.{Contains-behind, Contains-here}
-use Rattle.flat_laws.proofs.RowMarks.{atomic_through, stepped_is}
+use Rattle.board_ops.specs.flat_laws.proofs.Members.{Contains-behind, Contains-here}
+use Rattle.board_ops.specs.flat_laws.proofs.RowMarks.{atomic_through, stepped_is}
 use Rattle.cached_machine.specs.group_laws.proofs.Ranks.{own_row}
 use Rattle.board_core.specs.Stamps.{frame_if_writable, frame_stored, row_named, HaveStamps, IsWithin}
 use Rattle.board_core.proofs.StoresLaws.{after_are, asked, frame_of, stores_to}

@@ -9,7 +9,7 @@ use Rattle.phys_groups.specs.Memory.{page_at, with_page, HasFrame}
 use Rattle.phys_groups.specs.Rows.{marked}
 use Rattle.phys_groups.proofs.Pages.{length-with_page, page_at-with_page, page_at-with_page_other, with_page-page_at}
 use Rattle.flat_state.specs.State.{FlatState}
-use Rattle.page_views.specs.Views.{View}
+use Rattle.board_ops.specs.page_views.specs.Views.{View}
 use Rattle.cached_machine.specs.shown_state.specs.Shown.{shown}
 use Rattle.cached_machine.specs.Cached.{state_of, Cached}
 use Rattle.board_core.specs.Growth.{with_all_views, with_view, AreInMemory, HoldAlike, IsAsCopiedOrNow, IsPutIn}

@@ -9,9 +9,9 @@ use Rattle.cache_ident.specs.declared.names.Caps.{Caps}
 use Rattle.cache_ident.specs.Residents.{Resident, without}
 use Rattle.cache_ident.specs.Rolls.{is_same}
 use Rattle.cache_ident.proofs.RollLemmas.{same_ident}
-use Rattle.depend_lists.specs.declared.nodes.Node.{Node}
+use Rattle.board_ops.specs.depend_lists.specs.declared.nodes.Node.{Node}
 use Rattle.flat_state.proofs.Places.{Contains-from_get}
-use Rattle.flat_laws.proofs.Members.{Contains-behind, Contains-here, Contains-map}
+use Rattle.board_ops.specs.flat_laws.proofs.Members.{Contains-behind, Contains-here, Contains-map}
 use Rattle.run_journal.specs.Groups.{IsGroup}
 use Rattle.cached_machine.specs.group_laws.specs.Leaving.{without_all}
 use Rattle.cached_machine.specs.group_laws.proofs.Counting.{one, count-without}

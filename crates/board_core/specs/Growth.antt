@@ -17,7 +17,7 @@ use Rattle.run_journal.specs.declared.entries.Entry.{Entry}
 use Rattle.run_journal.specs.declared.entries.Entry.TheVariants.{Ended, Ran}
 use Rattle.run_journal.specs.Entries.{erase}
 use Rattle.cached_machine.specs.desc_stores.specs.Contents.{residents_of}
-use Rattle.page_views.specs.Views.{View}
+use Rattle.board_ops.specs.page_views.specs.Views.{View}
 use Rattle.cached_machine.specs.board_laws.specs.Moves.{KeepsLoaded}
 use Rattle.cached_machine.specs.Cached.{state_of}
 use Rattle.cached_machine.specs.Moved.{OnlyRoom}

@@ -12,6 +12,14 @@ pub use Rattle.cached_machine.specs.quantum
 pub use Rattle.cached_machine.specs.shown_state
 pub use Rattle.cached_machine.specs.store_residents
 pub use Rattle.cached_machine.specs.thread_sets
+pub use Rattle.run_journal
+pub use Rattle.board_ops.specs.page_views
+pub use Rattle.board_ops.specs.flat_laws
+pub use Rattle.flat_state
+pub use Rattle.board_ops.specs.depend_lists
+pub use Rattle.flat_state.specs.signal_pages
+pub use Rattle.flat_state.specs.fault_forward
+pub use Rattle.rv32_exec
 pub mod Stamps
 pub mod Core
 pub mod Growth

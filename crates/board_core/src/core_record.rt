@@ -2,7 +2,7 @@
 
 ghost use Rattle.std.specs.Prelude.{◌≡◌, ◌+◌, ◌≤◌, ◌<◌, ◌^◌, ◌∷◌, ◌++◌, List, [], false, None, Some, IfOk, length, slice_get};
 ghost use Rattle.cache_ident.specs.declared.idents.Ident.{Ident};
-ghost use Rattle.depend_lists.specs.declared.nodes.Node.{Node};
+ghost use Rattle.board_ops.specs.depend_lists.specs.declared.nodes.Node.{Node};
 ghost use Rattle.phys_groups.specs.Memory.{HasFrame};
 ghost use Rattle.flat_state.specs.declared.events.Decl.TheVariants as decls;
 ghost use Rattle.flat_state.specs.Declaration.{rule_of_machine};

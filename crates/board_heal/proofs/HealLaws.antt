@@ -11,8 +11,8 @@ use Rattle.cache_ident.specs.declared.names.Name.{Name}
 use Rattle.cache_ident.specs.declared.names.Name.TheVariants.{Thread}
 use Rattle.cache_ident.specs.declared.names.ThreadNo.{ThreadNo}
 use Rattle.cache_ident.specs.Residents.{Resident, IsNameResident}
-use Rattle.rv32_exec.specs.declared.statuses.Status.{Status}
-use Rattle.rv32_exec.specs.declared.statuses.Status.TheVariants.{Ready}
+use Rattle.thread_cache.specs.rv32_exec.specs.declared.statuses.Status.{Status}
+use Rattle.thread_cache.specs.rv32_exec.specs.declared.statuses.Status.TheVariants.{Ready}
 use Rattle.flat_state.specs.declared.events.Event.{Event}
 use Rattle.flat_state.specs.declared.events.Event.TheVariants.{Step}
 use Rattle.flat_state.specs.declared.records.FlatThread.{FlatThread}
@@ -25,10 +25,10 @@ use Rattle.flat_state.specs.State.{is_ready, FlatState}
 use Rattle.flat_state.specs.Step.{after_step, outcome, step_if, step_of, stepped}
 use Rattle.flat_state.specs.WellFormed.{IsWellFormed}
 use Rattle.flat_state.proofs.Places.{Contains-from_get}
-use Rattle.run_journal.specs.declared.entries.Entry.{Entry}
-use Rattle.run_journal.specs.Entries.{erase, is_step, steps_in}
-use Rattle.run_journal.specs.Legal.{IsRowResident, MayStep}
-use Rattle.run_journal.proofs.Growth.{erase-append}
+use Rattle.board_core.specs.run_journal.specs.declared.entries.Entry.{Entry}
+use Rattle.board_core.specs.run_journal.specs.Entries.{erase, is_step, steps_in}
+use Rattle.board_core.specs.run_journal.specs.Legal.{IsRowResident, MayStep}
+use Rattle.board_core.specs.run_journal.proofs.Growth.{erase-append}
 use Rattle.board_core.specs.desc_stores.specs.Contents.{residents_of, Contents}
 use Rattle.board_core.specs.board_ops.specs.declared.refusals.Refused.{Refused}
 use Rattle.board_core.specs.board_ops.specs.declared.refusals.Refused.TheVariants as why

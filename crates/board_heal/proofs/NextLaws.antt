@@ -3,7 +3,7 @@ use Rattle.std.proofs.Common.{◌≡◌, ℕ, ◌+◌, ◌≤◌, Bool, true, fa
 use Rattle.std.specs.Prelude.{if◌then◌else◌, is_some, IfNone, ◌||◌}
 use Rattle.std.specs.List.{cons_option, list_any}
 use Rattle.std.proofs.lemmas.Bool.{cases_Bool, false≢true}
-use Rattle.flat_laws.proofs.Members.{Contains-behind, Contains-cases, Contains-filter_map, Contains-from_filter_map, Contains-here, contains_nothing}
+use Rattle.board_core.specs.flat_laws.proofs.Members.{Contains-behind, Contains-cases, Contains-filter_map, Contains-from_filter_map, Contains-here, contains_nothing}
 use Rattle.cache_ident.specs.declared.idents.Ident.{Ident}
 use Rattle.cache_ident.specs.declared.idents.Kind.{Kind}
 use Rattle.cache_ident.specs.declared.names.Name.{Name}
@@ -11,10 +11,10 @@ use Rattle.cache_ident.specs.Names.{kind_of}
 use Rattle.cache_ident.specs.Residents.{Resident, IsNameResident}
 use Rattle.cache_ident.specs.Rolls.{is_same}
 use Rattle.cache_ident.proofs.RollLemmas.{is_same-refl, same_ident}
-use Rattle.depend_lists.specs.declared.nodes.Node.{Node}
+use Rattle.board_core.specs.depend_lists.specs.declared.nodes.Node.{Node}
 use Rattle.flat_state.specs.Dependence.{Depends}
 use Rattle.flat_state.proofs.Places.{count_by-cons}
-use Rattle.run_journal.specs.Legal.{is_kind}
+use Rattle.board_core.specs.run_journal.specs.Legal.{is_kind}
 use Rattle.board_core.specs.journal_laws.specs.Leaving.{HaveOneEach}
 use Rattle.board_core.specs.group_laws.proofs.Counting.{count-same}
 use Rattle.board_core.specs.desc_stores.specs.Contents.{residents_of, Contents}

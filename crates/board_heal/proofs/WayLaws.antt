@@ -5,7 +5,7 @@ use Rattle.std.proofs.lemmas.Bool.{false≢true}
 use Rattle.std.proofs.lemmas.List.{append-nil, append_assoc, length-map, take-append-drop, take_more}
 use Rattle.std.proofs.lemmas.List.Elements.{Contains-append_left, Contains-append_right, Contains-push_cases, filter-append}
 use Rattle.std.proofs.lemmas.Option.{get_or_from_slice_get, slice_get_within}
-use Rattle.flat_laws.proofs.Members.{Contains-here, contains_nothing}
+use Rattle.board_core.specs.flat_laws.proofs.Members.{Contains-here, contains_nothing}
 use Rattle.cache_ident.specs.declared.idents.Ident.{Ident}
 use Rattle.cache_ident.specs.declared.names.Caps.{Caps}
 use Rattle.cache_ident.specs.declared.names.Name.{Name}
@@ -15,10 +15,10 @@ use Rattle.cache_ident.specs.Residents.{Resident, IsNameResident}
 use Rattle.flat_state.specs.declared.events.Event.{Event}
 use Rattle.flat_state.specs.Events.{after_events}
 use Rattle.flat_state.proofs.Places.{Contains-from_get}
-use Rattle.run_journal.specs.declared.entries.Entry.{Entry}
-use Rattle.run_journal.specs.declared.entries.Entry.TheVariants.{Loaded}
-use Rattle.run_journal.specs.Entries.{erase}
-use Rattle.run_journal.proofs.Growth.{erase-append}
+use Rattle.board_core.specs.run_journal.specs.declared.entries.Entry.{Entry}
+use Rattle.board_core.specs.run_journal.specs.declared.entries.Entry.TheVariants.{Loaded}
+use Rattle.board_core.specs.run_journal.specs.Entries.{erase}
+use Rattle.board_core.specs.run_journal.proofs.Growth.{erase-append}
 use Rattle.board_core.specs.desc_stores.specs.Contents.{residents_of, Contents}
 use Rattle.board_core.specs.desc_groups.specs.declared.departures.Gone.{Gone}
 use Rattle.board_core.specs.board_laws.specs.Moves.{written_back}

@@ -7,7 +7,7 @@ use Rattle.flat_state.specs.declared.events.Event.TheVariants.{Step}
 use Rattle.flat_state.specs.declared.records.NextStep.{NextStep}
 use Rattle.flat_state.specs.Events.{after_event}
 use Rattle.flat_state.specs.NextSteps.{next_step}
-use Rattle.run_journal.specs.declared.entries.Entry.{Entry}
+use Rattle.board_core.specs.run_journal.specs.declared.entries.Entry.{Entry}
 use Rattle.board_core.specs.desc_stores.specs.Contents.{residents_of, Contents}
 use Rattle.board_core.specs.board_laws.specs.Moves.{KeepsLoaded}
 use Rattle.board_core.specs.cached_machine.specs.Cached.{state_of}

@@ -4,10 +4,10 @@ use Rattle.cache_ident.specs.declared.idents.Ident.{Ident}
 use Rattle.cache_ident.specs.declared.names.Caps.{Caps}
 use Rattle.cache_ident.specs.declared.names.Name.{Name}
 use Rattle.cache_ident.specs.Residents.{Resident, IsNameResident}
-use Rattle.depend_lists.specs.declared.nodes.Node.{Node}
-use Rattle.run_journal.specs.declared.entries.Entry.{Entry}
-use Rattle.run_journal.specs.declared.entries.Entry.TheVariants.{Loaded}
-use Rattle.run_journal.specs.Groups.{HasParents}
+use Rattle.board_core.specs.depend_lists.specs.declared.nodes.Node.{Node}
+use Rattle.board_core.specs.run_journal.specs.declared.entries.Entry.{Entry}
+use Rattle.board_core.specs.run_journal.specs.declared.entries.Entry.TheVariants.{Loaded}
+use Rattle.board_core.specs.run_journal.specs.Groups.{HasParents}
 use Rattle.board_core.specs.desc_stores.specs.Contents.{residents_of, Contents}
 use Rattle.board_core.specs.desc_parents.specs.Idents.{idents_of}
 use Rattle.board_core.specs.desc_groups.specs.declared.departures.Gone.{Gone}

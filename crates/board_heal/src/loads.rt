@@ -2,7 +2,7 @@
 
 ghost use Rattle.std.specs.Prelude.{◌≡◌, ◌<◌, ◌≤◌, List, length, true};
 ghost use Rattle.cache_ident.specs.declared.idents.Ident.{Ident};
-ghost use Rattle.depend_lists.specs.declared.nodes.Node.{Node};
+ghost use Rattle.board_core.specs.depend_lists.specs.declared.nodes.Node.{Node};
 ghost use Rattle.board_core.specs.desc_tables.specs.Tables.{AreSound};
 ghost use Rattle.board_core.specs.Core.{IsSound};
 ghost use Rattle.board_heal.specs.Loads.{IsThereNow, MayComeNext};

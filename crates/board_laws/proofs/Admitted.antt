@@ -16,30 +16,30 @@ use Rattle.cache_ident.specs.declared.names.ThreadNo.{ThreadNo}
 use Rattle.cache_ident.specs.declared.names.Vpn.{Vpn}
 use Rattle.cache_ident.specs.Names.{amount_of, first_name}
 use Rattle.cache_ident.specs.Residents.{with_loaded, Resident}
-use Rattle.depend_lists.specs.declared.nodes.Node.{Node}
+use Rattle.quantum.specs.depend_lists.specs.declared.nodes.Node.{Node}
 use Rattle.phys_groups.specs.declared.rows.Flags.{Flags}
 use Rattle.phys_groups.specs.declared.rows.Row.{Row}
 use Rattle.phys_groups.specs.Translation.{row_of}
-use Rattle.signal_pages.specs.Signals.{is_signal_row_of}
-use Rattle.flat_state.specs.declared.events.Decl.{Decl}
-use Rattle.flat_state.specs.declared.events.Decl.TheVariants as decls
-use Rattle.flat_state.specs.declared.events.Machine.{Machine}
-use Rattle.flat_state.specs.declared.records.FlatKernel.{FlatKernel}
-use Rattle.flat_state.specs.declared.records.FlatThread.{FlatThread}
-use Rattle.flat_state.specs.Declaration.{agree, broken_rule, caps_of, has_four, has_frame, has_no_flag, has_receiver, is_receiver_in, leaves_room, locks_granted, may_lock_kernels, new_row}
-use Rattle.flat_state.specs.Dependence.{owner, parents}
-use Rattle.flat_state.specs.Names.{is_fit_name, stands}
-use Rattle.flat_state.specs.State.{groups_of, FlatState}
-use Rattle.flat_state.specs.WellFormed.{IsWellFormed}
-use Rattle.flat_state.proofs.FormedParts.{breaks_none, other_rule}
-use Rattle.flat_laws.proofs.Members.{Contains-cases, contains_nothing}
-use Rattle.slot_cache.proofs.SlotLemmas.{some_same}
-use Rattle.run_journal.specs.Groups.{HasParents}
-use Rattle.run_journal.specs.Legal.{count_of, first_ident, is_kind, limit_of, limits_in, locked_by}
+use Rattle.quantum.specs.signal_pages.specs.Signals.{is_signal_row_of}
+use Rattle.quantum.specs.flat_state.specs.declared.events.Decl.{Decl}
+use Rattle.quantum.specs.flat_state.specs.declared.events.Decl.TheVariants as decls
+use Rattle.quantum.specs.flat_state.specs.declared.events.Machine.{Machine}
+use Rattle.quantum.specs.flat_state.specs.declared.records.FlatKernel.{FlatKernel}
+use Rattle.quantum.specs.flat_state.specs.declared.records.FlatThread.{FlatThread}
+use Rattle.quantum.specs.flat_state.specs.Declaration.{agree, broken_rule, caps_of, has_four, has_frame, has_no_flag, has_receiver, is_receiver_in, leaves_room, locks_granted, may_lock_kernels, new_row}
+use Rattle.quantum.specs.flat_state.specs.Dependence.{owner, parents}
+use Rattle.quantum.specs.flat_state.specs.Names.{is_fit_name, stands}
+use Rattle.quantum.specs.flat_state.specs.State.{groups_of, FlatState}
+use Rattle.quantum.specs.flat_state.specs.WellFormed.{IsWellFormed}
+use Rattle.quantum.specs.flat_state.proofs.FormedParts.{breaks_none, other_rule}
+use Rattle.quantum.specs.flat_laws.proofs.Members.{Contains-cases, contains_nothing}
+use Rattle.desc_tables.specs.slot_cache.proofs.SlotLemmas.{some_same}
+use Rattle.desc_tables.specs.run_journal.specs.Groups.{HasParents}
+use Rattle.desc_tables.specs.run_journal.specs.Legal.{count_of, first_ident, is_kind, limit_of, limits_in, locked_by}
 use Rattle.desc_tables.specs.group_laws.specs.Leaving.{without_all}
-use Rattle.kernel_cache.specs.declared.KernelRec.{KernelRec}
-use Rattle.space_cache.specs.declared.SpaceRec.{SpaceRec}
-use Rattle.thread_cache.specs.declared.ThreadRec.{ThreadRec}
+use Rattle.desc_tables.specs.kernel_cache.specs.declared.KernelRec.{KernelRec}
+use Rattle.desc_tables.specs.space_cache.specs.declared.SpaceRec.{SpaceRec}
+use Rattle.desc_tables.specs.thread_cache.specs.declared.ThreadRec.{ThreadRec}
 use Rattle.desc_tables.specs.desc_stores.specs.declared.items.Item.{Item}
 use Rattle.desc_tables.specs.desc_stores.specs.declared.items.Item.TheVariants as item
 use Rattle.desc_tables.specs.desc_stores.specs.Contents.{content_of, residents_of, Contents, IsFullOf}

@@ -7,17 +7,17 @@ use Rattle.cache_ident.specs.declared.rolls.Issued.{Issued}
 use Rattle.cache_ident.specs.Rolls.{standing_in}
 use Rattle.phys_groups.specs.declared.rows.Row.{Row}
 use Rattle.phys_groups.specs.Memory.{word_bytes, written}
-use Rattle.flat_state.specs.declared.events.Decl.{Decl}
-use Rattle.flat_state.specs.declared.events.Decl.TheVariants as decls
-use Rattle.flat_state.specs.declared.events.Event.TheVariants.{Declare}
-use Rattle.flat_state.specs.declared.events.Machine.{Machine}
-use Rattle.flat_state.specs.declared.records.FlatKernel.{FlatKernel}
-use Rattle.flat_state.specs.declared.records.FlatThread.{FlatThread}
-use Rattle.flat_state.specs.Declaration.{broken_rule, declared}
-use Rattle.flat_state.specs.Events.{applied, declared_unless}
-use Rattle.flat_state.specs.State.{nothing_declared, FlatState}
-use Rattle.run_journal.specs.declared.entries.Entry.{Entry}
-use Rattle.run_journal.specs.declared.entries.Entry.TheVariants.{Declared}
+use Rattle.quantum.specs.flat_state.specs.declared.events.Decl.{Decl}
+use Rattle.quantum.specs.flat_state.specs.declared.events.Decl.TheVariants as decls
+use Rattle.quantum.specs.flat_state.specs.declared.events.Event.TheVariants.{Declare}
+use Rattle.quantum.specs.flat_state.specs.declared.events.Machine.{Machine}
+use Rattle.quantum.specs.flat_state.specs.declared.records.FlatKernel.{FlatKernel}
+use Rattle.quantum.specs.flat_state.specs.declared.records.FlatThread.{FlatThread}
+use Rattle.quantum.specs.flat_state.specs.Declaration.{broken_rule, declared}
+use Rattle.quantum.specs.flat_state.specs.Events.{applied, declared_unless}
+use Rattle.quantum.specs.flat_state.specs.State.{nothing_declared, FlatState}
+use Rattle.desc_tables.specs.run_journal.specs.declared.entries.Entry.{Entry}
+use Rattle.desc_tables.specs.run_journal.specs.declared.entries.Entry.TheVariants.{Declared}
 use Rattle.desc_tables.specs.desc_stores.specs.declared.items.Item.{Item}
 use Rattle.desc_tables.specs.desc_stores.specs.declared.items.Item.TheVariants as item
 use Rattle.desc_tables.specs.desc_stores.specs.Changes.{IsNothing}

@@ -6,14 +6,14 @@ use Rattle.cache_ident.specs.declared.idents.Cause.{Cause}
 use Rattle.cache_ident.specs.declared.idents.Cause.TheVariants as causes
 use Rattle.cache_ident.specs.declared.idents.Ident.{Ident}
 use Rattle.cache_ident.specs.Residents.{Resident, without, IsIdentResident}
-use Rattle.depend_lists.specs.declared.nodes.Node.{Node}
-use Rattle.writeback_order.specs.Order.{DependsOn, directly, further}
-use Rattle.flat_state.specs.State.{FlatState}
-use Rattle.flat_laws.proofs.Members.{Contains-from_map}
-use Rattle.run_journal.specs.declared.entries.Entry.{Entry}
-use Rattle.run_journal.specs.declared.entries.Entry.TheVariants.{WrittenBack}
-use Rattle.run_journal.specs.Told.{Anything, Load, Told, told_of, told_after, told_from}
-use Rattle.run_journal.specs.Groups.{node_of, IsGroup, departures}
+use Rattle.quantum.specs.depend_lists.specs.declared.nodes.Node.{Node}
+use Rattle.quantum.specs.writeback_order.specs.Order.{DependsOn, directly, further}
+use Rattle.quantum.specs.flat_state.specs.State.{FlatState}
+use Rattle.quantum.specs.flat_laws.proofs.Members.{Contains-from_map}
+use Rattle.desc_tables.specs.run_journal.specs.declared.entries.Entry.{Entry}
+use Rattle.desc_tables.specs.run_journal.specs.declared.entries.Entry.TheVariants.{WrittenBack}
+use Rattle.desc_tables.specs.run_journal.specs.Told.{Anything, Load, Told, told_of, told_after, told_from}
+use Rattle.desc_tables.specs.run_journal.specs.Groups.{node_of, IsGroup, departures}
 use Rattle.desc_tables.specs.group_laws.specs.Leaving.{without_all}
 use Rattle.desc_tables.specs.group_laws.proofs.Remaining.{without_all-push}
 use Rattle.desc_tables.specs.desc_groups.specs.declared.departures.Gone.{Gone}

@@ -9,14 +9,14 @@ use Rattle.cache_ident.specs.Names.{first_name}
 use Rattle.cache_ident.specs.Residents.{Resident, with_loaded, without, locked_if, with_lock}
 use Rattle.cache_ident.specs.Rolls.{is_same}
 use Rattle.cache_ident.proofs.RollLemmas.{is_same-refl}
-use Rattle.flat_laws.proofs.Members.{Contains-map}
-use Rattle.run_journal.specs.declared.entries.Entry.{Entry}
-use Rattle.run_journal.specs.declared.entries.Entry.TheVariants.{Declared, Sealed, Loaded, WrittenBack, Locked, Unlocked, Ran, Ended, Completed}
-use Rattle.run_journal.specs.Told.{Due, Opening, Anything, FirstLoad, FirstLock, Departure, Load, Told, nothing_told, told_after, told_from, told, due_after_load}
-use Rattle.run_journal.specs.Legal.{first_ident, Comes, MayCome, AreLegal, IsLegal}
-use Rattle.run_journal.proofs.LegalGrowth.{not_first_load}
-use Rattle.run_journal.proofs.Others.{stays_without, differ}
-use Rattle.run_journal.proofs.Whole.{IsUnsealed, unsealed_after}
+use Rattle.quantum.specs.flat_laws.proofs.Members.{Contains-map}
+use Rattle.desc_tables.specs.run_journal.specs.declared.entries.Entry.{Entry}
+use Rattle.desc_tables.specs.run_journal.specs.declared.entries.Entry.TheVariants.{Declared, Sealed, Loaded, WrittenBack, Locked, Unlocked, Ran, Ended, Completed}
+use Rattle.desc_tables.specs.run_journal.specs.Told.{Due, Opening, Anything, FirstLoad, FirstLock, Departure, Load, Told, nothing_told, told_after, told_from, told, due_after_load}
+use Rattle.desc_tables.specs.run_journal.specs.Legal.{first_ident, Comes, MayCome, AreLegal, IsLegal}
+use Rattle.desc_tables.specs.run_journal.proofs.LegalGrowth.{not_first_load}
+use Rattle.desc_tables.specs.run_journal.proofs.Others.{stays_without, differ}
+use Rattle.desc_tables.specs.run_journal.proofs.Whole.{IsUnsealed, unsealed_after}
 
 -- the first kernel, locked or not
 abbrev pub first : Bool → Resident

@@ -8,15 +8,15 @@ use Rattle.cache_ident.specs.declared.names.Caps.{Caps}
 use Rattle.cache_ident.specs.declared.rolls.Issued.{Issued}
 use Rattle.cache_ident.specs.Residents.{Resident, without}
 use Rattle.cache_ident.specs.Rolls.{standing_in}
-use Rattle.depend_lists.specs.declared.nodes.Node.{Node}
-use Rattle.writeback_order.specs.Order.{IsOrder}
-use Rattle.flat_state.specs.declared.events.Machine.{Machine}
-use Rattle.flat_state.specs.State.{FlatState}
-use Rattle.run_journal.specs.declared.entries.Entry.{Entry}
-use Rattle.run_journal.specs.Groups.{node_of, ArePairsOf, IsGroup, departures}
-use Rattle.run_journal.specs.Legal.{first_ident, AreLegal}
-use Rattle.run_journal.specs.Told.{Told, told, told_from}
-use Rattle.run_journal.proofs.LegalGrowth.{departures_legal, MayGo}
+use Rattle.quantum.specs.depend_lists.specs.declared.nodes.Node.{Node}
+use Rattle.quantum.specs.writeback_order.specs.Order.{IsOrder}
+use Rattle.quantum.specs.flat_state.specs.declared.events.Machine.{Machine}
+use Rattle.quantum.specs.flat_state.specs.State.{FlatState}
+use Rattle.desc_tables.specs.run_journal.specs.declared.entries.Entry.{Entry}
+use Rattle.desc_tables.specs.run_journal.specs.Groups.{node_of, ArePairsOf, IsGroup, departures}
+use Rattle.desc_tables.specs.run_journal.specs.Legal.{first_ident, AreLegal}
+use Rattle.desc_tables.specs.run_journal.specs.Told.{Told, told, told_from}
+use Rattle.desc_tables.specs.run_journal.proofs.LegalGrowth.{departures_legal, MayGo}
 use Rattle.desc_tables.specs.desc_stores.specs.Contents.{residents_of, Contents}
 use Rattle.desc_tables.specs.group_laws.specs.Leaving.{without_all}
 use Rattle.desc_tables.specs.shown_state.specs.Shown.{shown}

@@ -6,19 +6,19 @@ use Rattle.cache_ident.specs.declared.idents.Standing.TheVariants.{Never}
 use Rattle.cache_ident.specs.declared.rolls.Issued.{Issued}
 use Rattle.cache_ident.specs.Residents.{Resident}
 use Rattle.cache_ident.specs.Rolls.{standing_in}
-use Rattle.flat_state.specs.declared.events.Machine.{Machine}
-use Rattle.flat_state.specs.Events.{flat}
-use Rattle.flat_state.specs.State.{FlatState}
-use Rattle.flat_state.specs.WellFormed.{IsWellFormed}
-use Rattle.flat_state.proofs.FormedEvents.{flat_formed}
-use Rattle.run_journal.specs.declared.entries.Entry.{Entry}
-use Rattle.run_journal.specs.Entries.{erase}
-use Rattle.run_journal.specs.Legal.{AreLegal, IsByProcessor, IsInPlace, MayHappen}
-use Rattle.run_journal.specs.Standing.{standing_after, standing_from, standing_of, StandsAs}
-use Rattle.run_journal.specs.Told.{Anything, Told, nothing_told, told, told_after, told_from, told_of}
-use Rattle.run_journal.proofs.Growth.{standing_from-append, told_from-append}
-use Rattle.run_journal.proofs.LegalGrowth.{grows, settled, state_told}
-use Rattle.run_journal.proofs.Standings.{stands_as}
+use Rattle.quantum.specs.flat_state.specs.declared.events.Machine.{Machine}
+use Rattle.quantum.specs.flat_state.specs.Events.{flat}
+use Rattle.quantum.specs.flat_state.specs.State.{FlatState}
+use Rattle.quantum.specs.flat_state.specs.WellFormed.{IsWellFormed}
+use Rattle.quantum.specs.flat_state.proofs.FormedEvents.{flat_formed}
+use Rattle.desc_tables.specs.run_journal.specs.declared.entries.Entry.{Entry}
+use Rattle.desc_tables.specs.run_journal.specs.Entries.{erase}
+use Rattle.desc_tables.specs.run_journal.specs.Legal.{AreLegal, IsByProcessor, IsInPlace, MayHappen}
+use Rattle.desc_tables.specs.run_journal.specs.Standing.{standing_after, standing_from, standing_of, StandsAs}
+use Rattle.desc_tables.specs.run_journal.specs.Told.{Anything, Told, nothing_told, told, told_after, told_from, told_of}
+use Rattle.desc_tables.specs.run_journal.proofs.Growth.{standing_from-append, told_from-append}
+use Rattle.desc_tables.specs.run_journal.proofs.LegalGrowth.{grows, settled, state_told}
+use Rattle.desc_tables.specs.run_journal.proofs.Standings.{stands_as}
 use Rattle.desc_tables.specs.desc_stores.specs.Contents.{residents_of, Contents}
 use Rattle.desc_tables.specs.shown_state.specs.Shown.{shown}
 use Rattle.board_laws.specs.Moves.{KeepsLoaded, ShowsTheSame}

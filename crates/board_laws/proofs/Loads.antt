@@ -14,21 +14,21 @@ use Rattle.cache_ident.specs.declared.rolls.Issued.{Issued}
 use Rattle.cache_ident.specs.Names.{amount_of, first_name, kind_of}
 use Rattle.cache_ident.specs.Residents.{Resident, IsNameResident, with_loaded, with_lock}
 use Rattle.cache_ident.specs.Rolls.{is_same, standing_in}
-use Rattle.depend_lists.specs.declared.nodes.Node.{Node}
-use Rattle.writeback_order.specs.Order.{rank_of}
-use Rattle.flat_state.specs.declared.events.Machine.{Machine}
-use Rattle.flat_state.specs.Dependence.{Depends}
-use Rattle.flat_state.specs.Names.{class_of, is_fit_name, stands}
-use Rattle.flat_state.specs.State.{FlatState}
-use Rattle.flat_laws.proofs.Members.{contains_nothing}
-use Rattle.run_journal.specs.declared.entries.Entry.{Entry}
-use Rattle.run_journal.specs.declared.entries.Entry.TheVariants.{Loaded, Locked, Sealed}
-use Rattle.run_journal.specs.Groups.{HasParents, IsGroup, departures}
-use Rattle.run_journal.specs.Legal.{cap_of, count_of, first_ident, AreLegal, Comes, IsTaken, MayCome, MayLoad, MayLock, StaysGood}
-use Rattle.run_journal.specs.Told.{due_after_load, Anything, Due, FirstLoad, FirstLock, Load, Told, told_from, told_of}
-use Rattle.run_journal.proofs.Growth.{legal-append, standing_from-append, told_from-append}
-use Rattle.run_journal.proofs.LegalGrowth.{not_first_load}
-use Rattle.run_journal.proofs.Whole.{nothing_loaded}
+use Rattle.quantum.specs.depend_lists.specs.declared.nodes.Node.{Node}
+use Rattle.quantum.specs.writeback_order.specs.Order.{rank_of}
+use Rattle.quantum.specs.flat_state.specs.declared.events.Machine.{Machine}
+use Rattle.quantum.specs.flat_state.specs.Dependence.{Depends}
+use Rattle.quantum.specs.flat_state.specs.Names.{class_of, is_fit_name, stands}
+use Rattle.quantum.specs.flat_state.specs.State.{FlatState}
+use Rattle.quantum.specs.flat_laws.proofs.Members.{contains_nothing}
+use Rattle.desc_tables.specs.run_journal.specs.declared.entries.Entry.{Entry}
+use Rattle.desc_tables.specs.run_journal.specs.declared.entries.Entry.TheVariants.{Loaded, Locked, Sealed}
+use Rattle.desc_tables.specs.run_journal.specs.Groups.{HasParents, IsGroup, departures}
+use Rattle.desc_tables.specs.run_journal.specs.Legal.{cap_of, count_of, first_ident, AreLegal, Comes, IsTaken, MayCome, MayLoad, MayLock, StaysGood}
+use Rattle.desc_tables.specs.run_journal.specs.Told.{due_after_load, Anything, Due, FirstLoad, FirstLock, Load, Told, told_from, told_of}
+use Rattle.desc_tables.specs.run_journal.proofs.Growth.{legal-append, standing_from-append, told_from-append}
+use Rattle.desc_tables.specs.run_journal.proofs.LegalGrowth.{not_first_load}
+use Rattle.desc_tables.specs.run_journal.proofs.Whole.{nothing_loaded}
 use Rattle.desc_tables.specs.desc_stores.specs.Contents.{residents_of, Contents, IsFullOf, LockIs}
 use Rattle.desc_tables.specs.group_laws.specs.Leaving.{without_all}
 use Rattle.desc_tables.specs.group_laws.proofs.Ranks.{parent_leaves_later}

@@ -6,13 +6,13 @@ use Rattle.cache_ident.specs.declared.names.Caps.{Caps}
 use Rattle.cache_ident.specs.declared.rolls.Issued.{Issued}
 use Rattle.cache_ident.specs.Residents.{with_lock, IsIdentResident}
 use Rattle.cache_ident.specs.Rolls.{standing_in}
-use Rattle.depend_lists.specs.declared.nodes.Node.{Node}
-use Rattle.flat_state.specs.declared.events.Machine.{Machine}
-use Rattle.flat_state.specs.Dependence.{owner}
-use Rattle.run_journal.specs.declared.entries.Entry.{Entry}
-use Rattle.run_journal.specs.declared.entries.Entry.TheVariants.{Locked, Unlocked}
-use Rattle.run_journal.specs.Legal.{first_ident, limit_of, locked_by, MayLock, MayUnlock}
-use Rattle.run_journal.specs.Told.{Anything, Due, told_of}
+use Rattle.quantum.specs.depend_lists.specs.declared.nodes.Node.{Node}
+use Rattle.quantum.specs.flat_state.specs.declared.events.Machine.{Machine}
+use Rattle.quantum.specs.flat_state.specs.Dependence.{owner}
+use Rattle.desc_tables.specs.run_journal.specs.declared.entries.Entry.{Entry}
+use Rattle.desc_tables.specs.run_journal.specs.declared.entries.Entry.TheVariants.{Locked, Unlocked}
+use Rattle.desc_tables.specs.run_journal.specs.Legal.{first_ident, limit_of, locked_by, MayLock, MayUnlock}
+use Rattle.desc_tables.specs.run_journal.specs.Told.{Anything, Due, told_of}
 use Rattle.desc_tables.specs.desc_stores.specs.Contents.{resident_as, residents_of, Contents, LockIs}
 use Rattle.desc_tables.specs.shown_state.specs.Shown.{shown}
 use Rattle.desc_tables.specs.shown_state.proofs.DependenceLemmas.{same_owner}

@@ -5,15 +5,15 @@ use Rattle.cache_ident.specs.declared.names.Name.TheVariants.{Mapping, Thread}
 use Rattle.cache_ident.specs.declared.names.SpaceNo.{SpaceNo}
 use Rattle.cache_ident.specs.declared.names.ThreadNo.{ThreadNo}
 use Rattle.cache_ident.specs.Residents.{Resident, IsNameResident}
-use Rattle.flat_state.specs.declared.events.Machine.{Machine}
-use Rattle.flat_state.specs.declared.records.FlatThread.{FlatThread}
-use Rattle.flat_state.specs.State.{FlatState}
-use Rattle.page_views.specs.Views.{View}
+use Rattle.quantum.specs.flat_state.specs.declared.events.Machine.{Machine}
+use Rattle.quantum.specs.flat_state.specs.declared.records.FlatThread.{FlatThread}
+use Rattle.quantum.specs.flat_state.specs.State.{FlatState}
+use Rattle.quantum.specs.page_views.specs.Views.{View}
 use Rattle.quantum.specs.Ahead.{Ahead}
 use Rattle.quantum.specs.LocalRun.{committed, touched_views, CouldRun, GoesThrough, IsLocalRun, IsViewed}
-use Rattle.run_journal.specs.declared.entries.Entry.{Entry}
-use Rattle.run_journal.specs.declared.entries.Entry.TheVariants.{Ran}
-use Rattle.run_journal.specs.Legal.{after_steps, IsRowResident, MayStep}
+use Rattle.desc_tables.specs.run_journal.specs.declared.entries.Entry.{Entry}
+use Rattle.desc_tables.specs.run_journal.specs.declared.entries.Entry.TheVariants.{Ran}
+use Rattle.desc_tables.specs.run_journal.specs.Legal.{after_steps, IsRowResident, MayStep}
 use Rattle.desc_tables.specs.desc_stores.specs.Contents.{residents_of, Contents}
 use Rattle.desc_tables.specs.shown_state.specs.Shown.{shown}
 use Rattle.board_laws.specs.Moves.{KeepsLoaded}

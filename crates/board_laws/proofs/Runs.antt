@@ -8,14 +8,14 @@ use Rattle.cache_ident.specs.declared.names.ThreadNo.{ThreadNo}
 use Rattle.cache_ident.specs.declared.rolls.Issued.{Issued}
 use Rattle.cache_ident.specs.Residents.{Resident, IsNameResident}
 use Rattle.cache_ident.specs.Rolls.{standing_in}
-use Rattle.depend_lists.specs.declared.nodes.Node.{Node}
-use Rattle.flat_state.specs.declared.events.Event.TheVariants.{Complete}
-use Rattle.flat_state.specs.declared.events.Machine.{Machine}
-use Rattle.flat_state.specs.Events.{after_event, applied}
-use Rattle.flat_state.specs.State.{FlatState}
-use Rattle.run_journal.specs.declared.entries.Entry.{Entry}
-use Rattle.run_journal.specs.declared.entries.Entry.TheVariants.{Completed, Ended, Ran}
-use Rattle.run_journal.specs.Legal.{after_steps, AreGood, MayStep}
+use Rattle.quantum.specs.depend_lists.specs.declared.nodes.Node.{Node}
+use Rattle.quantum.specs.flat_state.specs.declared.events.Event.TheVariants.{Complete}
+use Rattle.quantum.specs.flat_state.specs.declared.events.Machine.{Machine}
+use Rattle.quantum.specs.flat_state.specs.Events.{after_event, applied}
+use Rattle.quantum.specs.flat_state.specs.State.{FlatState}
+use Rattle.desc_tables.specs.run_journal.specs.declared.entries.Entry.{Entry}
+use Rattle.desc_tables.specs.run_journal.specs.declared.entries.Entry.TheVariants.{Completed, Ended, Ran}
+use Rattle.desc_tables.specs.run_journal.specs.Legal.{after_steps, AreGood, MayStep}
 use Rattle.desc_tables.specs.desc_stores.specs.Contents.{residents_of, Contents}
 use Rattle.desc_tables.specs.shown_state.specs.Shown.{shown}
 use Rattle.desc_tables.specs.desc_groups.specs.Whole.{AreWhole}

@@ -7,11 +7,11 @@ use Rattle.cache_ident.specs.declared.names.KernelNo.{KernelNo}
 use Rattle.cache_ident.specs.declared.names.Name.{Name}
 use Rattle.cache_ident.specs.Names.{amount_of}
 use Rattle.cache_ident.specs.Residents.{Resident}
-use Rattle.depend_lists.specs.declared.nodes.Node.{Node}
-use Rattle.flat_state.specs.declared.events.Machine.{Machine}
-use Rattle.flat_state.specs.Names.{stands}
-use Rattle.run_journal.specs.Groups.{node_of, ArePairsOf, HasParents}
-use Rattle.run_journal.specs.Legal.{cap_of, limit_of, locked_by, AreGood}
+use Rattle.quantum.specs.depend_lists.specs.declared.nodes.Node.{Node}
+use Rattle.quantum.specs.flat_state.specs.declared.events.Machine.{Machine}
+use Rattle.quantum.specs.flat_state.specs.Names.{stands}
+use Rattle.desc_tables.specs.run_journal.specs.Groups.{node_of, ArePairsOf, HasParents}
+use Rattle.desc_tables.specs.run_journal.specs.Legal.{cap_of, limit_of, locked_by, AreGood}
 use Rattle.desc_tables.specs.resident_pairs.proofs.Staying.{same_keeps}
 use Rattle.desc_tables.specs.desc_stores.specs.Contents.{Contents}
 use Rattle.desc_tables.specs.desc_stores.specs.Sound.{IsExactlyOne}

@@ -9,10 +9,10 @@ use Rattle.cache_ident.specs.declared.idents.Standing.TheVariants.{Live, Left, N
 use Rattle.cache_ident.specs.declared.rolls.Issued.{Issued}
 use Rattle.cache_ident.specs.Rolls.{departed, departed_if, is_same, just_issued, standing_in, standing_since, IsNumberedFrom}
 use Rattle.cache_ident.proofs.RollLemmas.{never_above, numbered-departed, same_ident, standing_in-departed_other}
-use Rattle.flat_laws.proofs.Members.{Contains-behind, Contains-here}
-use Rattle.run_journal.specs.declared.entries.Entry.TheVariants.{WrittenBack}
-use Rattle.run_journal.specs.Standing.{standing_after, standing_from}
-use Rattle.run_journal.proofs.Others.{other_ident}
+use Rattle.quantum.specs.flat_laws.proofs.Members.{Contains-behind, Contains-here}
+use Rattle.desc_tables.specs.run_journal.specs.declared.entries.Entry.TheVariants.{WrittenBack}
+use Rattle.desc_tables.specs.run_journal.specs.Standing.{standing_after, standing_from}
+use Rattle.desc_tables.specs.run_journal.proofs.Others.{other_ident}
 use Rattle.desc_tables.specs.desc_groups.specs.declared.departures.Gone.{Gone}
 use Rattle.desc_tables.specs.desc_groups.specs.Moves.{departed_all, idents_of}
 use Rattle.board_laws.specs.Moves.{written_back}

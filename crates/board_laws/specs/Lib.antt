@@ -7,5 +7,8 @@ pub use Rattle.desc_tables.specs.journal_laws
 pub use Rattle.quantum
 pub use Rattle.desc_tables.specs.shown_state
 pub use Rattle.desc_tables.specs.store_residents
+pub use Rattle.desc_tables.specs.run_journal
+pub use Rattle.quantum.specs.flat_laws
+pub use Rattle.quantum.specs.depend_lists
 pub mod Telling
 pub mod Moves

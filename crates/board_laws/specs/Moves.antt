@@ -7,14 +7,14 @@ use Rattle.cache_ident.specs.declared.names.Name.{Name}
 use Rattle.cache_ident.specs.Names.{amount_of, kind_of}
 use Rattle.cache_ident.specs.Residents.{Resident, with_loaded, with_lock}
 use Rattle.cache_ident.specs.Rolls.{just_issued}
-use Rattle.flat_state.specs.declared.events.Decl.{Decl}
-use Rattle.flat_state.specs.declared.events.Decl.TheVariants as decls
-use Rattle.flat_state.specs.declared.events.Machine.{Machine}
-use Rattle.flat_state.specs.Declaration.{new_kernel, new_row, new_thread}
-use Rattle.run_journal.specs.declared.entries.Entry.{Entry}
-use Rattle.run_journal.specs.declared.entries.Entry.TheVariants.{WrittenBack}
-use Rattle.run_journal.specs.Groups.{IsGroup}
-use Rattle.run_journal.specs.Legal.{IsTaken}
+use Rattle.quantum.specs.flat_state.specs.declared.events.Decl.{Decl}
+use Rattle.quantum.specs.flat_state.specs.declared.events.Decl.TheVariants as decls
+use Rattle.quantum.specs.flat_state.specs.declared.events.Machine.{Machine}
+use Rattle.quantum.specs.flat_state.specs.Declaration.{new_kernel, new_row, new_thread}
+use Rattle.desc_tables.specs.run_journal.specs.declared.entries.Entry.{Entry}
+use Rattle.desc_tables.specs.run_journal.specs.declared.entries.Entry.TheVariants.{WrittenBack}
+use Rattle.desc_tables.specs.run_journal.specs.Groups.{IsGroup}
+use Rattle.desc_tables.specs.run_journal.specs.Legal.{IsTaken}
 use Rattle.desc_tables.specs.desc_stores.specs.declared.items.Item.{Item}
 use Rattle.desc_tables.specs.desc_stores.specs.declared.items.Item.TheVariants as item
 use Rattle.desc_tables.specs.desc_stores.specs.Contents.{residents_of, Contents, IsFullOf}

@@ -2,11 +2,11 @@
 use Rattle.std.specs.Prelude.{◌≡◌, ℕ, Bool, List, Some, length}
 use Rattle.cache_ident.specs.declared.idents.Ident.{Ident}
 use Rattle.cache_ident.specs.Rolls.{standing_in}
-use Rattle.flat_state.specs.declared.events.Machine.{Machine}
-use Rattle.run_journal.specs.declared.entries.Entry.{Entry}
-use Rattle.run_journal.specs.Legal.{IsLegal}
-use Rattle.run_journal.specs.Standing.{standing_of}
-use Rattle.run_journal.specs.Told.{told}
+use Rattle.quantum.specs.flat_state.specs.declared.events.Machine.{Machine}
+use Rattle.desc_tables.specs.run_journal.specs.declared.entries.Entry.{Entry}
+use Rattle.desc_tables.specs.run_journal.specs.Legal.{IsLegal}
+use Rattle.desc_tables.specs.run_journal.specs.Standing.{standing_of}
+use Rattle.desc_tables.specs.run_journal.specs.Told.{told}
 use Rattle.desc_tables.specs.desc_stores.specs.Contents.{residents_of, Contents}
 use Rattle.desc_tables.specs.shown_state.specs.Shown.{shown}
 

@@ -4,12 +4,12 @@ ghost use Rattle.std.specs.Prelude.{◌≡◌, ℕ, [], false, List, None, Some,
 ghost use Rattle.cache_ident.specs.Names.{first_name};
 ghost use Rattle.cache_ident.specs.declared.idents.Ident.{Ident};
 ghost use Rattle.cache_ident.specs.declared.names.Caps.{Caps};
-ghost use Rattle.depend_lists.specs.declared.nodes.Node.{Node};
-ghost use Rattle.flat_state.specs.declared.events.Decl.{Decl};
-ghost use Rattle.flat_state.specs.declared.events.Machine.{Machine};
-ghost use Rattle.flat_state.specs.Declaration.{broken_rule};
-ghost use Rattle.run_journal.specs.Legal.{first_ident};
-ghost use Rattle.run_journal.specs.declared.entries.Entry.{Entry};
+ghost use Rattle.quantum.specs.depend_lists.specs.declared.nodes.Node.{Node};
+ghost use Rattle.quantum.specs.flat_state.specs.declared.events.Decl.{Decl};
+ghost use Rattle.quantum.specs.flat_state.specs.declared.events.Machine.{Machine};
+ghost use Rattle.quantum.specs.flat_state.specs.Declaration.{broken_rule};
+ghost use Rattle.desc_tables.specs.run_journal.specs.Legal.{first_ident};
+ghost use Rattle.desc_tables.specs.run_journal.specs.declared.entries.Entry.{Entry};
 ghost use Rattle.desc_tables.specs.desc_stores.specs.declared.items.Item.{Item};
 ghost use Rattle.desc_tables.specs.desc_stores.specs.Contents.{content_of, Contents};
 ghost use Rattle.desc_tables.specs.shown_state.specs.Shown.{shown};

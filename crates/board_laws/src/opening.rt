@@ -2,9 +2,9 @@
 
 ghost use Rattle.std.specs.Prelude.{◌≡◌, ℕ, ◌<◌, true, List, Contains};
 ghost use Rattle.cache_ident.specs.Names.{first_name};
-ghost use Rattle.run_journal.specs.Legal.{first_ident, IsLegal};
-ghost use Rattle.run_journal.specs.Told.{told};
-ghost use Rattle.run_journal.specs.declared.entries.Entry.{Entry};
+ghost use Rattle.desc_tables.specs.run_journal.specs.Legal.{first_ident, IsLegal};
+ghost use Rattle.desc_tables.specs.run_journal.specs.Told.{told};
+ghost use Rattle.desc_tables.specs.run_journal.specs.declared.entries.Entry.{Entry};
 
 /// Behind the seal of a legal journal the first kernel is always loaded, under the first identifier, and locked.
 pub fn the_first_kernel_stays()

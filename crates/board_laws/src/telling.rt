@@ -3,12 +3,12 @@
 ghost use Rattle.std.specs.Prelude.{◌≡◌, ℕ, Bool, List, Some};
 ghost use Rattle.cache_ident.specs.Rolls.{standing_in};
 ghost use Rattle.cache_ident.specs.declared.idents.Ident.{Ident};
-ghost use Rattle.flat_state.specs.declared.events.Machine.{Machine};
-ghost use Rattle.flat_state.specs.Events.{flat};
-ghost use Rattle.flat_state.specs.WellFormed.{IsWellFormed};
-ghost use Rattle.run_journal.specs.declared.entries.Entry.{Entry};
-ghost use Rattle.run_journal.specs.Entries.{erase};
-ghost use Rattle.run_journal.specs.Standing.{StandsAs};
+ghost use Rattle.quantum.specs.flat_state.specs.declared.events.Machine.{Machine};
+ghost use Rattle.quantum.specs.flat_state.specs.Events.{flat};
+ghost use Rattle.quantum.specs.flat_state.specs.WellFormed.{IsWellFormed};
+ghost use Rattle.desc_tables.specs.run_journal.specs.declared.entries.Entry.{Entry};
+ghost use Rattle.desc_tables.specs.run_journal.specs.Entries.{erase};
+ghost use Rattle.desc_tables.specs.run_journal.specs.Standing.{StandsAs};
 ghost use Rattle.desc_tables.specs.desc_stores.specs.Contents.{Contents};
 ghost use Rattle.desc_tables.specs.shown_state.specs.Shown.{shown};
 ghost use Rattle.board_laws.specs.Moves.{KeepsLoaded, ShowsTheSame};

@@ -3,32 +3,32 @@ use Rattle.std.proofs.Common.{◌≡◌, ℕ, ◌+◌, ◌≤◌, Bool, true, fa
 use Rattle.std.proofs.lemmas.Bool.{cases_Bool, eqb-false, eqb-true}
 use Rattle.std.proofs.lemmas.List.{length-map}
 use Rattle.std.proofs.lemmas.List.Elements.{Contains-append_left, Contains-push, Contains-push_cases}
-use Rattle.flat_laws.proofs.Members.{contains_nothing}
+use Rattle.board_checks.specs.flat_laws.proofs.Members.{contains_nothing}
 use Rattle.cache_ident.specs.declared.idents.Ident.{Ident}
 use Rattle.cache_ident.specs.declared.names.Caps.{Caps}
 use Rattle.cache_ident.specs.declared.names.Name.{Name}
 use Rattle.cache_ident.specs.Names.{kind_of}
 use Rattle.cache_ident.specs.Residents.{Resident, IsResident}
-use Rattle.depend_lists.specs.declared.nodes.Node.{Node}
-use Rattle.flat_state.specs.declared.events.Event.{Event}
-use Rattle.run_journal.specs.declared.entries.Entry.TheVariants.{Loaded}
-use Rattle.run_journal.specs.Entries.{erase}
-use Rattle.run_journal.specs.Groups.{IsGroup}
-use Rattle.run_journal.specs.Legal.{count_of}
-use Rattle.run_journal.proofs.Growth.{erase-append}
+use Rattle.board_checks.specs.depend_lists.specs.declared.nodes.Node.{Node}
+use Rattle.board_checks.specs.flat_state.specs.declared.events.Event.{Event}
+use Rattle.board_checks.specs.run_journal.specs.declared.entries.Entry.TheVariants.{Loaded}
+use Rattle.board_checks.specs.run_journal.specs.Entries.{erase}
+use Rattle.board_checks.specs.run_journal.specs.Groups.{IsGroup}
+use Rattle.board_checks.specs.run_journal.specs.Legal.{count_of}
+use Rattle.board_checks.specs.run_journal.proofs.Growth.{erase-append}
 use Rattle.board_core.specs.group_laws.specs.Leaving.{without_all}
 use Rattle.board_core.specs.group_laws.proofs.Counting.{count-loaded, one}
 use Rattle.board_core.specs.group_laws.proofs.Remaining.{stays_without_all, without_all_cases}
-use Rattle.board_core.specs.desc_stores.specs.Contents.{residents_of, Contents}
+use Rattle.board_checks.specs.desc_stores.specs.Contents.{residents_of, Contents}
 use Rattle.board_core.specs.store_residents.specs.Slots.{slots_of}
 use Rattle.board_core.specs.store_residents.specs.Victims.{IsOldest}
 use Rattle.board_core.specs.store_residents.proofs.SlotLaws.{full_iff}
-use Rattle.board_core.specs.desc_parents.specs.Seen.{seen}
-use Rattle.board_core.specs.desc_groups.specs.declared.departures.Gone.{Gone}
-use Rattle.board_core.specs.desc_groups.specs.Moves.{idents_of}
-use Rattle.board_core.specs.desc_groups.specs.Whole.{AreWhole}
+use Rattle.board_checks.specs.desc_parents.specs.Seen.{seen}
+use Rattle.board_checks.specs.desc_groups.specs.declared.departures.Gone.{Gone}
+use Rattle.board_checks.specs.desc_groups.specs.Moves.{idents_of}
+use Rattle.board_checks.specs.desc_groups.specs.Whole.{AreWhole}
 use Rattle.board_core.specs.board_laws.specs.Moves.{written_back, IsLoad}
-use Rattle.board_core.specs.desc_tables.proofs.Remaining.{kept_stays, KeepsParentsOfKept}
+use Rattle.board_checks.specs.desc_tables.proofs.Remaining.{kept_stays, KeepsParentsOfKept}
 use Rattle.board_core.proofs.GrowthLaws.{erase_back}
 use Rattle.board_core.proofs.UnkeptLaws.{group_counts}
 

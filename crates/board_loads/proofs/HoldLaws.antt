@@ -6,16 +6,16 @@ use Rattle.cache_ident.specs.declared.names.Name.{Name}
 use Rattle.cache_ident.specs.declared.rolls.Issued.{Issued}
 use Rattle.cache_ident.specs.Names.{first_name}
 use Rattle.cache_ident.specs.Residents.{with_lock, IsResident, Resident}
-use Rattle.flat_state.specs.Dependence.{owner}
-use Rattle.flat_state.specs.Events.{after_events}
-use Rattle.flat_state.specs.State.{FlatState}
-use Rattle.run_journal.specs.Groups.{IsGroup}
-use Rattle.run_journal.specs.Legal.{first_ident, limit_of, locked_by}
-use Rattle.board_core.specs.desc_stores.specs.Contents.{resident_as, residents_of, Contents, LockIs}
+use Rattle.board_checks.specs.flat_state.specs.Dependence.{owner}
+use Rattle.board_checks.specs.flat_state.specs.Events.{after_events}
+use Rattle.board_checks.specs.flat_state.specs.State.{FlatState}
+use Rattle.board_checks.specs.run_journal.specs.Groups.{IsGroup}
+use Rattle.board_checks.specs.run_journal.specs.Legal.{first_ident, limit_of, locked_by}
+use Rattle.board_checks.specs.desc_stores.specs.Contents.{resident_as, residents_of, Contents, LockIs}
 use Rattle.board_core.specs.store_residents.proofs.ResidentLemmas.{resident_loaded}
-use Rattle.board_core.specs.shown_state.specs.Shown.{shown}
-use Rattle.board_core.specs.desc_parents.specs.Seen.{seen}
-use Rattle.board_core.specs.desc_groups.specs.Moves.{departed_all, idents_of, MayBeLocked}
+use Rattle.board_checks.specs.shown_state.specs.Shown.{shown}
+use Rattle.board_checks.specs.desc_parents.specs.Seen.{seen}
+use Rattle.board_checks.specs.desc_groups.specs.Moves.{departed_all, idents_of, MayBeLocked}
 use Rattle.board_core.specs.group_laws.specs.Leaving.{without_all}
 use Rattle.board_core.specs.board_laws.specs.Moves.{written_back, IsLock, IsUnload}
 use Rattle.board_core.specs.board_laws.proofs.First.{first, first_there}

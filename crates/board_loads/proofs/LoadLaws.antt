@@ -16,30 +16,30 @@ use Rattle.cache_ident.specs.declared.rolls.Issued.{Issued}
 use Rattle.cache_ident.specs.Names.{amount_of, kind_of}
 use Rattle.cache_ident.specs.Residents.{with_loaded, Resident}
 use Rattle.cache_ident.specs.Rolls.{just_issued}
-use Rattle.depend_lists.specs.declared.nodes.Node.{Node}
-use Rattle.flat_state.specs.Dependence.{Depends}
-use Rattle.flat_state.specs.Names.{is_fit_name, stands}
-use Rattle.flat_state.specs.Events.{after_events}
-use Rattle.flat_state.specs.State.{FlatState}
-use Rattle.run_journal.specs.declared.entries.Entry.TheVariants.{Loaded}
-use Rattle.run_journal.specs.Groups.{HasParents, IsGroup}
-use Rattle.run_journal.specs.Legal.{count_of, IsTaken}
+use Rattle.board_checks.specs.depend_lists.specs.declared.nodes.Node.{Node}
+use Rattle.board_checks.specs.flat_state.specs.Dependence.{Depends}
+use Rattle.board_checks.specs.flat_state.specs.Names.{is_fit_name, stands}
+use Rattle.board_checks.specs.flat_state.specs.Events.{after_events}
+use Rattle.board_checks.specs.flat_state.specs.State.{FlatState}
+use Rattle.board_checks.specs.run_journal.specs.declared.entries.Entry.TheVariants.{Loaded}
+use Rattle.board_checks.specs.run_journal.specs.Groups.{HasParents, IsGroup}
+use Rattle.board_checks.specs.run_journal.specs.Legal.{count_of, IsTaken}
 use Rattle.board_core.specs.group_laws.specs.Leaving.{without_all}
-use Rattle.board_core.specs.desc_stores.specs.Contents.{content_of, residents_of, Contents, IsFullOf, IsShelved}
-use Rattle.board_core.specs.shown_state.proofs.LookupLemmas.{name_stands}
+use Rattle.board_checks.specs.desc_stores.specs.Contents.{content_of, residents_of, Contents, IsFullOf, IsShelved}
+use Rattle.board_checks.specs.shown_state.proofs.LookupLemmas.{name_stands}
 use Rattle.board_core.specs.store_residents.specs.Victims.{IsOldest}
 use Rattle.board_core.specs.store_residents.proofs.ContentLemmas.{shelved_iff}
 use Rattle.board_core.specs.store_residents.proofs.SlotLaws.{full_iff}
-use Rattle.board_core.specs.desc_parents.specs.Seen.{seen}
-use Rattle.board_core.specs.desc_groups.specs.declared.departures.Gone.{Gone}
-use Rattle.board_core.specs.desc_groups.specs.Moves.{departed_all, idents_of}
-use Rattle.board_core.specs.desc_tables.specs.May.{MayBeLoaded}
-use Rattle.board_core.specs.desc_tables.specs.Tables.{AreSound, Held}
+use Rattle.board_checks.specs.desc_parents.specs.Seen.{seen}
+use Rattle.board_checks.specs.desc_groups.specs.declared.departures.Gone.{Gone}
+use Rattle.board_checks.specs.desc_groups.specs.Moves.{departed_all, idents_of}
+use Rattle.board_checks.specs.desc_tables.specs.May.{MayBeLoaded}
+use Rattle.board_checks.specs.desc_tables.specs.Tables.{AreSound, Held}
 use Rattle.board_core.specs.board_laws.specs.Moves.{written_back, IsLoad}
 use Rattle.board_core.specs.cached_machine.specs.Cached.{state_of}
 use Rattle.board_core.specs.cached_machine.specs.Posts.{mark_of, HasLoadedMarks}
 use Rattle.board_core.specs.board_laws.proofs.Growing.{formed_told}
-use Rattle.board_core.specs.board_ops.specs.declared.refusals.Refused.{Refused}
+use Rattle.board_checks.specs.board_ops.specs.declared.refusals.Refused.{Refused}
 use Rattle.board_checks.specs.Facts.{IsFormed}
 use Rattle.board_checks.specs.Identifiers.{space_as}
 use Rattle.board_checks.specs.Keeps.{IsLoadableBeside}

@@ -5,7 +5,7 @@ use Rattle.std.specs.Option.{option_or}
 use Rattle.std.specs.Result.{result_err}
 use Rattle.cache_ident.specs.declared.idents.Ident.{Ident}
 use Rattle.cache_ident.specs.declared.idents.Kind.TheVariants as kind
-use Rattle.board_core.specs.board_ops.specs.declared.refusals.Refused.{Refused}
+use Rattle.board_checks.specs.board_ops.specs.declared.refusals.Refused.{Refused}
 use Rattle.board_checks.specs.Identifiers.{not_a}
 use Rattle.board_checks.proofs.WhyLaws.{kernel_live}
 use Rattle.board_core.specs.Core.{contents_of, IsSound, Recorded}

@@ -3,12 +3,12 @@ use Rattle.std.specs.Prelude.{◌≡◌, ℕ, ◌≤◌, Bool, true, false, if�
 use Rattle.cache_ident.specs.declared.idents.Cause.TheVariants.{Unloaded}
 use Rattle.cache_ident.specs.declared.idents.Ident.{Ident}
 use Rattle.cache_ident.specs.Residents.{Resident, with_lock}
-use Rattle.run_journal.specs.declared.entries.Entry.{Entry}
-use Rattle.run_journal.specs.declared.entries.Entry.TheVariants.{Locked, Unlocked}
-use Rattle.run_journal.specs.Groups.{IsGroup}
-use Rattle.board_core.specs.desc_stores.specs.Contents.{residents_of}
-use Rattle.board_core.specs.desc_parents.specs.Seen.{seen}
-use Rattle.board_core.specs.desc_groups.specs.Moves.{departed_all, gone_as, idents_of}
+use Rattle.board_checks.specs.run_journal.specs.declared.entries.Entry.{Entry}
+use Rattle.board_checks.specs.run_journal.specs.declared.entries.Entry.TheVariants.{Locked, Unlocked}
+use Rattle.board_checks.specs.run_journal.specs.Groups.{IsGroup}
+use Rattle.board_checks.specs.desc_stores.specs.Contents.{residents_of}
+use Rattle.board_checks.specs.desc_parents.specs.Seen.{seen}
+use Rattle.board_checks.specs.desc_groups.specs.Moves.{departed_all, gone_as, idents_of}
 use Rattle.board_core.specs.group_laws.specs.Leaving.{without_all}
 use Rattle.board_core.specs.board_laws.specs.Moves.{written_back}
 use Rattle.board_core.specs.cached_machine.specs.Cached.{state_of}

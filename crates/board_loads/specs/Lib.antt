@@ -1,2 +1,9 @@
+pub use Rattle.board_checks.specs.desc_parents
+pub use Rattle.board_checks.specs.flat_state
+pub use Rattle.board_checks.specs.kind_store
+pub use Rattle.board_checks.specs.thread_cache
+pub use Rattle.board_checks.specs.space_cache
+pub use Rattle.board_checks.specs.kernel_cache
+pub use Rattle.board_core.specs.signal_pages
 pub mod Loads
 pub mod Holds

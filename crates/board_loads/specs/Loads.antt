@@ -5,10 +5,10 @@ use Rattle.cache_ident.specs.declared.names.Name.{Name}
 use Rattle.cache_ident.specs.declared.names.Name.TheVariants.{Thread}
 use Rattle.cache_ident.specs.declared.names.ThreadNo.{ThreadNo}
 use Rattle.cache_ident.specs.Residents.{Resident, IsResident}
-use Rattle.run_journal.specs.declared.entries.Entry.TheVariants.{Loaded}
+use Rattle.board_checks.specs.run_journal.specs.declared.entries.Entry.TheVariants.{Loaded}
 use Rattle.board_checks.specs.Keeps.{IsAbove}
-use Rattle.board_core.specs.desc_stores.specs.Contents.{residents_of}
-use Rattle.board_core.specs.desc_tables.specs.May.{MayBeLoaded}
+use Rattle.board_checks.specs.desc_stores.specs.Contents.{residents_of}
+use Rattle.board_checks.specs.desc_tables.specs.May.{MayBeLoaded}
 use Rattle.board_core.specs.board_laws.specs.Moves.{written_back, IsLoad}
 use Rattle.board_core.specs.cached_machine.specs.Cached.{state_of}
 use Rattle.board_core.specs.cached_machine.specs.Posts.{mark_of, HasLoadedMarks}

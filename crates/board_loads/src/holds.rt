@@ -1,7 +1,7 @@
 //! Unloads and locks.
 
 ghost use Rattle.std.specs.Prelude.{◌≡◌, ◌≢◌, ◌<◌, false, true, None, IfErr, OnOk};
-ghost use Rattle.board_core.specs.board_ops.specs.declared.refusals.Refused.TheVariants.{NoMemory};
+ghost use Rattle.board_checks.specs.board_ops.specs.declared.refusals.Refused.TheVariants.{NoMemory};
 ghost use Rattle.board_checks.specs.Refusals.{refusal_of_lock, refusal_of_unload, refusal_of_unlock};
 ghost use Rattle.board_core.specs.Answers.{HasCallRoom, IsRefused};
 ghost use Rattle.board_core.specs.Core.{contents_of};

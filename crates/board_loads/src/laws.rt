@@ -2,7 +2,7 @@
 
 ghost use Rattle.std.specs.Prelude.{ℕ, Bool, length};
 ghost use Rattle.cache_ident.specs.declared.idents.Ident.{Ident};
-ghost use Rattle.board_core.specs.desc_stores.specs.Contents.{LockIs};
+ghost use Rattle.board_checks.specs.desc_stores.specs.Contents.{LockIs};
 ghost use Rattle.board_core.specs.board_laws.specs.Moves.{IsUnload};
 ghost use Rattle.board_core.specs.Core.{contents_of, Recorded};
 ghost use Rattle.board_core.specs.Growth.{GrowsBy};

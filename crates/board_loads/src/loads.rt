@@ -6,7 +6,7 @@ ghost use Rattle.std.specs.Prelude.{◌≡◌, ◌≢◌, ◌<◌, true, None, S
 ghost use Rattle.std.specs.Result.{result_err};
 ghost use Rattle.cache_ident.specs.declared.names.Name.{Name};
 ghost use Rattle.cache_ident.specs.declared.names.SpaceNo.{SpaceNo};
-ghost use Rattle.board_core.specs.board_ops.specs.declared.refusals.Refused.TheVariants.{NoMemory};
+ghost use Rattle.board_checks.specs.board_ops.specs.declared.refusals.Refused.TheVariants.{NoMemory};
 ghost use Rattle.board_checks.specs.Identifiers.{space_as};
 ghost use Rattle.board_checks.specs.Keeps.{IsLoadableBeside};
 ghost use Rattle.board_checks.specs.Refusals.{refusal_of_load_kernel, refusal_of_load_mapping, refusal_of_load_space, refusal_of_load_thread};

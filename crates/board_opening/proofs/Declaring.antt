@@ -10,10 +10,10 @@ use Rattle.flat_state.specs.declared.events.Machine.{Machine}
 use Rattle.flat_state.specs.State.{FlatState, nothing_declared}
 use Rattle.flat_state.specs.Declaration.{broken_rule, declared, rule_of_machine}
 use Rattle.flat_state.specs.Events.{after_events, declared_unless, AllFit}
-use Rattle.run_journal.specs.declared.entries.Entry.{Entry}
-use Rattle.run_journal.specs.declared.entries.Entry.TheVariants.{Declared}
-use Rattle.run_journal.specs.Entries.{erase}
-use Rattle.run_journal.specs.Told.{told}
+use Rattle.cache_board.specs.run_journal.specs.declared.entries.Entry.{Entry}
+use Rattle.cache_board.specs.run_journal.specs.declared.entries.Entry.TheVariants.{Declared}
+use Rattle.cache_board.specs.run_journal.specs.Entries.{erase}
+use Rattle.cache_board.specs.run_journal.specs.Told.{told}
 use Rattle.cache_board.specs.board_ops.specs.declared.refusals.Refused.{Refused}
 use Rattle.cache_board.specs.board_ops.specs.declared.refusals.Refused.TheVariants as why
 use Rattle.cache_board.specs.cached_machine.specs.Cached.{state_of}

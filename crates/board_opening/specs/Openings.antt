@@ -3,7 +3,7 @@ use Rattle.std.specs.Prelude.{◌≡◌, ℕ, false, List, [], ◌∷◌}
 use Rattle.flat_state.specs.declared.events.Decl.{Decl}
 use Rattle.flat_state.specs.declared.events.Decl.TheVariants as decls
 use Rattle.flat_state.specs.declared.events.Machine.{Machine}
-use Rattle.run_journal.specs.declared.entries.Entry.TheVariants.{Declared}
+use Rattle.cache_board.specs.run_journal.specs.declared.entries.Entry.TheVariants.{Declared}
 use Rattle.cache_board.specs.board_core.specs.Core.{IsSound, Recorded}
 use Rattle.cache_board.specs.board_calls.specs.Calls.{IsDeclaring}
 

@@ -26,12 +26,12 @@ use Rattle.slot_cache.specs.declared.loaded.Loaded.{Loaded}
 use Rattle.slot_cache.specs.Cells.{cell_at, loaded_in, HasExactlyLoaded}
 use Rattle.thread_cache.specs.Threads as thread_rec
 use Rattle.thread_cache.specs.declared.ThreadRec.{ThreadRec}
-use Rattle.board_core.specs.desc_stores.specs.declared.items.Item.TheVariants as item
-use Rattle.board_core.specs.desc_stores.specs.Contents.{content_of, resident_of, residents_of}
-use Rattle.board_core.specs.desc_stores.specs.Sound.{IsExactlyOne}
-use Rattle.board_core.specs.desc_stores.proofs.PutLemmas.{loaded_content}
-use Rattle.board_core.specs.shown_state.specs.Found.{AreFound}
-use Rattle.board_core.specs.shown_state.specs.Shown.{flat_thread, shown, thread_of}
+use Rattle.board_checks.specs.desc_stores.specs.declared.items.Item.TheVariants as item
+use Rattle.board_checks.specs.desc_stores.specs.Contents.{content_of, resident_of, residents_of}
+use Rattle.board_checks.specs.desc_stores.specs.Sound.{IsExactlyOne}
+use Rattle.board_checks.specs.desc_stores.proofs.PutLemmas.{loaded_content}
+use Rattle.board_checks.specs.shown_state.specs.Found.{AreFound}
+use Rattle.board_checks.specs.shown_state.specs.Shown.{flat_thread, shown, thread_of}
 use Rattle.board_core.specs.store_residents.specs.Slots.{resident_at}
 use Rattle.board_core.specs.store_residents.proofs.ResidentLemmas.{resident_kind, resident_seat, seat_resident}
 use Rattle.board_core.specs.thread_sets.specs.SetsOf.{takes_steps}

@@ -25,18 +25,18 @@ use Rattle.flat_state.specs.Signals.{full_among, is_runnable, next_action, next_
 use Rattle.flat_state.specs.State.{FlatState, is_ready}
 use Rattle.flat_state.specs.Translation.{reached, rights_of, row_through}
 use Rattle.flat_state.proofs.Translating.{translation-pages}
-use Rattle.flat_laws.proofs.Members.{is_some-option_map}
-use Rattle.flat_laws.proofs.RowMarks.{fetches_through}
+use Rattle.board_checks.specs.flat_laws.proofs.Members.{is_some-option_map}
+use Rattle.board_checks.specs.flat_laws.proofs.RowMarks.{fetches_through}
 use Rattle.flat_rules.specs.Looking.{does_any_miss}
 use Rattle.flat_rules.proofs.Missing.{faults_decoded, miss-store}
-use Rattle.run_journal.specs.Legal.{IsRowResident, MayStep}
+use Rattle.board_checks.specs.run_journal.specs.Legal.{IsRowResident, MayStep}
 use Rattle.thread_cache.specs.declared.ThreadRec.{ThreadRec}
-use Rattle.board_core.specs.desc_stores.specs.declared.items.Item.{Item}
-use Rattle.board_core.specs.desc_stores.specs.declared.items.Item.TheVariants as item
-use Rattle.board_core.specs.desc_stores.specs.Contents.{item_as, residents_of, Contents}
-use Rattle.board_core.specs.shown_state.specs.Shown.{flat_thread, thread_of}
-use Rattle.board_core.specs.board_ops.specs.declared.refusals.Refused.{Refused}
-use Rattle.board_core.specs.board_ops.specs.declared.refusals.Refused.TheVariants as why
+use Rattle.board_checks.specs.desc_stores.specs.declared.items.Item.{Item}
+use Rattle.board_checks.specs.desc_stores.specs.declared.items.Item.TheVariants as item
+use Rattle.board_checks.specs.desc_stores.specs.Contents.{item_as, residents_of, Contents}
+use Rattle.board_checks.specs.shown_state.specs.Shown.{flat_thread, thread_of}
+use Rattle.board_checks.specs.board_ops.specs.declared.refusals.Refused.{Refused}
+use Rattle.board_checks.specs.board_ops.specs.declared.refusals.Refused.TheVariants as why
 use Rattle.board_checks.specs.Identifiers.{thread_as}
 use Rattle.board_checks.specs.Refusals.{refusal_of_thread}
 use Rattle.board_core.specs.cached_machine.specs.Cached.{is_loaded, state_of}

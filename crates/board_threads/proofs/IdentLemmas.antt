@@ -14,21 +14,21 @@ use Rattle.cache_ident.specs.declared.names.Vpn.{Vpn}
 use Rattle.cache_ident.specs.Names.{kind_of}
 use Rattle.cache_ident.specs.Residents.{Resident, IsNameResident, IsResident}
 use Rattle.phys_groups.specs.declared.rows.Row.{Row}
-use Rattle.run_journal.specs.Legal.{is_kind}
+use Rattle.board_checks.specs.run_journal.specs.Legal.{is_kind}
 use Rattle.slot_cache.specs.Rows.{row_name}
 use Rattle.thread_cache.specs.Threads as thread_rec
 use Rattle.thread_cache.specs.declared.ThreadRec.{ThreadRec}
-use Rattle.kind_store.specs.Kept as stored
-use Rattle.board_core.specs.desc_stores.specs.declared.items.Item.{Item}
-use Rattle.board_core.specs.desc_stores.specs.declared.items.Item.TheVariants as item
-use Rattle.board_core.specs.desc_stores.specs.declared.items.ItemRef.{ItemRef}
-use Rattle.board_core.specs.desc_stores.specs.declared.items.ItemRef.TheVariants as ref
-use Rattle.board_core.specs.desc_stores.specs.Contents.{content_of, item_as, residents_of, Contents}
-use Rattle.board_core.specs.desc_stores.specs.Items.{name_of, shown}
-use Rattle.board_core.specs.desc_stores.specs.Sound.{IsExactlyOne}
+use Rattle.board_checks.specs.kind_store.specs.Kept as stored
+use Rattle.board_checks.specs.desc_stores.specs.declared.items.Item.{Item}
+use Rattle.board_checks.specs.desc_stores.specs.declared.items.Item.TheVariants as item
+use Rattle.board_checks.specs.desc_stores.specs.declared.items.ItemRef.{ItemRef}
+use Rattle.board_checks.specs.desc_stores.specs.declared.items.ItemRef.TheVariants as ref
+use Rattle.board_checks.specs.desc_stores.specs.Contents.{content_of, item_as, residents_of, Contents}
+use Rattle.board_checks.specs.desc_stores.specs.Items.{name_of, shown}
+use Rattle.board_checks.specs.desc_stores.specs.Sound.{IsExactlyOne}
 use Rattle.board_core.specs.store_residents.proofs.ContentLemmas.{resident_content, resident_item}
 use Rattle.board_core.specs.store_residents.proofs.ResidentLemmas.{live_iff, one_each, resident_kind}
-use Rattle.board_core.specs.board_ops.specs.declared.refusals.Refused.TheVariants as why
+use Rattle.board_checks.specs.board_ops.specs.declared.refusals.Refused.TheVariants as why
 use Rattle.board_checks.specs.Identifiers.{gone_by, not_a, not_live, wrong_kind}
 use Rattle.board_checks.proofs.IdentifierLemmas.{item_resident}
 use Rattle.board_core.specs.cached_machine.specs.Cached.{is_loaded}

@@ -5,17 +5,17 @@ use Rattle.cache_ident.specs.declared.names.Name.{Name}
 use Rattle.cache_ident.specs.declared.names.ThreadNo.{ThreadNo}
 use Rattle.cache_ident.specs.declared.names.Vpn.{Vpn}
 use Rattle.phys_groups.specs.declared.rows.Row.{Row}
-use Rattle.signal_pages.specs.Signals.{is_signal_row_of, receivers_in}
+use Rattle.flat_state.specs.signal_pages.specs.Signals.{is_signal_row_of, receivers_in}
 use Rattle.flat_state.specs.declared.records.FlatThread.{FlatThread}
 use Rattle.flat_state.specs.declared.records.Signal.{Signal}
 use Rattle.flat_state.specs.Signals.{full_among, full_receiver, next_signal, receivers_for, receivers_of}
 use Rattle.flat_state.specs.State.{FlatState}
 use Rattle.flat_state.specs.Translation.{is_fit_row}
 use Rattle.flat_rules.proofs.Known.{receivers-of-signal-rows}
-use Rattle.row_store.specs.Kept.{signal_names}
-use Rattle.board_core.specs.desc_stores.specs.Contents.{content_of}
-use Rattle.board_core.specs.shown_state.specs.Shown.{row_of_item}
-use Rattle.board_core.specs.shown_state.proofs.LookupLemmas.{signals_listed}
+use Rattle.board_checks.specs.row_store.specs.Kept.{signal_names}
+use Rattle.board_checks.specs.desc_stores.specs.Contents.{content_of}
+use Rattle.board_checks.specs.shown_state.specs.Shown.{row_of_item}
+use Rattle.board_checks.specs.shown_state.proofs.LookupLemmas.{signals_listed}
 use Rattle.board_core.specs.cached_machine.specs.Cached.{state_of, Cached}
 
 module _ (s : FlatState) (none : (frame : Frame) → filter (is_signal_row_of frame) s.rows ≡ []) where

@@ -6,9 +6,9 @@ use Rattle.cache_ident.specs.declared.names.ThreadNo.{ThreadNo}
 use Rattle.cache_ident.specs.Residents.{IsNameResident, IsResident}
 use Rattle.flat_state.specs.declared.records.NextStep.{NextStep}
 use Rattle.flat_state.specs.NextSteps.{next_step}
-use Rattle.run_journal.specs.declared.entries.Entry.TheVariants.{Ended}
-use Rattle.run_journal.specs.Legal.{MayStep}
-use Rattle.board_core.specs.desc_stores.specs.Contents.{residents_of}
+use Rattle.board_checks.specs.run_journal.specs.declared.entries.Entry.TheVariants.{Ended}
+use Rattle.board_checks.specs.run_journal.specs.Legal.{MayStep}
+use Rattle.board_checks.specs.desc_stores.specs.Contents.{residents_of}
 use Rattle.board_core.specs.board_laws.specs.Moves.{KeepsLoaded}
 use Rattle.board_core.specs.cached_machine.specs.Cached.{state_of}
 use Rattle.board_core.specs.cached_machine.specs.Posts.{mark_of, HasSameMarks}

@@ -4,7 +4,7 @@ use Rattle.cache_ident.specs.declared.names.Name.TheVariants as name
 use Rattle.cache_ident.specs.declared.names.ThreadNo.{ThreadNo}
 use Rattle.cache_ident.specs.Residents.{IsResident}
 use Rattle.flat_rules.specs.Readings.{OfThread}
-use Rattle.board_core.specs.desc_stores.specs.Contents.{residents_of}
+use Rattle.board_checks.specs.desc_stores.specs.Contents.{residents_of}
 use Rattle.board_core.specs.cached_machine.specs.Cached.{state_of}
 use Rattle.board_core.specs.cached_machine.specs.Posts.{but_at, last_of, mark_of, OnlyPosts}
 use Rattle.board_core.specs.Core.{contents_of, Recorded}

@@ -7,9 +7,9 @@ use Rattle.cache_ident.specs.declared.names.Name.TheVariants as name
 use Rattle.flat_state.specs.declared.records.FlatThread.{FlatThread}
 use Rattle.flat_state.specs.declared.records.NextStep.{NextStep}
 use Rattle.flat_state.specs.NextSteps.{next_step_of}
-use Rattle.board_core.specs.desc_stores.specs.Contents.{Contents}
-use Rattle.board_core.specs.board_ops.specs.declared.refusals.Refused.{Refused}
-use Rattle.board_core.specs.board_ops.specs.declared.refusals.Refused.TheVariants as why
+use Rattle.board_checks.specs.desc_stores.specs.Contents.{Contents}
+use Rattle.board_checks.specs.board_ops.specs.declared.refusals.Refused.{Refused}
+use Rattle.board_checks.specs.board_ops.specs.declared.refusals.Refused.TheVariants as why
 use Rattle.board_checks.specs.Identifiers.{thread_as}
 use Rattle.board_checks.specs.Refusals.{refusal_of_thread}
 use Rattle.board_core.specs.cached_machine.specs.Cached.{is_loaded, state_of}

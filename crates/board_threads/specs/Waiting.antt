@@ -11,7 +11,7 @@ use Rattle.thread_cache.specs.declared.ThreadRec.{ThreadRec}
 use Rattle.board_core.specs.thread_sets.specs.SetsOf.{takes_steps}
 use Rattle.ready_queue.specs.declared.Candidate.{Candidate}
 use Rattle.ready_queue.specs.Choice.{is_before}
-use Rattle.board_core.specs.desc_stores.specs.Contents.{residents_of}
+use Rattle.board_checks.specs.desc_stores.specs.Contents.{residents_of}
 use Rattle.board_core.specs.cached_machine.specs.Cached.{state_of}
 use Rattle.board_core.specs.cached_machine.specs.Posts.{last_of, mark_of}
 use Rattle.board_core.specs.Core.{contents_of, Recorded}

@@ -4,8 +4,8 @@ ghost use Rattle.std.specs.Prelude.{◌≡◌, ◌<◌, ◌≤◌, ◌↔◌, �
 ghost use Rattle.std.specs.List.Sorted.{IsSortedBy};
 ghost use Rattle.cache_ident.specs.declared.names.ThreadNo.{ThreadNo};
 ghost use Rattle.cache_ident.specs.Residents.{IsNameResident, IsResident};
-ghost use Rattle.board_core.specs.desc_stores.specs.Contents.{residents_of};
-ghost use Rattle.board_core.specs.shown_state.specs.Shown.{flat_thread};
+ghost use Rattle.board_checks.specs.desc_stores.specs.Contents.{residents_of};
+ghost use Rattle.board_checks.specs.shown_state.specs.Shown.{flat_thread};
 ghost use Rattle.board_core.specs.thread_sets.specs.SetsOf.{takes_steps};
 ghost use Rattle.ready_queue.specs.declared.Candidate.{Candidate};
 ghost use Rattle.ready_queue.specs.Choice.{is_before};

@@ -3,8 +3,8 @@
 ghost use Rattle.std.specs.Prelude.{◌≡◌, ◌≢◌, ◌<◌, None, Some, if◌then◌else◌, IfErr, IfOk, OnOk};
 ghost use Rattle.std.specs.Result.{result_err};
 ghost use Rattle.cache_ident.specs.Residents.{IsResident};
-ghost use Rattle.board_core.specs.desc_stores.specs.Contents.{residents_of};
-ghost use Rattle.board_core.specs.board_ops.specs.declared.refusals.Refused.TheVariants.{NoMemory, NotLoaded};
+ghost use Rattle.board_checks.specs.desc_stores.specs.Contents.{residents_of};
+ghost use Rattle.board_checks.specs.board_ops.specs.declared.refusals.Refused.TheVariants.{NoMemory, NotLoaded};
 ghost use Rattle.board_core.specs.cached_machine.specs.Cached.{is_loaded as is_loaded_def};
 ghost use Rattle.board_core.specs.Answers.{HasCallRoom, IsRefused};
 ghost use Rattle.board_core.specs.Core.{contents_of};

@@ -10,16 +10,16 @@ use Rattle.cache_ident.specs.Rolls.{standing_in}
 use Rattle.rv32_exec.specs.declared.contexts.Context.{Context}
 use Rattle.flat_state.specs.declared.records.FlatThread.{FlatThread}
 use Rattle.page_views.specs.Views.{View}
-use Rattle.board_core.specs.board_ops.specs.declared.refusals.Refused.{Refused}
-use Rattle.board_core.specs.board_ops.specs.declared.refusals.Refused.TheVariants as why
-use Rattle.board_core.specs.desc_stores.specs.Contents.{Contents}
-use Rattle.board_core.specs.cached_machine.specs.Posts.{mark_of}
-use Rattle.board_core.specs.quantum.specs.Ahead.{Ahead}
-use Rattle.board_core.specs.Core.{contents_of, Recorded}
-use Rattle.board_core.specs.Refusals.{over}
-use Rattle.board_checks.specs.Identifiers.{gone_by, not_live, thread_as}
-use Rattle.board_threads.specs.declared.tickets.Ticket.{Ticket}
-use Rattle.board_commits.specs.Refusals.{changed, is_changed, is_gone, is_in_place, moved, not_loaded, refusal_of_commit}
+use Rattle.cache_board.specs.board_ops.specs.declared.refusals.Refused.{Refused}
+use Rattle.cache_board.specs.board_ops.specs.declared.refusals.Refused.TheVariants as why
+use Rattle.cache_board.specs.desc_stores.specs.Contents.{Contents}
+use Rattle.cache_board.specs.cached_machine.specs.Posts.{mark_of}
+use Rattle.quantum.specs.Ahead.{Ahead}
+use Rattle.cache_board.specs.board_core.specs.Core.{contents_of, Recorded}
+use Rattle.cache_board.specs.board_core.specs.Refusals.{over}
+use Rattle.cache_board.specs.board_checks.specs.Identifiers.{gone_by, not_live, thread_as}
+use Rattle.cache_board.specs.board_threads.specs.declared.tickets.Ticket.{Ticket}
+use Rattle.cache_board.specs.board_commits.specs.Refusals.{changed, is_changed, is_gone, is_in_place, moved, not_loaded, refusal_of_commit}
 
 -- of two tests one gave it
 either : (a b : Option Refused) (x : Refused) → option_or a b ≡ Some x → (a ≡ Some x) ⊎ (b ≡ Some x)

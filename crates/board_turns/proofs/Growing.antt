@@ -1,7 +1,7 @@
 -- What an event leaves of what is left.
 use Rattle.std.proofs.Common.{ℕ, ◌+◌, ◌≤◌}
-use Rattle.board_core.specs.Core.{Recorded}
-use Rattle.board_core.specs.Going.{IsOneEvent}
+use Rattle.cache_board.specs.board_core.specs.Core.{Recorded}
+use Rattle.cache_board.specs.board_core.specs.Going.{IsOneEvent}
 use Rattle.app_kernel.specs.owner_ports.proofs.Gaining.{call_gains, event_gains}
 use Rattle.board_turns.specs.Turning.{HasGrown}
 

@@ -2,11 +2,11 @@
 use Rattle.std.proofs.Common.{List, subst}
 use mathlib.Core.List.{IsPrefix}
 use Rattle.cache_ident.specs.declared.idents.Ident.{Ident}
-use Rattle.run_journal.specs.declared.entries.Entry.{Entry}
-use Rattle.board_core.specs.quantum.specs.Ahead.{Ahead}
-use Rattle.board_commits.specs.Tickets.{AreAllAsOf, AreOfTicket}
-use Rattle.board_commits.proofs.KeptLaws.{kept_stays}
-use Rattle.board_commits.proofs.TicketLaws.{views_stay}
+use Rattle.cache_board.specs.run_journal.specs.declared.entries.Entry.{Entry}
+use Rattle.quantum.specs.Ahead.{Ahead}
+use Rattle.cache_board.specs.board_commits.specs.Tickets.{AreAllAsOf, AreOfTicket}
+use Rattle.cache_board.specs.board_commits.proofs.KeptLaws.{kept_stays}
+use Rattle.cache_board.specs.board_commits.proofs.TicketLaws.{views_stay}
 
 module _ (j k : List Entry) (a : Ahead) (begins : IsPrefix j k) where
   pub kept_later : AreAllAsOf j a → AreAllAsOf k a

@@ -10,19 +10,19 @@ use Rattle.flat_state.specs.Call.{is_completable}
 use Rattle.flat_state.specs.Events.{flat}
 use Rattle.flat_state.specs.Signals.{is_runnable}
 use Rattle.flat_state.specs.State.{FlatState}
-use Rattle.run_journal.specs.Entries.{erase}
+use Rattle.cache_board.specs.run_journal.specs.Entries.{erase}
 use Rattle.cache_board.proofs.PastLaws.{shows_residents, shows_flat}
-use Rattle.board_core.specs.desc_stores.specs.Contents.{residents_of}
-use Rattle.board_core.specs.cached_machine.specs.Cached.{is_loaded, state_of}
-use Rattle.board_core.specs.cached_machine.proofs.LoadedLaws.{loaded_by}
-use Rattle.board_core.specs.Core.{contents_of, IsSound, Recorded}
-use Rattle.board_core.specs.Going.{IsOneEvent}
-use Rattle.board_core.proofs.GoingLaws.{grew_nothing}
-use Rattle.board_threads.specs.Tests.{goes_on, passes, IsWanted}
+use Rattle.cache_board.specs.desc_stores.specs.Contents.{residents_of}
+use Rattle.cache_board.specs.cached_machine.specs.Cached.{is_loaded, state_of}
+use Rattle.cache_board.specs.cached_machine.proofs.LoadedLaws.{loaded_by}
+use Rattle.cache_board.specs.board_core.specs.Core.{contents_of, IsSound, Recorded}
+use Rattle.cache_board.specs.board_core.specs.Going.{IsOneEvent}
+use Rattle.cache_board.specs.board_core.proofs.GoingLaws.{grew_nothing}
+use Rattle.cache_board.specs.board_threads.specs.Tests.{goes_on, passes, IsWanted}
 use Rattle.board_turns.specs.declared.found.Found.{Found}
 use Rattle.board_turns.specs.declared.found.Found.TheVariants.{Out, Wanted, Nothing, Over}
-use Rattle.board_core.specs.quantum.specs.Ahead.{Ahead}
-use Rattle.board_threads.specs.declared.tickets.Ticket.{Ticket}
+use Rattle.quantum.specs.Ahead.{Ahead}
+use Rattle.cache_board.specs.board_threads.specs.declared.tickets.Ticket.{Ticket}
 use Rattle.board_turns.specs.Holds.{AreTaken, HasLookedIf}
 use Rattle.board_turns.specs.Looks.{settled_on, HasLooked, IsFound, IsIdle, IsSoAlone, IsSoWhere}
 

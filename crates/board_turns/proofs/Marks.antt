@@ -5,19 +5,19 @@ use Rattle.std.proofs.lemmas.Bool.{eq-eqb, eqb-true}
 use Rattle.cache_ident.specs.declared.names.Name.TheVariants as name
 use Rattle.cache_ident.specs.declared.names.ThreadNo.{ThreadNo}
 use Rattle.cache_ident.specs.Residents.{Resident, IsResident}
-use Rattle.board_core.specs.board_ops.specs.declared.refusals.Refused.{Refused}
-use Rattle.board_core.specs.cached_machine.specs.Posts.{but_at, mark_of}
-use Rattle.board_core.specs.quantum.specs.Ahead.{Ahead}
-use Rattle.board_core.specs.Answers.{IsRefused}
-use Rattle.board_core.specs.Core.{contents_of, IsSound, Recorded}
-use Rattle.board_core.specs.Going.{GoesOn}
-use Rattle.board_core.specs.Growth.{IsRoomMade}
-use Rattle.board_core.proofs.SoundLaws.{loaded_marks}
-use Rattle.board_threads.specs.declared.tickets.Ticket.{Ticket}
-use Rattle.board_threads.proofs.IdentLemmas.{one_thread}
-use Rattle.board_commits.specs.Commits.{IsCommitted}
-use Rattle.board_heal.specs.Healed.{IsHealed}
-use Rattle.board_heal.specs.Refusals.{refusal_of_heal}
+use Rattle.cache_board.specs.board_ops.specs.declared.refusals.Refused.{Refused}
+use Rattle.cache_board.specs.cached_machine.specs.Posts.{but_at, mark_of}
+use Rattle.quantum.specs.Ahead.{Ahead}
+use Rattle.cache_board.specs.board_core.specs.Answers.{IsRefused}
+use Rattle.cache_board.specs.board_core.specs.Core.{contents_of, IsSound, Recorded}
+use Rattle.cache_board.specs.board_core.specs.Going.{GoesOn}
+use Rattle.cache_board.specs.board_core.specs.Growth.{IsRoomMade}
+use Rattle.cache_board.specs.board_core.proofs.SoundLaws.{loaded_marks}
+use Rattle.cache_board.specs.board_threads.specs.declared.tickets.Ticket.{Ticket}
+use Rattle.cache_board.specs.board_threads.proofs.IdentLemmas.{one_thread}
+use Rattle.cache_board.specs.board_commits.specs.Commits.{IsCommitted}
+use Rattle.cache_board.specs.board_heal.specs.Healed.{IsHealed}
+use Rattle.cache_board.specs.board_heal.specs.Refusals.{refusal_of_heal}
 use Rattle.board_turns.specs.Holds.{HasLeft}
 use Rattle.board_turns.specs.Looks.{IsOut}
 use Rattle.board_turns.specs.Turning.{IsOutAlone, IsUnmarked}

@@ -19,16 +19,16 @@ use Rattle.app_kernel.specs.owners.specs.Owning.{AreOwnersOf}
 use Rattle.app_kernel.specs.owner_laws.proofs.Naming.{owners_stay}
 use Rattle.app_kernel.specs.owner_ports.specs.Brought.{HasGained, IsCalledOn}
 use Rattle.app_kernel.specs.answer_laws.proofs.Running.{somebody_waits, steps_left}
-use Rattle.board_core.specs.board_ops.specs.declared.refusals.Refused.{Refused}
-use Rattle.board_core.specs.board_ops.specs.declared.refusals.Refused.TheVariants as why
-use Rattle.board_core.specs.cached_machine.specs.Cached.{is_loaded, state_of}
-use Rattle.board_core.specs.quantum.specs.Ahead.{Ahead}
-use Rattle.board_core.specs.Core.{contents_of, IsSound, Recorded}
-use Rattle.board_core.proofs.AheadLaws.{same_posted}
-use Rattle.board_threads.specs.declared.tickets.Ticket.{Ticket}
-use Rattle.board_threads.specs.Tests.{completes, goes_on, wants_load, IsWanted}
-use Rattle.board_threads.proofs.SettleLemmas.{found_by}
-use Rattle.board_heal.specs.Promise.{IsHealable}
+use Rattle.cache_board.specs.board_ops.specs.declared.refusals.Refused.{Refused}
+use Rattle.cache_board.specs.board_ops.specs.declared.refusals.Refused.TheVariants as why
+use Rattle.cache_board.specs.cached_machine.specs.Cached.{is_loaded, state_of}
+use Rattle.quantum.specs.Ahead.{Ahead}
+use Rattle.cache_board.specs.board_core.specs.Core.{contents_of, IsSound, Recorded}
+use Rattle.cache_board.specs.board_core.proofs.AheadLaws.{same_posted}
+use Rattle.cache_board.specs.board_threads.specs.declared.tickets.Ticket.{Ticket}
+use Rattle.cache_board.specs.board_threads.specs.Tests.{completes, goes_on, wants_load, IsWanted}
+use Rattle.cache_board.specs.board_threads.proofs.SettleLemmas.{found_by}
+use Rattle.cache_board.specs.board_heal.specs.Promise.{IsHealable}
 use Rattle.app_kernel.specs.reach_laws.specs.Reaching.{IsOwned}
 use Rattle.board_turns.specs.declared.committed.Committed.{Committed}
 use Rattle.board_turns.specs.declared.committed.Committed.TheVariants.{Taken, TooMany, Lost}

@@ -2,8 +2,8 @@
 use Rattle.std.proofs.Common.{◌≡◌, ◌≢◌, ℕ, ◌<◌, ◌≤◌, Bool, true, false, Option, Some, None, Result, Ok, Err, IfSome, sym, ◌∙◌, subst, inl, inr, arith}
 use Rattle.std.specs.Prelude.{OnOk}
 use Rattle.cache_ident.specs.declared.names.ThreadNo.{ThreadNo}
-use Rattle.fault_forward.specs.declared.effects.Notice.{Notice}
-use Rattle.fault_forward.specs.declared.effects.Notice.TheVariants.{Trap}
+use Rattle.flat_state.specs.fault_forward.specs.declared.effects.Notice.{Notice}
+use Rattle.flat_state.specs.fault_forward.specs.declared.effects.Notice.TheVariants.{Trap}
 use Rattle.app_kernel.specs.left_laws.specs.Left.{left}
 use Rattle.app_kernel.specs.owners.specs.Known.{Known}
 use Rattle.app_kernel.specs.owners.specs.Owning.{AreOwnersOf}
@@ -13,12 +13,12 @@ use Rattle.app_kernel.specs.declared.serving.Served.{Served}
 use Rattle.app_kernel.specs.declared.serving.Served.TheVariants.{Again}
 use Rattle.app_kernel.specs.Serving.{IsInCall, IsServed}
 use Rattle.app_kernel.proofs.Changes.{told_both, told_here, told_once, told_twice}
-use Rattle.board_core.specs.board_ops.specs.declared.refusals.Refused.{Refused}
-use Rattle.board_core.specs.board_ops.specs.declared.refusals.Refused.TheVariants as why
-use Rattle.board_core.specs.cached_machine.specs.Cached.{state_of}
-use Rattle.board_core.specs.quantum.specs.Ahead.{Ahead}
-use Rattle.board_core.specs.Core.{Recorded}
-use Rattle.board_threads.specs.declared.tickets.Ticket.{Ticket}
+use Rattle.cache_board.specs.board_ops.specs.declared.refusals.Refused.{Refused}
+use Rattle.cache_board.specs.board_ops.specs.declared.refusals.Refused.TheVariants as why
+use Rattle.cache_board.specs.cached_machine.specs.Cached.{state_of}
+use Rattle.quantum.specs.Ahead.{Ahead}
+use Rattle.cache_board.specs.board_core.specs.Core.{Recorded}
+use Rattle.cache_board.specs.board_threads.specs.declared.tickets.Ticket.{Ticket}
 use Rattle.app_kernel.specs.reach_laws.specs.Reaching.{IsOwned}
 use Rattle.board_turns.specs.declared.committed.Committed.{Committed}
 use Rattle.board_turns.specs.declared.committed.Committed.TheVariants.{Taken, TooMany, Lost}

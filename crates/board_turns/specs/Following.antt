@@ -2,8 +2,8 @@
 use Rattle.std.specs.Prelude.{ℕ}
 use Rattle.std.proofs.Common.{sym}
 use mathlib.Core.List.{IsPrefix}
-use Rattle.board_core.specs.Core.{Recorded}
-use Rattle.board_core.proofs.GoingLaws.{grew_more}
+use Rattle.cache_board.specs.board_core.specs.Core.{Recorded}
+use Rattle.cache_board.specs.board_core.proofs.GoingLaws.{grew_more}
 use Rattle.app_kernel.specs.owner_ports.specs.Brought.{HasGained, IsCalledOn}
 use Rattle.app_kernel.specs.owner_ports.specs.Following.{gains_more}
 use Rattle.board_turns.specs.Turning.{HasGrown}

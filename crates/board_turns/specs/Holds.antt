@@ -3,19 +3,19 @@ use Rattle.std.specs.Prelude.{◌≡◌, ℕ, ◌<◌, Bool, Option, Some, None,
 use Rattle.std.specs.Result.{result_err}
 use Rattle.cache_ident.specs.declared.names.ThreadNo.{ThreadNo}
 use Rattle.cache_ident.specs.declared.names.Vpn.{Vpn}
-use Rattle.board_core.specs.board_ops.specs.declared.refusals.Refused.{Refused}
-use Rattle.board_core.specs.board_ops.specs.declared.refusals.Refused.TheVariants as why
-use Rattle.board_core.specs.quantum.specs.Ahead.{Ahead}
-use Rattle.board_core.specs.Answers.{IsRefused}
-use Rattle.board_core.specs.Core.{contents_of, Recorded}
-use Rattle.board_core.specs.Growth.{IsRoomMade}
-use Rattle.board_threads.specs.declared.tickets.Ticket.{Ticket}
-use Rattle.board_threads.specs.Posts.{HasComeBack, IsOutWith, OnlyMarks}
-use Rattle.board_commits.specs.Commits.{IsCommitted, IsPaged}
-use Rattle.board_commits.specs.Refusals.{refusal_of_commit, refusal_of_page}
-use Rattle.board_heal.specs.Healed.{IsHealed}
-use Rattle.board_heal.specs.Promise.{HasStepped, IsHealable}
-use Rattle.board_heal.specs.Refusals.{refusal_of_heal}
+use Rattle.cache_board.specs.board_ops.specs.declared.refusals.Refused.{Refused}
+use Rattle.cache_board.specs.board_ops.specs.declared.refusals.Refused.TheVariants as why
+use Rattle.quantum.specs.Ahead.{Ahead}
+use Rattle.cache_board.specs.board_core.specs.Answers.{IsRefused}
+use Rattle.cache_board.specs.board_core.specs.Core.{contents_of, Recorded}
+use Rattle.cache_board.specs.board_core.specs.Growth.{IsRoomMade}
+use Rattle.cache_board.specs.board_threads.specs.declared.tickets.Ticket.{Ticket}
+use Rattle.cache_board.specs.board_threads.specs.Posts.{HasComeBack, IsOutWith, OnlyMarks}
+use Rattle.cache_board.specs.board_commits.specs.Commits.{IsCommitted, IsPaged}
+use Rattle.cache_board.specs.board_commits.specs.Refusals.{refusal_of_commit, refusal_of_page}
+use Rattle.cache_board.specs.board_heal.specs.Healed.{IsHealed}
+use Rattle.cache_board.specs.board_heal.specs.Promise.{HasStepped, IsHealable}
+use Rattle.cache_board.specs.board_heal.specs.Refusals.{refusal_of_heal}
 use Rattle.board_turns.specs.declared.committed.Committed.{Committed}
 use Rattle.board_turns.specs.declared.committed.Committed.TheVariants.{Taken, TooMany, Lost}
 use Rattle.board_turns.specs.declared.found.Found.{Found}

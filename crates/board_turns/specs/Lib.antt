@@ -1,8 +1,12 @@
-pub use Rattle.app_kernel
 pub use Rattle.app_kernel.specs.owners
-pub use Rattle.board_commits
-pub use Rattle.board_core
+pub use Rattle.cache_board.specs.board_commits
+pub use Rattle.cache_board.specs.board_core
 pub use Rattle.cache_board
+pub use Rattle.app_kernel.specs.owner_ports
+pub use Rattle.cache_board.specs.board_threads
+pub use Rattle.cache_board.specs.run_journal
+pub use Rattle.quantum
+pub use Rattle.flat_state
 pub mod Looks
 pub mod Paces
 pub mod Holds

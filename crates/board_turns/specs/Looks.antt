@@ -18,15 +18,15 @@ use Rattle.flat_state.specs.Settling.{settled_of}
 use Rattle.flat_state.specs.Signals.{is_runnable}
 use Rattle.flat_state.specs.State.{is_trapped}
 use Rattle.flat_rules.specs.Readings.{OfThread}
-use Rattle.run_journal.specs.declared.entries.Entry.{Entry}
-use Rattle.run_journal.specs.Entries.{erase}
-use Rattle.run_journal.specs.Told.{residents}
-use Rattle.board_core.specs.cached_machine.specs.Cached.{is_loaded, state_of}
-use Rattle.board_core.specs.Core.{contents_of, Recorded}
-use Rattle.board_threads.specs.declared.tickets.Ticket.{Ticket}
-use Rattle.board_threads.specs.Posts.{IsCheckedOut, IsTicketFor}
-use Rattle.board_threads.specs.Tests.{IsWanted}
-use Rattle.board_threads.specs.Waiting.{IsChosenOf, IsWaiting}
+use Rattle.cache_board.specs.run_journal.specs.declared.entries.Entry.{Entry}
+use Rattle.cache_board.specs.run_journal.specs.Entries.{erase}
+use Rattle.cache_board.specs.run_journal.specs.Told.{residents}
+use Rattle.cache_board.specs.cached_machine.specs.Cached.{is_loaded, state_of}
+use Rattle.cache_board.specs.board_core.specs.Core.{contents_of, Recorded}
+use Rattle.cache_board.specs.board_threads.specs.declared.tickets.Ticket.{Ticket}
+use Rattle.cache_board.specs.board_threads.specs.Posts.{IsCheckedOut, IsTicketFor}
+use Rattle.cache_board.specs.board_threads.specs.Tests.{IsWanted}
+use Rattle.cache_board.specs.board_threads.specs.Waiting.{IsChosenOf, IsWaiting}
 use Rattle.board_turns.specs.declared.found.Found.{Found}
 use Rattle.board_turns.specs.declared.found.Found.TheVariants.{Out, Wanted, Nothing, Over}
 

@@ -10,12 +10,12 @@ use Rattle.app_kernel.specs.left_laws.specs.Left.{left}
 use Rattle.app_kernel.specs.owner_ports.specs.Brought.{HasGained}
 use Rattle.app_kernel.specs.owners.specs.Known.{Known}
 use Rattle.app_kernel.specs.reach_laws.specs.Reaching.{IsOwned}
-use Rattle.board_core.specs.desc_stores.specs.Contents.{residents_of}
-use Rattle.board_core.specs.cached_machine.specs.Cached.{state_of}
-use Rattle.board_core.specs.cached_machine.specs.Posts.{mark_of}
-use Rattle.board_core.specs.Core.{contents_of, IsSound, Recorded}
-use Rattle.board_core.specs.Going.{Grew}
-use Rattle.board_threads.specs.declared.tickets.Ticket.{Ticket}
+use Rattle.cache_board.specs.desc_stores.specs.Contents.{residents_of}
+use Rattle.cache_board.specs.cached_machine.specs.Cached.{state_of}
+use Rattle.cache_board.specs.cached_machine.specs.Posts.{mark_of}
+use Rattle.cache_board.specs.board_core.specs.Core.{contents_of, IsSound, Recorded}
+use Rattle.cache_board.specs.board_core.specs.Going.{Grew}
+use Rattle.cache_board.specs.board_threads.specs.declared.tickets.Ticket.{Ticket}
 use Rattle.board_turns.specs.declared.committed.Committed.{Committed}
 use Rattle.board_turns.specs.declared.committed.Committed.TheVariants.{Taken, TooMany, Lost}
 use Rattle.board_turns.specs.declared.found.Found.{Found}

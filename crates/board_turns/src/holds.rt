@@ -2,10 +2,10 @@
 
 ghost use Rattle.std.specs.Prelude.{◌≡◌, ◌<◌, ◌≤◌, ◌+◌, None, IfNone, IfOk, IfSome, OnErr, OnOk};
 ghost use Rattle.std.specs.Bool.{OnTrue};
-ghost use Rattle.board_commits.specs.Tickets.{AreOfTicket};
-ghost use Rattle.board_core.specs.Core.{IsSound};
-ghost use Rattle.board_core.specs.Going.{IsOneEvent};
-ghost use Rattle.board_threads.specs.Tests.{IsWanted};
+ghost use Rattle.cache_board.specs.board_commits.specs.Tickets.{AreOfTicket};
+ghost use Rattle.cache_board.specs.board_core.specs.Core.{IsSound};
+ghost use Rattle.cache_board.specs.board_core.specs.Going.{IsOneEvent};
+ghost use Rattle.cache_board.specs.board_threads.specs.Tests.{IsWanted};
 ghost use Rattle.board_turns.specs.Holds.{found_by, taken_by, AreFewer, HasCommitted, HasHealed, HasLookedIf};
 ghost use Rattle.board_turns.specs.Looks.{Allows, HasLooked, IsFound, IsFoundWanted, IsSoAlone};
 

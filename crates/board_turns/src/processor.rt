@@ -4,9 +4,9 @@ ghost use Rattle.std.specs.Prelude.{◌≡◌, ℕ, List, Option, IfOk, IfSome, 
 ghost use Rattle.std.specs.Bool.{OnTrue};
 ghost use mathlib.Core.List.{IsPrefix};
 ghost use Rattle.page_views.specs.Views.{can_fill};
-ghost use Rattle.run_journal.specs.declared.entries.Entry.{Entry};
-ghost use Rattle.board_commits.specs.Tickets.{AreAllAsOf, AreOfTicket};
-ghost use Rattle.board_threads.specs.declared.tickets.Ticket.{Ticket};
+ghost use Rattle.cache_board.specs.run_journal.specs.declared.entries.Entry.{Entry};
+ghost use Rattle.cache_board.specs.board_commits.specs.Tickets.{AreAllAsOf, AreOfTicket};
+ghost use Rattle.cache_board.specs.board_threads.specs.declared.tickets.Ticket.{Ticket};
 ghost use Rattle.app_kernel.specs.owner_ports.specs.Boards.{OnTold};
 ghost use Rattle.board_turns.specs.declared.found.Found.{Found};
 ghost use Rattle.board_turns.specs.Holds.{found_by, AreFewer, HasCommitted, HasHealed, IsPageAnswer};

@@ -1,7 +1,7 @@
 //! A quantum of a thread that is on a processor.
 
 ghost use Rattle.std.specs.Prelude.{◌≡◌, ◌<◌, ◌≤◌, true, IfOk, IfSome};
-ghost use Rattle.board_commits.specs.Tickets.{AreAllAsOf, AreOfTicket};
+ghost use Rattle.cache_board.specs.board_commits.specs.Tickets.{AreAllAsOf, AreOfTicket};
 ghost use Rattle.app_kernel.specs.owner_ports.specs.Boards.{OnTold};
 ghost use Rattle.app_kernel.specs.owners.specs.Known.{Known};
 ghost use Rattle.board_turns.specs.declared.found.Found.TheVariants as found_so;

@@ -1,11 +1,11 @@
 //! The turn of a processor.
 
 ghost use Rattle.std.specs.Prelude.{◌≡◌, ◌≢◌, ◌<◌, true, IfOk, IfSome, OnOk};
-ghost use Rattle.fault_forward.specs.declared.effects.Notice.TheVariants as notices;
+ghost use Rattle.flat_state.specs.fault_forward.specs.declared.effects.Notice.TheVariants as notices;
 ghost use Rattle.app_kernel.specs.left_laws.specs.Left.{left};
-ghost use Rattle.board_commits.specs.Tickets.{AreAllAsOf};
-ghost use Rattle.board_core.specs.board_ops.specs.declared.refusals.Refused.TheVariants as why;
-ghost use Rattle.board_core.specs.cached_machine.specs.Cached.{state_of};
+ghost use Rattle.cache_board.specs.board_commits.specs.Tickets.{AreAllAsOf};
+ghost use Rattle.cache_board.specs.board_ops.specs.declared.refusals.Refused.TheVariants as why;
+ghost use Rattle.cache_board.specs.cached_machine.specs.Cached.{state_of};
 ghost use Rattle.app_kernel.specs.Serving.{IsInCall};
 ghost use Rattle.app_kernel.specs.owner_ports.specs.Boards.{OnTold};
 ghost use Rattle.app_kernel.specs.owners.specs.Known.{Known};

@@ -7,7 +7,7 @@ use Rattle.std.proofs.lemmas.List.Folds.{list_any-append}
 use mathlib.Core.List.{IsPrefix}
 use Rattle.cache_ident.specs.declared.idents.Ident.{Ident}
 use Rattle.flat_state.specs.Events.{flat}
-use Rattle.flat_laws.proofs.Members.{Contains-from_map, Contains-here}
+use Rattle.run_journal.specs.flat_laws.proofs.Members.{Contains-from_map, Contains-here}
 use Rattle.run_journal.specs.declared.entries.Entry.{Entry}
 use Rattle.run_journal.specs.Entries.{erase}
 use Rattle.run_journal.specs.Legal.{AreLegal}

@@ -5,7 +5,7 @@ use Rattle.cache_ident.specs.declared.names.Name.TheVariants as name
 use Rattle.cache_ident.specs.declared.names.SpaceNo.{SpaceNo}
 use Rattle.cache_ident.specs.declared.names.ThreadNo.{ThreadNo}
 use Rattle.cache_ident.specs.declared.names.Vpn.{Vpn}
-use Rattle.page_views.specs.Views.{can_fill}
+use Rattle.board_core.specs.page_views.specs.Views.{can_fill}
 use Rattle.ready_queue.specs.declared.Candidate.{Candidate}
 use Rattle.board_core.specs.quantum.specs.Ahead.{begun, IsRun}
 use Rattle.board_core.specs.quantum.specs.LocalRun.{IsLocalRun}

@@ -3,6 +3,14 @@ pub use Rattle.board_commits
 pub use Rattle.board_core.specs.board_ops
 pub use Rattle.board_core
 pub use Rattle.board_core.specs.cached_machine
+pub use Rattle.board_heal
+pub use Rattle.board_commits.specs.board_threads
+pub use Rattle.board_loads
+pub use Rattle.board_commits.specs.board_checks
+pub use Rattle.run_journal
+pub use Rattle.board_core.specs.quantum
+pub use Rattle.board_core.specs.page_views
+pub use Rattle.board_core.specs.desc_stores
 pub mod Boards
 pub mod Desks
 pub mod Drive

@@ -15,7 +15,7 @@ ghost use Rattle.flat_state.specs.Declaration.{rule_of_machine};
 ghost use Rattle.flat_state.specs.Settling.{settled_of};
 ghost use Rattle.run_journal.specs.Legal.{first_ident};
 ghost use Rattle.run_journal.specs.declared.entries.Entry.TheVariants.{Declared};
-ghost use Rattle.page_views.specs.Views.{can_fill};
+ghost use Rattle.board_core.specs.page_views.specs.Views.{can_fill};
 ghost use Rattle.ready_queue.specs.declared.Candidate.{Candidate};
 ghost use Rattle.board_core.specs.board_ops.specs.declared.refusals.Refused.TheVariants.{NoMemory};
 ghost use Rattle.board_core.specs.desc_stores.specs.Contents.{names_of, residents_of};

@@ -19,7 +19,7 @@ use Rattle.phys_groups.specs.declared.rows.Flags.{Flags}
 use Rattle.phys_groups.specs.declared.rows.Row.{Row}
 use Rattle.phys_groups.specs.Rows.{row_name}
 use Rattle.phys_groups.specs.Translation.{is_row_of, row_of}
-use Rattle.signal_pages.specs.Signals.{is_signal_row_of}
+use Rattle.flat_state.specs.signal_pages.specs.Signals.{is_signal_row_of}
 use Rattle.flat_state.specs.declared.events.Decl.{Decl}
 use Rattle.flat_state.specs.declared.events.Decl.TheVariants as decls
 use Rattle.flat_state.specs.declared.events.Machine.{Machine}
@@ -32,8 +32,8 @@ use Rattle.flat_state.specs.State.{groups_of, FlatState}
 use Rattle.flat_state.specs.Translation.{is_fit_row}
 use Rattle.flat_state.specs.WellFormed.{IsWellFormed}
 use Rattle.flat_state.proofs.FormedParts.{breaks_none, first_rule, other_rule}
-use Rattle.flat_laws.proofs.Members.{Contains-behind, Contains-here, Contains-map}
-use Rattle.run_journal.specs.Legal.{AreGood}
+use Rattle.board_laws.specs.flat_laws.proofs.Members.{Contains-behind, Contains-here, Contains-map}
+use Rattle.board_laws.specs.run_journal.specs.Legal.{AreGood}
 use Rattle.kernel_cache.specs.declared.KernelRec.{KernelRec}
 use Rattle.space_cache.specs.declared.SpaceRec.{SpaceRec}
 use Rattle.thread_cache.specs.declared.ThreadRec.{ThreadRec}

@@ -14,7 +14,7 @@ use Rattle.flat_state.specs.declared.events.Machine.{Machine}
 use Rattle.flat_state.specs.Declaration.{locks_granted}
 use Rattle.flat_state.specs.State.{FlatState}
 use Rattle.flat_state.specs.WellFormed.{IsWellFormed}
-use Rattle.kind_store.specs.Changes.{is_name}
+use Rattle.thread_sets.specs.kind_store.specs.Changes.{is_name}
 use Rattle.thread_cache.specs.declared.ThreadRec.{ThreadRec}
 use Rattle.board_laws.specs.desc_stores.specs.declared.items.Item.TheVariants as item
 use Rattle.board_laws.specs.desc_stores.specs.Contents.{content_of, residents_of, Contents}

@@ -7,7 +7,7 @@ use Rattle.cache_ident.specs.declared.names.Name.{Name}
 use Rattle.cache_ident.specs.declared.names.Name.TheVariants as name
 use Rattle.cache_ident.specs.declared.names.ThreadNo.{ThreadNo}
 use Rattle.cache_ident.specs.Residents.{Resident}
-use Rattle.kind_store.specs.Changes.{is_name}
+use Rattle.thread_sets.specs.kind_store.specs.Changes.{is_name}
 use Rattle.board_laws.specs.desc_stores.specs.declared.items.Item.{Item}
 use Rattle.board_laws.specs.desc_stores.specs.declared.items.Item.TheVariants as item
 use Rattle.board_laws.specs.desc_stores.specs.Changes.{room_of}

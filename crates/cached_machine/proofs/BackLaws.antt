@@ -6,9 +6,9 @@ use Rattle.std.proofs.lemmas.Option.{slice_get-get_or}
 use Rattle.cache_ident.specs.declared.idents.Kind.TheVariants as kind
 use Rattle.cache_ident.specs.declared.names.Name.TheVariants as name
 use Rattle.cache_ident.specs.declared.names.ThreadNo.{ThreadNo}
-use Rattle.flat_laws.proofs.Members.{contains_nothing, Contains-cases, Contains-here}
+use Rattle.board_laws.specs.flat_laws.proofs.Members.{contains_nothing, Contains-cases, Contains-here}
 use Rattle.flat_state.proofs.Places.{Contains-from_get}
-use Rattle.kind_store.proofs.ContentLemmas.{cases_name}
+use Rattle.thread_sets.specs.kind_store.proofs.ContentLemmas.{cases_name}
 use Rattle.board_laws.specs.desc_groups.specs.declared.departures.Gone.{Gone}
 use Rattle.board_laws.specs.desc_tables.specs.Tables.{Held}
 use Rattle.cached_machine.specs.declared.posts.Post.TheVariants.{In}

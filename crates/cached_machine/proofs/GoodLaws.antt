@@ -12,8 +12,8 @@ use Rattle.flat_state.specs.declared.records.FlatThread.{FlatThread}
 use Rattle.flat_state.specs.Declaration.{declared}
 use Rattle.flat_state.specs.Names.{stands}
 use Rattle.flat_state.specs.State.{FlatState, with_thread}
-use Rattle.flat_laws.proofs.StepSame.{set_same, same_fit_name, same_parents, same_stands, IsSameBut, SameSpaces}
-use Rattle.run_journal.specs.Legal.{AreGood}
+use Rattle.board_laws.specs.flat_laws.proofs.StepSame.{set_same, same_fit_name, same_parents, same_stands, IsSameBut, SameSpaces}
+use Rattle.board_laws.specs.run_journal.specs.Legal.{AreGood}
 use Rattle.board_laws.specs.desc_stores.specs.Contents.{Contents}
 use Rattle.board_laws.specs.shown_state.specs.Shown.{shown}
 use Rattle.board_laws.specs.desc_parents.specs.Seen.{seen}

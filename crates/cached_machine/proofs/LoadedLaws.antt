@@ -7,10 +7,10 @@ use Rattle.cache_ident.specs.declared.names.Name.TheVariants as name
 use Rattle.cache_ident.specs.declared.names.ThreadNo.{ThreadNo}
 use Rattle.cache_ident.specs.Names.{kind_of}
 use Rattle.cache_ident.specs.Residents.{Resident}
-use Rattle.flat_laws.proofs.Members.{Contains-behind, Contains-cases, Contains-here, contains_nothing}
-use Rattle.owner_shelf.proofs.NameLemmas.{eq_apart, eq_itself}
-use Rattle.kind_store.specs.Changes.{is_name}
-use Rattle.kind_store.proofs.ContentLemmas.{cases_name}
+use Rattle.board_laws.specs.flat_laws.proofs.Members.{Contains-behind, Contains-cases, Contains-here, contains_nothing}
+use Rattle.thread_sets.specs.owner_shelf.proofs.NameLemmas.{eq_apart, eq_itself}
+use Rattle.thread_sets.specs.kind_store.specs.Changes.{is_name}
+use Rattle.thread_sets.specs.kind_store.proofs.ContentLemmas.{cases_name}
 use Rattle.board_laws.specs.desc_stores.specs.Contents.{content_of, residents_of, Contents}
 use Rattle.board_laws.specs.desc_stores.specs.Sound.{IsExactlyOne}
 use Rattle.board_laws.specs.store_residents.proofs.ContentLemmas.{resident_content}

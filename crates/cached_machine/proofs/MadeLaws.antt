@@ -25,10 +25,10 @@ use Rattle.flat_state.specs.Declaration.{broken_rule, declared, locks_granted}
 use Rattle.flat_state.specs.State.{FlatState}
 use Rattle.flat_state.specs.WellFormed.{IsWellFormed}
 use Rattle.flat_machine.proofs.DeclareSound.{kernel_sound, plus, right_sound, row_sound, space_sound, thread_sound, word_sound, Sound}
-use Rattle.owner_shelf.proofs.NameLemmas.{eq_apart}
-use Rattle.kind_store.specs.Changes.{is_name}
-use Rattle.kind_store.specs.Kept as stored
-use Rattle.kind_store.proofs.ContentLemmas.{cases_name}
+use Rattle.thread_sets.specs.owner_shelf.proofs.NameLemmas.{eq_apart}
+use Rattle.thread_sets.specs.kind_store.specs.Changes.{is_name}
+use Rattle.thread_sets.specs.kind_store.specs.Kept as stored
+use Rattle.thread_sets.specs.kind_store.proofs.ContentLemmas.{cases_name}
 use Rattle.kernel_cache.specs.declared.KernelRec.{KernelRec}
 use Rattle.kernel_cache.specs.Kernels as kernel_rec
 use Rattle.board_laws.specs.desc_stores.specs.declared.items.Item.{Item}

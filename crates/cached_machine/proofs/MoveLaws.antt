@@ -16,12 +16,12 @@ use Rattle.cache_ident.specs.declared.names.ThreadNo.{ThreadNo}
 use Rattle.cache_ident.specs.Names.{amount_of, kind_of}
 use Rattle.cache_ident.specs.Residents.{locked_if, with_loaded, with_lock, IsIdentResident, IsNameResident, Resident}
 use Rattle.cache_ident.specs.Rolls.{standing_in}
-use Rattle.flat_laws.proofs.Members.{contains_nothing, Contains-from_map, Contains-map}
+use Rattle.board_laws.specs.flat_laws.proofs.Members.{contains_nothing, Contains-from_map, Contains-map}
 use Rattle.flat_state.proofs.Places.{get-set_other, get-set_same}
-use Rattle.kind_store.specs.Changes.{is_name}
-use Rattle.run_journal.specs.Groups.{IsGroup}
-use Rattle.run_journal.specs.Legal.{IsTaken}
-use Rattle.run_journal.proofs.Others.{locked_keeps}
+use Rattle.thread_sets.specs.kind_store.specs.Changes.{is_name}
+use Rattle.board_laws.specs.run_journal.specs.Groups.{IsGroup}
+use Rattle.board_laws.specs.run_journal.specs.Legal.{IsTaken}
+use Rattle.board_laws.specs.run_journal.proofs.Others.{locked_keeps}
 use Rattle.board_laws.specs.group_laws.specs.Leaving.{without_all}
 use Rattle.board_laws.specs.group_laws.proofs.Remaining.{stays_without_all, without_all_cases}
 use Rattle.board_laws.specs.desc_stores.specs.declared.items.Item.{Item}

@@ -15,8 +15,8 @@ use Rattle.flat_state.specs.State.{nothing_declared, FlatState}
 use Rattle.flat_state.specs.WellFormed.{IsWellFormed}
 use Rattle.flat_state.proofs.FormedParts.{nothing_formed}
 use Rattle.flat_machine.proofs.DeclareSound.{machine_rules, machine_sound}
-use Rattle.flat_laws.proofs.Members.{contains_nothing}
-use Rattle.kind_store.specs.Kept as stored
+use Rattle.board_laws.specs.flat_laws.proofs.Members.{contains_nothing}
+use Rattle.thread_sets.specs.kind_store.specs.Kept as stored
 use Rattle.thread_cache.specs.declared.ThreadRec.{ThreadRec}
 use Rattle.thread_cache.specs.Threads as thread_rec
 use Rattle.board_laws.specs.desc_stores.specs.declared.items.Item.TheVariants as item

@@ -8,8 +8,8 @@ use Rattle.cache_ident.specs.declared.names.Name.TheVariants as name
 use Rattle.cache_ident.specs.declared.names.ThreadNo.{ThreadNo}
 use Rattle.flat_state.specs.declared.events.Machine.{Machine}
 use Rattle.thread_cache.specs.declared.ThreadRec.{ThreadRec}
-use Rattle.kind_store.specs.Kept.{Kept}
-use Rattle.kind_store.proofs.ContentLemmas.{cases_name}
+use Rattle.thread_sets.specs.kind_store.specs.Kept.{Kept}
+use Rattle.thread_sets.specs.kind_store.proofs.ContentLemmas.{cases_name}
 use Rattle.board_laws.specs.desc_stores.specs.declared.items.Item.{Item}
 use Rattle.board_laws.specs.desc_stores.specs.declared.items.Item.TheVariants as item
 use Rattle.board_laws.specs.desc_stores.specs.Changes.{with_named, HasContent}

@@ -9,13 +9,13 @@ use Rattle.cache_ident.specs.declared.names.Frame.{Frame}
 use Rattle.cache_ident.specs.declared.names.Name.{Name}
 use Rattle.phys_groups.specs.declared.rows.Row.{Row}
 use Rattle.phys_groups.specs.Rows.{row_name}
-use Rattle.signal_pages.specs.Signals.{is_signal_row_of}
+use Rattle.flat_state.specs.signal_pages.specs.Signals.{is_signal_row_of}
 use Rattle.flat_state.specs.declared.events.Machine.{Machine}
 use Rattle.flat_state.specs.WellFormed.{IsWellFormed}
-use Rattle.flat_laws.proofs.Members.{length-filter_map}
+use Rattle.board_laws.specs.flat_laws.proofs.Members.{length-filter_map}
 use Rattle.flat_report.specs.declared.counts.RowCounts.{RowCounts}
 use Rattle.flat_report.specs.Counts.{AreCounts, CountsFew}
-use Rattle.row_store.specs.Kept.{signal_names}
+use Rattle.thread_sets.specs.row_store.specs.Kept.{signal_names}
 use Rattle.board_laws.specs.desc_stores.specs.Contents.{content_of, names_of, Contents}
 use Rattle.board_laws.specs.desc_stores.specs.Sound.{IsExactlyOne}
 use Rattle.board_laws.specs.shown_state.specs.Shown.{row_of_item, shown}

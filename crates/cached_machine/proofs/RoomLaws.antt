@@ -7,19 +7,19 @@ use Rattle.cache_ident.specs.declared.names.Caps.{Caps}
 use Rattle.cache_ident.specs.declared.names.Name.TheVariants as name
 use Rattle.cache_ident.specs.declared.names.ThreadNo.{ThreadNo}
 use Rattle.cache_ident.specs.Residents.{Resident}
-use Rattle.depend_lists.specs.Pairs.{count_of}
+use Rattle.board_laws.specs.depend_lists.specs.Pairs.{count_of}
 use Rattle.flat_state.proofs.Places.{count_by-cons}
 use Rattle.flat_state.specs.declared.events.Machine.{Machine}
 use Rattle.flat_state.specs.Declaration.{locks_granted}
 use Rattle.flat_state.specs.State.{FlatState}
 use Rattle.flat_state.specs.WellFormed.{IsWellFormed}
-use Rattle.kind_store.specs.Kept as stored
-use Rattle.run_journal.specs.Legal.{is_kind}
-use Rattle.run_journal.specs.Legal as legal
+use Rattle.thread_sets.specs.kind_store.specs.Kept as stored
+use Rattle.board_laws.specs.run_journal.specs.Legal.{is_kind}
+use Rattle.board_laws.specs.run_journal.specs.Legal as legal
 use Rattle.board_laws.specs.desc_stores.specs.Changes.{room_of, OnlyMakesRoom}
 use Rattle.board_laws.specs.desc_stores.specs.Contents.{content_of, resident_as, resident_in, residents_of, Contents}
 use Rattle.board_laws.specs.desc_groups.specs.Whole.{AreWhole}
-use Rattle.depend_lists.specs.declared.nodes.Node.{Node}
+use Rattle.board_laws.specs.depend_lists.specs.declared.nodes.Node.{Node}
 use Rattle.board_laws.specs.desc_tables.specs.Tables.{Held}
 use Rattle.board_laws.specs.shown_state.specs.Shown.{shown}
 use Rattle.board_laws.specs.shown_state.proofs.AlikeLemmas.{shown_alike}

@@ -22,14 +22,14 @@ use Rattle.flat_state.specs.Signals.{with_address}
 use Rattle.flat_state.specs.Declaration.{locks_granted}
 use Rattle.flat_state.proofs.FormedParts.{memory_formed, thread_formed}
 use Rattle.flat_state.specs.Names.{stands}
-use Rattle.flat_laws.proofs.ParentLaws.{there_is}
+use Rattle.board_laws.specs.flat_laws.proofs.ParentLaws.{there_is}
 use Rattle.flat_thread.specs.Calls.{queue_with}
 use Rattle.thread_cache.specs.declared.ThreadRec.{ThreadRec}
-use Rattle.slot_cache.specs.Rows.{row_name as slot_row_name}
-use Rattle.owner_shelf.proofs.NameLemmas.{eq_apart, eq_itself}
-use Rattle.kind_store.specs.Changes.{is_name}
-use Rattle.kind_store.specs.Kept as stored
-use Rattle.kind_store.proofs.ContentLemmas.{cases_name}
+use Rattle.kernel_cache.specs.slot_cache.specs.Rows.{row_name as slot_row_name}
+use Rattle.thread_sets.specs.owner_shelf.proofs.NameLemmas.{eq_apart, eq_itself}
+use Rattle.thread_sets.specs.kind_store.specs.Changes.{is_name}
+use Rattle.thread_sets.specs.kind_store.specs.Kept as stored
+use Rattle.thread_sets.specs.kind_store.proofs.ContentLemmas.{cases_name}
 use Rattle.board_laws.specs.desc_stores.specs.declared.items.Item.{Item}
 use Rattle.board_laws.specs.desc_stores.specs.declared.items.Item.TheVariants as item
 use Rattle.board_laws.specs.desc_stores.specs.Changes.{HasContent}

@@ -8,7 +8,7 @@ use Rattle.flat_state.specs.declared.events.Machine.{Machine}
 use Rattle.flat_state.specs.Declaration.{locks_granted}
 use Rattle.flat_state.specs.State.{FlatState}
 use Rattle.flat_state.specs.WellFormed.{IsWellFormed}
-use Rattle.kind_store.specs.Changes.{is_name}
+use Rattle.thread_sets.specs.kind_store.specs.Changes.{is_name}
 use Rattle.board_laws.specs.desc_stores.specs.Contents.{residents_of, Contents}
 use Rattle.board_laws.specs.shown_state.specs.Shown.{shown}
 use Rattle.thread_sets.specs.Sets.{Sets}

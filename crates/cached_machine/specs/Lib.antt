@@ -11,6 +11,12 @@ pub use Rattle.board_laws.specs.quantum
 pub use Rattle.board_laws.specs.shown_state
 pub use Rattle.board_laws.specs.store_residents
 pub use Rattle.thread_sets
+pub use Rattle.board_laws.specs.run_journal
+pub use Rattle.board_laws.specs.flat_laws
+pub use Rattle.thread_sets.specs.kind_store
+pub use Rattle.thread_sets.specs.owner_shelf
+pub use Rattle.space_cache
+pub use Rattle.kernel_cache
 pub mod Cached
 pub mod Aside
 pub mod Stepping

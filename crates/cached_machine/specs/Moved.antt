@@ -6,7 +6,7 @@ use Rattle.flat_state.specs.declared.events.Event.TheVariants.{Complete}
 use Rattle.flat_state.specs.Declaration.{broken_rule, declared}
 use Rattle.flat_state.specs.Events.{applied}
 use Rattle.flat_state.specs.State.{FlatState}
-use Rattle.run_journal.specs.Legal.{AreGood}
+use Rattle.board_laws.specs.run_journal.specs.Legal.{AreGood}
 use Rattle.thread_cache.specs.declared.ThreadRec.{ThreadRec}
 use Rattle.board_laws.specs.desc_stores.specs.Changes.{room_of}
 use Rattle.board_laws.specs.desc_stores.specs.Contents.{residents_of}

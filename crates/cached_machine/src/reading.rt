@@ -3,7 +3,7 @@
 ghost use Rattle.std.specs.Prelude.{◌≡◌, ◌≤◌, ℕ, IfOk, List, Option, count_by, filter, length, slice_get};
 ghost use Rattle.std.specs.Option.{option_copied, option_map};
 ghost use Rattle.phys_groups.specs.Translation.{row_of as row_of_def};
-ghost use Rattle.signal_pages.specs.Signals.{is_signal_row_of};
+ghost use Rattle.flat_state.specs.signal_pages.specs.Signals.{is_signal_row_of};
 ghost use Rattle.flat_state.specs.declared.events.Machine.{Machine};
 ghost use Rattle.flat_report.specs.Counts.{AreCounts};
 ghost use Rattle.board_laws.specs.desc_stores.specs.Contents.{content_of};

@@ -2,8 +2,8 @@
 
 ghost use Rattle.std.specs.Prelude.{◌≡◌, ℕ, ◌+◌, ◌<◌, ◌≤◌, ◌^◌, List, length, min, IsOk, OnErr, OnOk};
 ghost use Rattle.cache_ident.specs.declared.idents.Ident.{Ident};
-ghost use Rattle.depend_lists.specs.declared.nodes.Node.{Node};
-ghost use Rattle.depend_lists.specs.Pairs.{count_of};
+ghost use Rattle.board_laws.specs.depend_lists.specs.declared.nodes.Node.{Node};
+ghost use Rattle.board_laws.specs.depend_lists.specs.Pairs.{count_of};
 ghost use Rattle.phys_groups.specs.Memory.{with_page, HasFrame};
 ghost use Rattle.board_laws.specs.desc_groups.specs.Moves.{HasPlaces};
 ghost use Rattle.board_laws.specs.desc_stores.specs.Changes.{room_of};

@@ -1,9 +1,9 @@
 -- What an answer says of its input.
 use Rattle.std.proofs.Common.{◌≡◌, ℕ, List, ◌++◌, Ok, Err, Result, sym, ap, ◌∙◌, subst, ◌⊎◌, inl, inr}
-use Rattle.flat_state.specs.declared.events.Decl.{Decl}
-use Rattle.flat_state.specs.declared.records.Settled.{Settled}
-use Rattle.flat_state.specs.Events.{flat}
-use Rattle.flat_state.specs.Settling.{settled_of}
+use Rattle.flat_machine.specs.flat_state.specs.declared.events.Decl.{Decl}
+use Rattle.flat_machine.specs.flat_state.specs.declared.records.Settled.{Settled}
+use Rattle.flat_machine.specs.flat_state.specs.Events.{flat}
+use Rattle.flat_machine.specs.flat_state.specs.Settling.{settled_of}
 use Rattle.scenario_reader.specs.declared.fault.ScenarioFault.{ScenarioFault}
 use Rattle.scenario_reader.specs.declared.fault.ScenarioFault.TheVariants as scenario_faults
 use Rattle.scenario_reader.specs.Scenarios.{scenario}

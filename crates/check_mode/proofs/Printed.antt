@@ -6,11 +6,11 @@ use Rattle.std.specs.Fmt.{decimal}
 use Rattle.std.proofs.lemmas.Bool.{ne_eqb}
 use Rattle.std.proofs.Math.Seq.{take-append_seam, drop-append_seam}
 use Rattle.std.proofs.lemmas.List.{length-append}
-use Rattle.flat_state.specs.declared.events.Decl.{Decl}
-use Rattle.flat_state.specs.declared.events.Decl.TheVariants as decls
+use Rattle.flat_machine.specs.flat_state.specs.declared.events.Decl.{Decl}
+use Rattle.flat_machine.specs.flat_state.specs.declared.events.Decl.TheVariants as decls
 use Rattle.journal_text.specs.Ranges.{IsDeclInRange}
 use Rattle.text_fields.specs.Lines.{fields, is_feed, one, pieces, without_comment, without_return}
-use Rattle.scenario_lines.specs.Lines.{is_only}
+use Rattle.scenario_reader.specs.scenario_lines.specs.Lines.{is_only}
 use Rattle.scenario_print.specs.Texts.{decl_text, scenario_text, spaced}
 use Rattle.scenario_print.proofs.Lines.{all_fields, fed, ink_from, line_clean, no_comment, no_fields, whole_line, AreFields, IsClean, IsInk}
 use Rattle.scenario_print.proofs.Again.{are_fields, behind_line, caps_fields, caps_line, fields_of, machine_text, word_ink_of, word_of, word_some_of, IsBehind}

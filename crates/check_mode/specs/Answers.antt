@@ -1,9 +1,9 @@
 -- What mode check answers to an input.
 use Rattle.std.specs.Prelude.{◌≡◌, ℕ, List, ◌++◌, Ok, Err}
-use Rattle.flat_state.specs.declared.events.Decl.{Decl}
-use Rattle.flat_state.specs.declared.records.Settled.{Settled}
-use Rattle.flat_state.specs.Events.{flat}
-use Rattle.flat_state.specs.Settling.{settled_of}
+use Rattle.flat_machine.specs.flat_state.specs.declared.events.Decl.{Decl}
+use Rattle.flat_machine.specs.flat_state.specs.declared.records.Settled.{Settled}
+use Rattle.flat_machine.specs.flat_state.specs.Events.{flat}
+use Rattle.flat_machine.specs.flat_state.specs.Settling.{settled_of}
 use Rattle.scenario_reader.specs.declared.fault.ScenarioFault.{ScenarioFault}
 use Rattle.scenario_reader.specs.declared.fault.ScenarioFault.TheVariants as scenario_faults
 use Rattle.scenario_reader.specs.Scenarios.{scenario}

@@ -1,7 +1,7 @@
 -- Where an input is cut into a scenario and a journal.
 use Rattle.std.specs.Prelude.{ℕ, ◌+◌, Bool, if◌then◌else◌, List, [], ◌∷◌, length, take, drop, codes}
 use Rattle.text_fields.specs.Lines.{pieces, is_feed, fields, one, without_comment, without_return}
-use Rattle.scenario_lines.specs.Lines.{is_only}
+use Rattle.scenario_reader.specs.scenario_lines.specs.Lines.{is_only}
 
 -- the only field of the line is end
 abbrev pub is_end : List ℕ → Bool

@@ -1,9 +1,9 @@
 -- What is written of a check.
 use Rattle.std.specs.Prelude.{ℕ, List, ◌++◌, codes}
 use Rattle.std.specs.Fmt.{decimal}
-use Rattle.flat_state.specs.declared.records.Settled.{Settled}
-use Rattle.flat_state.specs.State.{FlatState}
-use Rattle.report_text.specs.Reports.{report}
+use Rattle.flat_machine.specs.flat_state.specs.declared.records.Settled.{Settled}
+use Rattle.flat_machine.specs.flat_state.specs.State.{FlatState}
+use Rattle.flat_report.specs.report_text.specs.Reports.{report}
 
 abbrev pub yes_text : FlatState → Settled → ℕ → List ℕ
 yes_text s settled steps = codes "journal yes\n" ++ report s settled steps

@@ -2,7 +2,7 @@
 
 ghost use Rattle.std.specs.Prelude.{◌≡◌, ◌++◌, ℕ, List};
 ghost use Rattle.std.specs.List.{AllByRecursion};
-ghost use Rattle.flat_state.specs.declared.events.Decl.{Decl};
+ghost use Rattle.flat_machine.specs.flat_state.specs.declared.events.Decl.{Decl};
 ghost use Rattle.journal_text.specs.Ranges.{IsDeclInRange};
 ghost use Rattle.scenario_print.specs.Texts.{scenario_text};
 ghost use Rattle.check_mode.specs.Parts.{scenario_part, journal_part};

@@ -1,1 +1,2 @@
+pub use Rattle.rv32_asm
 pub mod Blocks

@@ -11,11 +11,11 @@ use Rattle.cache_ident.specs.Names.{amount_of}
 use Rattle.cache_ident.specs.Residents.{without, Resident}
 use Rattle.cache_ident.specs.Rolls.{departed}
 use Rattle.depend_lists.specs.declared.nodes.Node.{Node}
-use Rattle.flat_state.specs.State.{FlatState}
-use Rattle.flat_state.specs.Dependence.{owner}
-use Rattle.kernel_cache.specs.declared.KernelRec.{KernelRec}
-use Rattle.run_journal.specs.Groups.{ArePairsOf, NothingDependsOn}
-use Rattle.run_journal.specs.Legal.{locked_by, AreGood}
+use Rattle.desc_parents.specs.flat_state.specs.State.{FlatState}
+use Rattle.desc_parents.specs.flat_state.specs.Dependence.{owner}
+use Rattle.desc_parents.specs.kernel_cache.specs.declared.KernelRec.{KernelRec}
+use Rattle.desc_parents.specs.run_journal.specs.Groups.{ArePairsOf, NothingDependsOn}
+use Rattle.desc_parents.specs.run_journal.specs.Legal.{locked_by, AreGood}
 use Rattle.desc_parents.specs.desc_stores.specs.declared.items.Item.TheVariants as item
 use Rattle.desc_parents.specs.desc_stores.specs.Changes.{room_of, IsLeavingIn, IsLeavingOf, KeepsContents}
 use Rattle.desc_parents.specs.desc_stores.specs.Contents.{content_of, residents_of, Contents}

@@ -9,12 +9,12 @@ use Rattle.cache_ident.specs.declared.names.Name.{Name}
 use Rattle.cache_ident.specs.Residents.{with_loaded, Resident, IsNameResident}
 use Rattle.cache_ident.specs.Rolls.{standing_in}
 use Rattle.depend_lists.specs.declared.nodes.Node.{Node}
-use Rattle.flat_laws.proofs.Members.{Contains-here}
-use Rattle.flat_state.specs.Dependence.{owner, Depends}
-use Rattle.flat_state.specs.Names.{class_of, stands}
-use Rattle.flat_state.specs.State.{FlatState}
-use Rattle.run_journal.specs.Groups.{node_of, ArePairsOf, NothingDependsOn}
-use Rattle.run_journal.specs.Legal.{locked_by, AreGood}
+use Rattle.desc_parents.specs.flat_laws.proofs.Members.{Contains-here}
+use Rattle.desc_parents.specs.flat_state.specs.Dependence.{owner, Depends}
+use Rattle.desc_parents.specs.flat_state.specs.Names.{class_of, stands}
+use Rattle.desc_parents.specs.flat_state.specs.State.{FlatState}
+use Rattle.desc_parents.specs.run_journal.specs.Groups.{node_of, ArePairsOf, NothingDependsOn}
+use Rattle.desc_parents.specs.run_journal.specs.Legal.{locked_by, AreGood}
 use Rattle.desc_parents.specs.desc_stores.specs.Changes.{IsLoadingOf, KeepsContents}
 use Rattle.desc_parents.specs.desc_stores.specs.Contents.{resident_as, residents_of, Contents}
 use Rattle.desc_parents.specs.desc_stores.specs.Sound.{AreOwned, IsExactlyOne}

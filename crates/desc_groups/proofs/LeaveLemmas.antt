@@ -13,12 +13,12 @@ use Rattle.cache_ident.specs.Residents.{without, IsResident, Resident}
 use Rattle.cache_ident.specs.Rolls.{departed, is_same, standing_in}
 use Rattle.cache_ident.proofs.RollLemmas.{is_same-refl}
 use Rattle.depend_lists.specs.declared.nodes.Node.{Node}
-use Rattle.writeback_order.specs.Order.{IsOrder}
-use Rattle.flat_state.specs.State.{FlatState}
-use Rattle.flat_laws.proofs.Members.{Contains-behind, Contains-cases, Contains-here, contains_nothing}
-use Rattle.slot_cache.proofs.SlotLemmas.{some_same}
-use Rattle.run_journal.specs.Groups.{node_of, IsGroup, NothingDependsOn}
-use Rattle.run_journal.proofs.Others.{differ}
+use Rattle.desc_parents.specs.writeback_order.specs.Order.{IsOrder}
+use Rattle.desc_parents.specs.flat_state.specs.State.{FlatState}
+use Rattle.desc_parents.specs.flat_laws.proofs.Members.{Contains-behind, Contains-cases, Contains-here, contains_nothing}
+use Rattle.desc_parents.specs.slot_cache.proofs.SlotLemmas.{some_same}
+use Rattle.desc_parents.specs.run_journal.specs.Groups.{node_of, IsGroup, NothingDependsOn}
+use Rattle.desc_parents.specs.run_journal.proofs.Others.{differ}
 use Rattle.desc_parents.specs.resident_pairs.specs.Among.{Among}
 use Rattle.desc_parents.specs.desc_stores.specs.Contents.{resident_as, residents_of, Contents}
 use Rattle.desc_parents.specs.group_laws.specs.Leaving.{without_all}

@@ -9,10 +9,10 @@ use Rattle.cache_ident.specs.declared.names.Name.{Name}
 use Rattle.cache_ident.specs.declared.names.Name.TheVariants as name
 use Rattle.cache_ident.specs.Residents.{Resident, with_lock}
 use Rattle.depend_lists.specs.declared.nodes.Node.{Node}
-use Rattle.flat_state.specs.Dependence.{owner}
-use Rattle.run_journal.specs.Groups.{ArePairsOf}
-use Rattle.run_journal.specs.Legal.{locked_by, AreGood}
-use Rattle.kernel_cache.specs.declared.KernelRec.{KernelRec}
+use Rattle.desc_parents.specs.flat_state.specs.Dependence.{owner}
+use Rattle.desc_parents.specs.run_journal.specs.Groups.{ArePairsOf}
+use Rattle.desc_parents.specs.run_journal.specs.Legal.{locked_by, AreGood}
+use Rattle.desc_parents.specs.kernel_cache.specs.declared.KernelRec.{KernelRec}
 use Rattle.desc_parents.specs.resident_pairs.proofs.Staying.{lock_keeps}
 use Rattle.desc_parents.specs.journal_laws.specs.Leaving.{AreApart}
 use Rattle.desc_parents.specs.group_laws.specs.Leaving.{lock_of}

@@ -10,9 +10,9 @@ use Rattle.cache_ident.specs.Names.{amount_of}
 use Rattle.cache_ident.specs.Residents.{Resident}
 use Rattle.cache_ident.specs.Rolls.{standing_in}
 use Rattle.depend_lists.specs.declared.nodes.Node.{Node}
-use Rattle.flat_state.specs.Dependence.{owner}
-use Rattle.run_journal.specs.Legal.{locked_by}
-use Rattle.kernel_cache.specs.declared.KernelRec.{KernelRec}
+use Rattle.desc_parents.specs.flat_state.specs.Dependence.{owner}
+use Rattle.desc_parents.specs.run_journal.specs.Legal.{locked_by}
+use Rattle.desc_parents.specs.kernel_cache.specs.declared.KernelRec.{KernelRec}
 use Rattle.desc_parents.specs.desc_stores.specs.declared.items.Item.TheVariants as item
 use Rattle.desc_parents.specs.desc_stores.specs.Contents.{content_of, resident_as, residents_of, Contents}
 use Rattle.desc_parents.specs.store_residents.proofs.KindLemmas.{live_loaded}

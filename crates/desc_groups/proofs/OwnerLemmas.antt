@@ -12,27 +12,27 @@ use Rattle.cache_ident.specs.declared.names.Name.TheVariants as name
 use Rattle.cache_ident.specs.declared.names.SpaceNo.{SpaceNo}
 use Rattle.cache_ident.specs.declared.names.ThreadNo.{ThreadNo}
 use Rattle.cache_ident.specs.declared.names.Vpn.{Vpn}
-use Rattle.flat_state.specs.declared.records.FlatKernel.{FlatKernel}
-use Rattle.flat_state.specs.declared.records.FlatThread.{FlatThread}
-use Rattle.flat_state.specs.State.{FlatState}
-use Rattle.flat_state.specs.Dependence.{owner, Depends, owner_of_row, owner_of_thread, parents, parents_of_found, signal_rows_of}
-use Rattle.flat_state.specs.Names.{class_of, class_of_row, stands}
-use Rattle.flat_laws.proofs.Members.{Contains-here}
-use Rattle.run_journal.specs.Groups.{HasParents}
-use Rattle.run_journal.specs.Legal.{limit_of, limits_in, AreGood}
+use Rattle.desc_parents.specs.flat_state.specs.declared.records.FlatKernel.{FlatKernel}
+use Rattle.desc_parents.specs.flat_state.specs.declared.records.FlatThread.{FlatThread}
+use Rattle.desc_parents.specs.flat_state.specs.State.{FlatState}
+use Rattle.desc_parents.specs.flat_state.specs.Dependence.{owner, Depends, owner_of_row, owner_of_thread, parents, parents_of_found, signal_rows_of}
+use Rattle.desc_parents.specs.flat_state.specs.Names.{class_of, class_of_row, stands}
+use Rattle.desc_parents.specs.flat_laws.proofs.Members.{Contains-here}
+use Rattle.desc_parents.specs.run_journal.specs.Groups.{HasParents}
+use Rattle.desc_parents.specs.run_journal.specs.Legal.{limit_of, limits_in, AreGood}
 use Rattle.phys_groups.specs.Translation.{row_of}
 use Rattle.cache_ident.specs.declared.idents.Ident.{Ident}
 use Rattle.cache_ident.specs.Residents.{Resident, IsNameResident}
 use Rattle.desc_parents.specs.store_residents.proofs.ContentLemmas.{loaded_item}
 use Rattle.phys_groups.specs.declared.rows.Row.{Row}
 use Rattle.phys_groups.specs.Rows.{row_name}
-use Rattle.kernel_cache.specs.declared.KernelRec.{KernelRec}
-use Rattle.kernel_cache.specs.Kernels as kernel_rec
-use Rattle.space_cache.specs.declared.SpaceRec.{SpaceRec}
-use Rattle.thread_cache.specs.declared.ThreadRec.{ThreadRec}
+use Rattle.desc_parents.specs.kernel_cache.specs.declared.KernelRec.{KernelRec}
+use Rattle.desc_parents.specs.kernel_cache.specs.Kernels as kernel_rec
+use Rattle.desc_parents.specs.space_cache.specs.declared.SpaceRec.{SpaceRec}
+use Rattle.desc_parents.specs.thread_cache.specs.declared.ThreadRec.{ThreadRec}
 use Rattle.cache_ident.specs.declared.idents.Kind.{Kind}
 use Rattle.cache_ident.specs.Names.{amount_of}
-use Rattle.kind_store.specs.Kept as stored
+use Rattle.desc_parents.specs.kind_store.specs.Kept as stored
 use Rattle.desc_parents.specs.desc_stores.specs.declared.items.Item.{Item}
 use Rattle.desc_parents.specs.desc_stores.specs.declared.items.Item.TheVariants as item
 use Rattle.desc_parents.specs.desc_stores.specs.Contents.{content_of, item_as, resident_as, Contents}

@@ -6,7 +6,7 @@ use Rattle.cache_ident.specs.declared.idents.Ident.{Ident}
 use Rattle.cache_ident.specs.declared.names.Caps.{Caps}
 use Rattle.cache_ident.specs.Residents.{Resident, without}
 use Rattle.depend_lists.specs.declared.nodes.Node.{Node}
-use Rattle.run_journal.specs.Groups.{IsGroup}
+use Rattle.desc_parents.specs.run_journal.specs.Groups.{IsGroup}
 use Rattle.desc_parents.specs.desc_stores.specs.Contents.{residents_of, Contents}
 use Rattle.desc_parents.specs.group_laws.specs.Leaving.{without_all}
 use Rattle.desc_parents.specs.group_laws.proofs.FromBelow.{group_leaves}

@@ -10,14 +10,14 @@ use Rattle.cache_ident.specs.declared.names.Name.TheVariants as name
 use Rattle.cache_ident.specs.Names.{amount_of}
 use Rattle.cache_ident.specs.Residents.{Resident}
 use Rattle.depend_lists.specs.declared.nodes.Node.{Node}
-use Rattle.flat_state.specs.declared.records.FlatKernel.{FlatKernel}
-use Rattle.flat_state.specs.State.{FlatState}
-use Rattle.flat_state.specs.Dependence.{owner}
-use Rattle.run_journal.specs.Groups.{ArePairsOf}
-use Rattle.run_journal.specs.Legal.{locked_by, AreGood}
-use Rattle.kernel_cache.specs.declared.KernelRec.{KernelRec}
-use Rattle.kind_store.specs.Changes.{is_name}
-use Rattle.owner_shelf.proofs.NameLemmas.{eq_same, same_by_eq}
+use Rattle.desc_parents.specs.flat_state.specs.declared.records.FlatKernel.{FlatKernel}
+use Rattle.desc_parents.specs.flat_state.specs.State.{FlatState}
+use Rattle.desc_parents.specs.flat_state.specs.Dependence.{owner}
+use Rattle.desc_parents.specs.run_journal.specs.Groups.{ArePairsOf}
+use Rattle.desc_parents.specs.run_journal.specs.Legal.{locked_by, AreGood}
+use Rattle.desc_parents.specs.kernel_cache.specs.declared.KernelRec.{KernelRec}
+use Rattle.desc_parents.specs.kind_store.specs.Changes.{is_name}
+use Rattle.desc_parents.specs.owner_shelf.proofs.NameLemmas.{eq_same, same_by_eq}
 use Rattle.desc_parents.specs.desc_stores.specs.declared.items.Item.{Item}
 use Rattle.desc_parents.specs.desc_stores.specs.declared.items.Item.TheVariants as item
 use Rattle.desc_parents.specs.desc_stores.specs.Changes.{room_of, HasContent, KeepsContents}

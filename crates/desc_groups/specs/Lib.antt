@@ -5,5 +5,10 @@ pub use Rattle.desc_parents.specs.journal_laws
 pub use Rattle.desc_parents.specs.resident_pairs
 pub use Rattle.desc_parents.specs.shown_state
 pub use Rattle.desc_parents.specs.store_residents
+pub use Rattle.desc_parents.specs.run_journal
+pub use Rattle.desc_parents.specs.flat_laws
+pub use Rattle.desc_parents.specs.flat_state
+pub use Rattle.desc_parents.specs.writeback_order
+pub use Rattle.desc_parents.specs.space_cache
 pub mod Whole
 pub mod Moves

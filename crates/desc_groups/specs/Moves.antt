@@ -12,15 +12,15 @@ use Rattle.cache_ident.specs.declared.rolls.Issued.{Issued}
 use Rattle.cache_ident.specs.Names.{amount_of, kind_of}
 use Rattle.cache_ident.specs.Residents.{IsResident, Resident}
 use Rattle.cache_ident.specs.Rolls.{departed}
-use Rattle.flat_state.specs.declared.events.Machine.{Machine}
-use Rattle.flat_state.specs.Names.{is_fit_name}
-use Rattle.run_journal.specs.Groups.{HasParents, IsGroup}
-use Rattle.kernel_cache.specs.declared.KernelRec.{KernelRec}
+use Rattle.desc_parents.specs.flat_state.specs.declared.events.Machine.{Machine}
+use Rattle.desc_parents.specs.flat_state.specs.Names.{is_fit_name}
+use Rattle.desc_parents.specs.run_journal.specs.Groups.{HasParents, IsGroup}
+use Rattle.desc_parents.specs.kernel_cache.specs.declared.KernelRec.{KernelRec}
 use Rattle.desc_parents.specs.desc_stores.specs.declared.items.Item.{Item}
 use Rattle.desc_parents.specs.desc_stores.specs.declared.items.Item.TheVariants as item
 use Rattle.cache_ident.specs.declared.names.KernelNo.{KernelNo}
-use Rattle.flat_state.specs.Dependence.{owner}
-use Rattle.run_journal.specs.Legal.{limit_of, locked_by}
+use Rattle.desc_parents.specs.flat_state.specs.Dependence.{owner}
+use Rattle.desc_parents.specs.run_journal.specs.Legal.{limit_of, locked_by}
 use Rattle.desc_parents.specs.desc_stores.specs.Changes.{room_of, HasContent}
 use Rattle.desc_parents.specs.desc_stores.specs.Contents.{content_of, resident_as, residents_of, IsFullOf, IsShelved, Contents}
 use Rattle.desc_parents.specs.desc_stores.specs.Sound.{AreOwned}

@@ -6,10 +6,10 @@ use Rattle.cache_ident.specs.declared.names.Caps.{Caps}
 use Rattle.cache_ident.specs.declared.names.Name.{Name}
 use Rattle.cache_ident.specs.Names.{amount_of}
 use Rattle.depend_lists.specs.declared.nodes.Node.{Node}
-use Rattle.flat_state.specs.Dependence.{owner}
-use Rattle.run_journal.specs.Groups.{ArePairsOf}
-use Rattle.run_journal.specs.Legal.{locked_by, AreGood}
-use Rattle.kernel_cache.specs.declared.KernelRec.{KernelRec}
+use Rattle.desc_parents.specs.flat_state.specs.Dependence.{owner}
+use Rattle.desc_parents.specs.run_journal.specs.Groups.{ArePairsOf}
+use Rattle.desc_parents.specs.run_journal.specs.Legal.{locked_by, AreGood}
+use Rattle.desc_parents.specs.kernel_cache.specs.declared.KernelRec.{KernelRec}
 use Rattle.desc_parents.specs.desc_stores.specs.declared.items.Item.TheVariants as item
 use Rattle.desc_parents.specs.desc_stores.specs.Contents.{content_of, residents_of, Contents}
 use Rattle.desc_parents.specs.desc_stores.specs.Sound.{AreOwned, IsExactlyOne}

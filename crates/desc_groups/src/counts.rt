@@ -4,7 +4,7 @@ ghost use Rattle.std.specs.Prelude.{◌≡◌, ◌+◌, ◌<◌, ◌^◌, Option
 ghost use Rattle.cache_ident.specs.Names.{amount_of};
 ghost use Rattle.cache_ident.specs.declared.names.KernelNo.{KernelNo};
 ghost use Rattle.cache_ident.specs.declared.names.Name.{Name};
-ghost use Rattle.kernel_cache.specs.declared.KernelRec.{KernelRec};
+ghost use Rattle.desc_parents.specs.kernel_cache.specs.declared.KernelRec.{KernelRec};
 ghost use Rattle.desc_parents.specs.desc_stores.specs.declared.items.Item.{Item};
 ghost use Rattle.desc_parents.specs.desc_stores.specs.Changes.{HasContent};
 ghost use Rattle.desc_parents.specs.desc_stores.specs.Contents.{content_of, residents_of};

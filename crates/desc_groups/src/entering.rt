@@ -4,7 +4,7 @@ ghost use Rattle.std.specs.Prelude.{◌≡◌, ◌+◌, ◌<◌, ◌≤◌, ◌�
 ghost use Rattle.cache_ident.specs.Rolls.{just_issued};
 ghost use Rattle.cache_ident.specs.Names.{kind_of};
 ghost use Rattle.cache_ident.specs.Residents.{with_loaded};
-ghost use Rattle.flat_state.specs.declared.events.Machine.{Machine};
+ghost use Rattle.desc_parents.specs.flat_state.specs.declared.events.Machine.{Machine};
 ghost use Rattle.desc_parents.specs.desc_stores.specs.Contents.{residents_of, IsLowestFreeOf};
 ghost use Rattle.desc_parents.specs.desc_stores.specs.Changes.{KeepsContents, room_of};
 ghost use Rattle.desc_parents.specs.shown_state.specs.Shown.{shown};

@@ -4,8 +4,8 @@ ghost use Rattle.std.specs.Prelude.{◌≡◌, ◌≢◌, is_some, AllPairs, Som
 ghost use Rattle.cache_ident.specs.Rolls.{standing_in};
 ghost use Rattle.cache_ident.specs.declared.idents.Standing.TheVariants.{Live};
 ghost use Rattle.cache_ident.specs.Residents.{Resident};
-ghost use Rattle.flat_state.specs.Dependence.{owner};
-ghost use Rattle.flat_state.specs.Names.{class_by, class_of as class_in};
+ghost use Rattle.desc_parents.specs.flat_state.specs.Dependence.{owner};
+ghost use Rattle.desc_parents.specs.flat_state.specs.Names.{class_by, class_of as class_in};
 ghost use Rattle.desc_parents.specs.desc_stores.specs.Contents.{content_of, resident_as, residents_of};
 ghost use Rattle.desc_parents.specs.desc_stores.specs.Items.{name_of, shown};
 ghost use Rattle.desc_parents.specs.resident_pairs.specs.Among.{AreParents};

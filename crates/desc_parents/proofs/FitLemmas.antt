@@ -8,8 +8,8 @@ use Rattle.cache_ident.specs.declared.names.KernelNo.{KernelNo}
 use Rattle.cache_ident.specs.declared.names.Name.TheVariants as name
 use Rattle.cache_ident.specs.declared.names.SpaceNo.{SpaceNo}
 use Rattle.phys_groups.specs.Translation.{right_on}
-use Rattle.flat_state.specs.Dependence.{owner}
-use Rattle.flat_state.specs.Translation.{kernel_rights, rights_in, rights_of}
+use Rattle.group_laws.specs.flat_state.specs.Dependence.{owner}
+use Rattle.group_laws.specs.flat_state.specs.Translation.{kernel_rights, rights_in, rights_of}
 use Rattle.store_residents.specs.desc_stores.specs.declared.items.ItemRef.{ItemRef}
 use Rattle.store_residents.specs.desc_stores.specs.Contents.{content_of, Contents}
 use Rattle.store_residents.specs.desc_stores.specs.Items.{shown}

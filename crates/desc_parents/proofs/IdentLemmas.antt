@@ -10,13 +10,13 @@ use Rattle.sorted_list.proofs.ListLemmas.{Contains-cons_cases}
 use Rattle.cache_ident.specs.declared.idents.Ident.{Ident}
 use Rattle.cache_ident.specs.declared.names.Name.{Name}
 use Rattle.cache_ident.specs.Residents.{Resident, IsNameResident, IsResident}
-use Rattle.flat_laws.proofs.Members.{contains_nothing, Contains-filter_map, Contains-from_filter_map}
-use Rattle.flat_state.specs.Dependence.{parents}
-use Rattle.flat_state.specs.State.{FlatState}
-use Rattle.flat_state.proofs.Finding.{find-contains, find-passes}
-use Rattle.owner_shelf.proofs.NameLemmas.{eq_same, same_by_eq}
-use Rattle.kind_store.specs.Changes.{is_name}
-use Rattle.store_residents.specs.journal_laws.specs.Leaving.{HaveOneEach}
+use Rattle.group_laws.specs.flat_laws.proofs.Members.{contains_nothing, Contains-filter_map, Contains-from_filter_map}
+use Rattle.group_laws.specs.flat_state.specs.Dependence.{parents}
+use Rattle.group_laws.specs.flat_state.specs.State.{FlatState}
+use Rattle.group_laws.specs.flat_state.proofs.Finding.{find-contains, find-passes}
+use Rattle.shown_state.specs.owner_shelf.proofs.NameLemmas.{eq_same, same_by_eq}
+use Rattle.shown_state.specs.kind_store.specs.Changes.{is_name}
+use Rattle.group_laws.specs.journal_laws.specs.Leaving.{HaveOneEach}
 use Rattle.group_laws.proofs.Remaining.{pairs_head, pairs_tail}
 use Rattle.store_residents.specs.desc_stores.specs.Contents.{residents_of, Contents, HasNoResident, IsResidentAs}
 use Rattle.store_residents.specs.desc_stores.specs.Sound.{IsExactlyOne}

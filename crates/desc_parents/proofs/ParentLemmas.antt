@@ -6,15 +6,15 @@ use Rattle.cache_ident.specs.declared.names.Name.{Name}
 use Rattle.cache_ident.specs.declared.names.Name.TheVariants as name
 use Rattle.phys_groups.specs.declared.rows.Row.{Row}
 use Rattle.phys_groups.specs.Rows.{row_name}
-use Rattle.flat_state.specs.State.{FlatState}
-use Rattle.flat_state.specs.Dependence.{parents, parents_of_found, parents_of_row}
-use Rattle.kernel_cache.specs.declared.KernelRec.{KernelRec}
-use Rattle.kernel_cache.specs.Kernels as kernel_rec
-use Rattle.space_cache.specs.declared.SpaceRec.{SpaceRec}
-use Rattle.space_cache.specs.Spaces as space_rec
-use Rattle.thread_cache.specs.declared.ThreadRec.{ThreadRec}
-use Rattle.thread_cache.specs.Threads as thread_rec
-use Rattle.kind_store.specs.Kept as stored
+use Rattle.group_laws.specs.flat_state.specs.State.{FlatState}
+use Rattle.group_laws.specs.flat_state.specs.Dependence.{parents, parents_of_found, parents_of_row}
+use Rattle.shown_state.specs.kernel_cache.specs.declared.KernelRec.{KernelRec}
+use Rattle.shown_state.specs.kernel_cache.specs.Kernels as kernel_rec
+use Rattle.shown_state.specs.space_cache.specs.declared.SpaceRec.{SpaceRec}
+use Rattle.shown_state.specs.space_cache.specs.Spaces as space_rec
+use Rattle.shown_state.specs.thread_cache.specs.declared.ThreadRec.{ThreadRec}
+use Rattle.shown_state.specs.thread_cache.specs.Threads as thread_rec
+use Rattle.shown_state.specs.kind_store.specs.Kept as stored
 use Rattle.store_residents.specs.desc_stores.specs.declared.items.Item.{Item}
 use Rattle.store_residents.specs.desc_stores.specs.declared.items.Item.TheVariants as item
 use Rattle.store_residents.specs.desc_stores.specs.declared.items.ItemRef.{ItemRef}

@@ -4,9 +4,9 @@ use Rattle.std.proofs.lemmas.List.Elements.{All-contains}
 use Rattle.std.proofs.lemmas.List.Sums.{count_by-le-length}
 use Rattle.cache_ident.specs.declared.names.Name.{Name}
 use Rattle.phys_groups.specs.declared.rows.Row.{Row}
-use Rattle.signal_pages.specs.Signals.{is_signal_row_of}
-use Rattle.flat_laws.proofs.Members.{Contains-from_filter_map}
-use Rattle.flat_state.specs.Declaration.{agree}
+use Rattle.group_laws.specs.signal_pages.specs.Signals.{is_signal_row_of}
+use Rattle.group_laws.specs.flat_laws.proofs.Members.{Contains-from_filter_map}
+use Rattle.group_laws.specs.flat_state.specs.Declaration.{agree}
 use Rattle.store_residents.specs.desc_stores.specs.Contents.{content_of, Contents}
 use Rattle.store_residents.specs.desc_stores.specs.Sound.{IsExactlyOne}
 use Rattle.shown_state.specs.Shown.{row_of_item, shown}

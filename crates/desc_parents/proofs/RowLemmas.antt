@@ -17,14 +17,14 @@ use Rattle.cache_ident.specs.declared.names.ThreadNo.{ThreadNo}
 use Rattle.cache_ident.specs.Residents.{Resident}
 use Rattle.phys_groups.specs.declared.rows.Row.{Row}
 use Rattle.phys_groups.specs.Rows.{row_name}
-use Rattle.signal_pages.specs.Signals.{is_signal_row_of}
-use Rattle.flat_laws.proofs.Members.{length-filter_map, Contains-filter_map}
-use Rattle.flat_state.specs.Declaration.{agree}
-use Rattle.flat_state.specs.State.{FlatState}
-use Rattle.flat_state.specs.Dependence.{parents_of_row, signal_rows_of}
-use Rattle.flat_state.specs.Names.{is_fit_found}
-use Rattle.flat_state.specs.Translation.{is_fit_row}
-use Rattle.row_store.specs.Kept.{is_signal, is_signal_of, signal_names}
+use Rattle.group_laws.specs.signal_pages.specs.Signals.{is_signal_row_of}
+use Rattle.group_laws.specs.flat_laws.proofs.Members.{length-filter_map, Contains-filter_map}
+use Rattle.group_laws.specs.flat_state.specs.Declaration.{agree}
+use Rattle.group_laws.specs.flat_state.specs.State.{FlatState}
+use Rattle.group_laws.specs.flat_state.specs.Dependence.{parents_of_row, signal_rows_of}
+use Rattle.group_laws.specs.flat_state.specs.Names.{is_fit_found}
+use Rattle.group_laws.specs.flat_state.specs.Translation.{is_fit_row}
+use Rattle.shown_state.specs.row_store.specs.Kept.{is_signal, is_signal_of, signal_names}
 use Rattle.store_residents.specs.desc_stores.specs.Contents.{content_of, Contents}
 use Rattle.store_residents.specs.desc_stores.specs.Sound.{IsExactlyOne}
 use Rattle.shown_state.specs.Shown.{row_of_item, shown}

@@ -6,10 +6,10 @@ use Rattle.cache_ident.specs.declared.names.Frame.{Frame}
 use Rattle.cache_ident.specs.declared.names.Name.{Name}
 use Rattle.cache_ident.specs.Residents.{Resident}
 use Rattle.phys_groups.specs.Rows.{row_name}
-use Rattle.signal_pages.specs.Signals.{is_signal_row_of}
-use Rattle.flat_state.specs.State.{FlatState}
-use Rattle.flat_state.specs.Translation.{is_fit_row}
-use Rattle.kind_store.specs.Changes.{is_name}
+use Rattle.group_laws.specs.signal_pages.specs.Signals.{is_signal_row_of}
+use Rattle.group_laws.specs.flat_state.specs.State.{FlatState}
+use Rattle.group_laws.specs.flat_state.specs.Translation.{is_fit_row}
+use Rattle.shown_state.specs.kind_store.specs.Changes.{is_name}
 
 -- the identifier of what is resident under a name
 unfoldable pub ident_of : List Resident → Name → Option Ident

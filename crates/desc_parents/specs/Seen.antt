@@ -2,8 +2,8 @@
 use Rattle.std.specs.Prelude.{◌<◌, ◌≤◌, None, [], Contains, count_by}
 use Rattle.cache_ident.specs.declared.names.Frame.{Frame}
 use Rattle.phys_groups.specs.declared.rows.Row.{Row}
-use Rattle.signal_pages.specs.Signals.{is_signal_row_of}
-use Rattle.flat_state.specs.State.{FlatState}
+use Rattle.group_laws.specs.signal_pages.specs.Signals.{is_signal_row_of}
+use Rattle.group_laws.specs.flat_state.specs.State.{FlatState}
 use Rattle.store_residents.specs.desc_stores.specs.Contents.{Contents}
 use Rattle.shown_state.specs.Shown.{shown}
 use Rattle.group_laws.specs.Leaving.{AreAgreed}

@@ -3,9 +3,9 @@
 ghost use Rattle.std.specs.Prelude.{◌≡◌, ℕ, ◌<◌};
 ghost use Rattle.cache_ident.specs.declared.names.Name.{Name};
 ghost use Rattle.phys_groups.specs.Translation.{right_on};
-ghost use Rattle.flat_state.specs.Dependence.{owner};
-ghost use Rattle.flat_state.specs.Names.{is_fit_found};
-ghost use Rattle.flat_state.specs.Translation.{is_fit_row, rights_of};
+ghost use Rattle.group_laws.specs.flat_state.specs.Dependence.{owner};
+ghost use Rattle.group_laws.specs.flat_state.specs.Names.{is_fit_found};
+ghost use Rattle.group_laws.specs.flat_state.specs.Translation.{is_fit_row, rights_of};
 ghost use Rattle.store_residents.specs.desc_stores.specs.Contents.{content_of};
 ghost use Rattle.shown_state.specs.Shown.{row_of_item};
 ghost use Rattle.desc_parents.specs.Seen.{seen, HasPlainRows};

@@ -2,7 +2,7 @@
 
 ghost use Rattle.std.specs.Prelude.{◌≡◌, ◌≢◌, ◌<◌, ◌≤◌, [], ◌∷◌, length, AllPairs, Contains, Some};
 ghost use Rattle.depend_lists.specs.declared.nodes.TheConstants.{MOST_PARENTS};
-ghost use Rattle.flat_state.specs.Dependence.{parents_of_row};
+ghost use Rattle.group_laws.specs.flat_state.specs.Dependence.{parents_of_row};
 ghost use Rattle.store_residents.specs.desc_stores.specs.Contents.{content_of, residents_of};
 ghost use Rattle.store_residents.specs.desc_stores.specs.Items.{name_of, shown};
 ghost use Rattle.store_residents.specs.resident_pairs.specs.Among.{AreParents};

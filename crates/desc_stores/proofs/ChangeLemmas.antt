@@ -16,7 +16,7 @@ use Rattle.slot_cache.specs.declared.loaded.Loaded.{Loaded}
 use Rattle.slot_cache.specs.Cells.{cell_at, IsLoaded, NameIs}
 use Rattle.slot_cache.specs.Rows.{row_name}
 use Rattle.slot_cache.proofs.SlotLemmas.{cell_within, one_at, some_same}
-use Rattle.owner_shelf.proofs.NameLemmas.{eq_same}
+use Rattle.kind_store.specs.owner_shelf.proofs.NameLemmas.{eq_same}
 use Rattle.kernel_cache.specs.declared.KernelRec.{KernelRec}
 use Rattle.kernel_cache.specs.Kernels as kernel_rec
 use Rattle.space_cache.specs.declared.SpaceRec.{SpaceRec}

@@ -15,8 +15,8 @@ use Rattle.slot_cache.specs.declared.loaded.Loaded.{Loaded}
 use Rattle.slot_cache.specs.Cells.{cell_at, with_value}
 use Rattle.slot_cache.specs.Rows.{row_name}
 use Rattle.slot_cache.proofs.SlotLemmas.{some_same}
-use Rattle.owner_shelf.specs.Rows.{content_under}
-use Rattle.owner_shelf.proofs.NameLemmas.{same_by_eq}
+use Rattle.kind_store.specs.owner_shelf.specs.Rows.{content_under}
+use Rattle.kind_store.specs.owner_shelf.proofs.NameLemmas.{same_by_eq}
 use Rattle.thread_cache.specs.declared.ThreadRec.{ThreadRec}
 use Rattle.thread_cache.specs.Threads as thread_rec
 use Rattle.kind_store.specs.Changes as moves

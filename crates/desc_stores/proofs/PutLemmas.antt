@@ -10,9 +10,9 @@ use Rattle.sorted_list.specs.Sorted.{IsAdded}
 use Rattle.slot_cache.specs.declared.loaded.Loaded.{Loaded}
 use Rattle.slot_cache.specs.Cells.{cell_at, HasNoName}
 use Rattle.slot_cache.proofs.SlotLemmas.{some_same}
-use Rattle.owner_shelf.specs.declared.shelved.Shelved.{Shelved}
-use Rattle.owner_shelf.specs.Rows.{content_under, is_named, row_under, rows_without}
-use Rattle.owner_shelf.proofs.RowLaws.{found_named}
+use Rattle.kind_store.specs.owner_shelf.specs.declared.shelved.Shelved.{Shelved}
+use Rattle.kind_store.specs.owner_shelf.specs.Rows.{content_under, is_named, row_under, rows_without}
+use Rattle.kind_store.specs.owner_shelf.proofs.RowLaws.{found_named}
 use Rattle.kind_store.specs.Kept as stored
 use Rattle.kind_store.proofs.CellLemmas.{found-absent, found-there}
 use Rattle.kind_store.proofs.ContentLemmas.{content-loaded, content-shelved}

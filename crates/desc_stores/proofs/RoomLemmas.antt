@@ -13,8 +13,8 @@ use Rattle.slot_cache.specs.declared.loaded.Loaded.{Loaded}
 use Rattle.slot_cache.specs.Cells.{HasNoName, IsFoundAs}
 use Rattle.slot_cache.specs.Rows.{row_name}
 use Rattle.slot_cache.proofs.SlotLemmas.{all_none, not_none, some_same}
-use Rattle.owner_shelf.specs.declared.shelved.Shelved.{Shelved}
-use Rattle.owner_shelf.specs.Rows.{row_under}
+use Rattle.kind_store.specs.owner_shelf.specs.declared.shelved.Shelved.{Shelved}
+use Rattle.kind_store.specs.owner_shelf.specs.Rows.{row_under}
 use Rattle.kernel_cache.specs.declared.KernelRec.{KernelRec}
 use Rattle.kernel_cache.specs.Kernels as kernel_rec
 use Rattle.space_cache.specs.declared.SpaceRec.{SpaceRec}

@@ -27,7 +27,7 @@ use Rattle.kind_store.specs.Changes as moves
 use Rattle.kind_store.specs.Changes.{is_name}
 use Rattle.kind_store.specs.Rolls.{AreEnrolled, StaysEnrolled}
 use Rattle.kind_store.proofs.EnrolLemmas.{enrolled-none, standing_in-issued_other}
-use Rattle.owner_shelf.proofs.NameLemmas.{eq_same, same_by_eq}
+use Rattle.kind_store.specs.owner_shelf.proofs.NameLemmas.{eq_same, same_by_eq}
 use Rattle.desc_stores.specs.Contents.{Contents}
 use Rattle.desc_stores.specs.Sound.{kernel_named, space_named, thread_named, AreSound, IsListed, IsNumbered}
 

@@ -13,7 +13,7 @@ use Rattle.cache_ident.specs.Residents.{Resident}
 use Rattle.slot_cache.specs.declared.loaded.Loaded.{Loaded}
 use Rattle.slot_cache.specs.Cells.{IsFull, IsLowestFree, IsVictim, NoneMayGo}
 use Rattle.slot_cache.specs.Rows.{row_name}
-use Rattle.owner_shelf.specs.Rows.{content_under, row_under}
+use Rattle.kind_store.specs.owner_shelf.specs.Rows.{content_under, row_under}
 use Rattle.kernel_cache.specs.declared.KernelRec.{KernelRec}
 use Rattle.kernel_cache.specs.Kernels as kernel_rec
 use Rattle.space_cache.specs.declared.SpaceRec.{SpaceRec}

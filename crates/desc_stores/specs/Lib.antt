@@ -1,3 +1,10 @@
+pub use Rattle.row_store
+pub use Rattle.kind_store
+pub use Rattle.kind_store.specs.owner_shelf
+pub use Rattle.thread_cache
+pub use Rattle.space_cache
+pub use Rattle.kernel_cache
+pub use Rattle.slot_cache
 pub mod Items
 pub mod Contents
 pub mod Sound

@@ -18,7 +18,7 @@ ghost use Rattle.phys_groups.specs.declared.rows.Row.{Row};
 ghost use Rattle.thread_cache.specs.declared.ThreadRec.{ThreadRec};
 ghost use Rattle.slot_cache.specs.Cells.{loaded_in, HasExactlyLoaded, IsInOrderOfSlot};
 ghost use Rattle.slot_cache.specs.Rows.{row_name};
-ghost use Rattle.owner_shelf.specs.Rows.{content_under};
+ghost use Rattle.kind_store.specs.owner_shelf.specs.Rows.{content_under};
 ghost use Rattle.kind_store.specs.Changes.{is_name};
 ghost use Rattle.row_store.specs.Kept.{signal_names};
 ghost use Rattle.desc_stores.specs.declared.items.Item.{Item};

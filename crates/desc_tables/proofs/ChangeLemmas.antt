@@ -18,28 +18,28 @@ use Rattle.phys_groups.specs.declared.rows.Flags.{Flags}
 use Rattle.phys_groups.specs.declared.rows.Row.{Row}
 use Rattle.phys_groups.specs.Rows.{row_name, HasOneRowAPage}
 use Rattle.phys_groups.specs.Translation.{covers, is_row_of, row_of}
-use Rattle.signal_pages.specs.Signals.{is_signal_row_of}
+use Rattle.row_store.specs.signal_pages.specs.Signals.{is_signal_row_of}
 use Rattle.kernel_cache.specs.declared.KernelRec.{KernelRec}
-use Rattle.space_cache.specs.declared.SpaceRec.{SpaceRec}
-use Rattle.flat_state.specs.declared.events.Machine.{Machine}
-use Rattle.flat_state.specs.declared.records.FlatThread.{FlatThread}
-use Rattle.flat_state.specs.Declaration.{agree}
-use Rattle.flat_state.specs.State.{FlatState}
-use Rattle.flat_state.specs.Translation.{is_fit_row, rights_of}
-use Rattle.flat_state.specs.Dependence.{owner, signal_rows_of}
-use Rattle.flat_state.proofs.Finding.{find-contains}
-use Rattle.flat_state.proofs.Places.{get-set_same, get-set_other}
-use Rattle.flat_laws.proofs.Members.{Contains-from_map}
-use Rattle.run_journal.specs.Legal.{AreGood}
+use Rattle.desc_groups.specs.space_cache.specs.declared.SpaceRec.{SpaceRec}
+use Rattle.desc_groups.specs.flat_state.specs.declared.events.Machine.{Machine}
+use Rattle.desc_groups.specs.flat_state.specs.declared.records.FlatThread.{FlatThread}
+use Rattle.desc_groups.specs.flat_state.specs.Declaration.{agree}
+use Rattle.desc_groups.specs.flat_state.specs.State.{FlatState}
+use Rattle.desc_groups.specs.flat_state.specs.Translation.{is_fit_row, rights_of}
+use Rattle.desc_groups.specs.flat_state.specs.Dependence.{owner, signal_rows_of}
+use Rattle.desc_groups.specs.flat_state.proofs.Finding.{find-contains}
+use Rattle.desc_groups.specs.flat_state.proofs.Places.{get-set_same, get-set_other}
+use Rattle.desc_groups.specs.flat_laws.proofs.Members.{Contains-from_map}
+use Rattle.desc_groups.specs.run_journal.specs.Legal.{AreGood}
 use Rattle.desc_groups.specs.group_laws.proofs.Ranks.{own_row}
-use Rattle.kind_store.specs.Changes.{is_name}
+use Rattle.row_store.specs.kind_store.specs.Changes.{is_name}
 use Rattle.desc_groups.specs.desc_stores.specs.declared.items.Item.{Item}
 use Rattle.desc_groups.specs.desc_stores.specs.declared.items.Item.TheVariants as item
 use Rattle.desc_groups.specs.desc_stores.specs.Changes.{with_item, with_named, HasContent, KeepsContents}
 use Rattle.desc_groups.specs.desc_stores.specs.Contents.{content_of, item_as, residents_of, Contents}
 use Rattle.desc_groups.specs.desc_stores.specs.Items.{name_of, Agrees}
 use Rattle.desc_groups.specs.desc_stores.specs.Sound.{AreOwned, IsExactlyOne}
-use Rattle.owner_shelf.proofs.NameLemmas.{same_by_eq}
+use Rattle.row_store.specs.owner_shelf.proofs.NameLemmas.{same_by_eq}
 use Rattle.desc_groups.specs.shown_state.specs.Shown.{flat_thread, row_of_item, shown, thread_of, HasSameNames}
 use Rattle.desc_groups.specs.shown_state.specs.Edits.{in_place_of, with_changed}
 use Rattle.desc_groups.specs.shown_state.specs.Owning.{OwnersStay}

@@ -6,10 +6,10 @@ use Rattle.cache_ident.specs.declared.idents.Kind.{Kind}
 use Rattle.cache_ident.specs.declared.idents.Kind.TheVariants as kind
 use Rattle.cache_ident.specs.Residents.{Resident, without}
 use Rattle.cache_ident.specs.Rolls.{is_same}
-use Rattle.flat_state.proofs.Places.{count_by-cons, count_by-filter}
-use Rattle.flat_laws.proofs.Members.{Contains-here, Contains-behind, Contains-cases, contains_nothing}
-use Rattle.run_journal.specs.Legal.{count_of, is_kind}
-use Rattle.run_journal.proofs.Others.{other_ident, stays_without}
+use Rattle.desc_groups.specs.flat_state.proofs.Places.{count_by-cons, count_by-filter}
+use Rattle.desc_groups.specs.flat_laws.proofs.Members.{Contains-here, Contains-behind, Contains-cases, contains_nothing}
+use Rattle.desc_groups.specs.run_journal.specs.Legal.{count_of, is_kind}
+use Rattle.desc_groups.specs.run_journal.proofs.Others.{other_ident, stays_without}
 use Rattle.desc_groups.specs.group_laws.specs.Leaving.{without_all}
 
 module _ {X : Type 0} where

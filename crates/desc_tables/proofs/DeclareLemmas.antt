@@ -23,19 +23,19 @@ use Rattle.cache_ident.specs.Residents.{Resident}
 use Rattle.phys_groups.specs.declared.rows.Row.{Row}
 use Rattle.phys_groups.specs.Rows.{row_name}
 use Rattle.phys_groups.specs.Translation.{is_fit, is_row_of, row_of}
-use Rattle.signal_pages.specs.Signals.{is_signal_row_of}
-use Rattle.flat_state.specs.declared.records.FlatKernel.{FlatKernel}
-use Rattle.flat_state.specs.declared.records.FlatThread.{FlatThread}
-use Rattle.flat_state.specs.Declaration.{agree, locks_granted}
-use Rattle.flat_state.specs.State.{FlatState}
-use Rattle.flat_state.specs.Translation.{is_fit_row, kernel_rights, rights_in, rights_of}
-use Rattle.flat_state.specs.Dependence.{owner, owner_of_row, owner_of_thread, signal_rows_of}
-use Rattle.flat_state.proofs.Finding.{find-contains}
-use Rattle.flat_state.proofs.Places.{count_by-cons, Contains-from_get}
-use Rattle.flat_laws.proofs.Members.{contains_nothing, Contains-behind, Contains-cases, Contains-here}
-use Rattle.flat_laws.proofs.ParentLaws.{there_is}
-use Rattle.run_journal.proofs.Growth.{count-append}
-use Rattle.run_journal.specs.Legal.{is_kernel, is_kind, locked_by, AreGood}
+use Rattle.row_store.specs.signal_pages.specs.Signals.{is_signal_row_of}
+use Rattle.desc_groups.specs.flat_state.specs.declared.records.FlatKernel.{FlatKernel}
+use Rattle.desc_groups.specs.flat_state.specs.declared.records.FlatThread.{FlatThread}
+use Rattle.desc_groups.specs.flat_state.specs.Declaration.{agree, locks_granted}
+use Rattle.desc_groups.specs.flat_state.specs.State.{FlatState}
+use Rattle.desc_groups.specs.flat_state.specs.Translation.{is_fit_row, kernel_rights, rights_in, rights_of}
+use Rattle.desc_groups.specs.flat_state.specs.Dependence.{owner, owner_of_row, owner_of_thread, signal_rows_of}
+use Rattle.desc_groups.specs.flat_state.proofs.Finding.{find-contains}
+use Rattle.desc_groups.specs.flat_state.proofs.Places.{count_by-cons, Contains-from_get}
+use Rattle.desc_groups.specs.flat_laws.proofs.Members.{contains_nothing, Contains-behind, Contains-cases, Contains-here}
+use Rattle.desc_groups.specs.flat_laws.proofs.ParentLaws.{there_is}
+use Rattle.desc_groups.specs.run_journal.proofs.Growth.{count-append}
+use Rattle.desc_groups.specs.run_journal.specs.Legal.{is_kernel, is_kind, locked_by, AreGood}
 use Rattle.desc_tables.specs.Tables.{ArePlaced}
 use Rattle.desc_tables.proofs.LikeLemmas.{fit_there, KeepsLoaded}
 use Rattle.desc_tables.proofs.ListLemmas.{filter-agree}

@@ -12,13 +12,13 @@ use Rattle.cache_ident.specs.Names.{amount_of}
 use Rattle.cache_ident.specs.Residents.{Resident}
 use Rattle.cache_ident.specs.Rolls.{is_same}
 use Rattle.cache_ident.proofs.RollLemmas.{is_same-refl, same_ident}
-use Rattle.flat_state.specs.declared.records.FlatKernel.{FlatKernel}
-use Rattle.flat_state.specs.State.{FlatState}
-use Rattle.flat_state.specs.Dependence.{owner}
-use Rattle.flat_state.specs.Declaration.{locks_granted}
-use Rattle.flat_state.proofs.Places.{count_by-cons}
-use Rattle.flat_laws.proofs.Members.{Contains-cases, contains_nothing}
-use Rattle.run_journal.specs.Legal.{count_of, is_kernel, is_kind, limits_in, locked_by}
+use Rattle.desc_groups.specs.flat_state.specs.declared.records.FlatKernel.{FlatKernel}
+use Rattle.desc_groups.specs.flat_state.specs.State.{FlatState}
+use Rattle.desc_groups.specs.flat_state.specs.Dependence.{owner}
+use Rattle.desc_groups.specs.flat_state.specs.Declaration.{locks_granted}
+use Rattle.desc_groups.specs.flat_state.proofs.Places.{count_by-cons}
+use Rattle.desc_groups.specs.flat_laws.proofs.Members.{Contains-cases, contains_nothing}
+use Rattle.desc_groups.specs.run_journal.specs.Legal.{count_of, is_kernel, is_kind, limits_in, locked_by}
 use Rattle.desc_groups.specs.journal_laws.specs.Leaving.{AreApart}
 use Rattle.desc_groups.specs.group_laws.proofs.Counting.{apart_behind, apart_first}
 use Rattle.desc_tables.specs.May.{kept_of}

@@ -14,14 +14,14 @@ use Rattle.cache_ident.specs.Residents.{Resident}
 use Rattle.phys_groups.specs.declared.rows.Row.{Row}
 use Rattle.phys_groups.specs.Rows.{row_name}
 use Rattle.phys_groups.specs.Translation.{row_of}
-use Rattle.flat_state.specs.declared.records.FlatThread.{FlatThread}
-use Rattle.flat_state.specs.State.{FlatState}
-use Rattle.flat_state.specs.Translation.{is_fit_row}
-use Rattle.flat_state.specs.Dependence.{owner, owner_of_row, owner_of_thread, parents, parents_of_found, signal_rows_of, Depends}
-use Rattle.flat_state.specs.Names.{class_by, class_of, class_of_row, is_fit_found, is_fit_name, stands}
-use Rattle.flat_laws.proofs.Members.{Contains-here}
-use Rattle.run_journal.specs.Groups.{HasParents}
-use Rattle.run_journal.specs.Legal.{AreGood}
+use Rattle.desc_groups.specs.flat_state.specs.declared.records.FlatThread.{FlatThread}
+use Rattle.desc_groups.specs.flat_state.specs.State.{FlatState}
+use Rattle.desc_groups.specs.flat_state.specs.Translation.{is_fit_row}
+use Rattle.desc_groups.specs.flat_state.specs.Dependence.{owner, owner_of_row, owner_of_thread, parents, parents_of_found, signal_rows_of, Depends}
+use Rattle.desc_groups.specs.flat_state.specs.Names.{class_by, class_of, class_of_row, is_fit_found, is_fit_name, stands}
+use Rattle.desc_groups.specs.flat_laws.proofs.Members.{Contains-here}
+use Rattle.desc_groups.specs.run_journal.specs.Groups.{HasParents}
+use Rattle.desc_groups.specs.run_journal.specs.Legal.{AreGood}
 use Rattle.desc_tables.proofs.SoundLemmas.{IsLikeFor}
 
 abbrev first_kernel : KernelNo

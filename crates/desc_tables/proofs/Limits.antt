@@ -16,10 +16,10 @@ use Rattle.cache_ident.specs.Residents.{Resident, with_loaded, with_lock}
 use Rattle.depend_lists.specs.declared.nodes.Node.{Node}
 use Rattle.depend_lists.specs.Pairs as dependence
 use Rattle.kernel_cache.specs.declared.KernelRec.{KernelRec}
-use Rattle.flat_state.specs.State.{FlatState}
-use Rattle.flat_state.specs.Dependence.{owner}
-use Rattle.flat_state.specs.Declaration.{locks_granted}
-use Rattle.run_journal.specs.Legal.{is_kernel, is_kind, limit_of, limits_in, locked_by}
+use Rattle.desc_groups.specs.flat_state.specs.State.{FlatState}
+use Rattle.desc_groups.specs.flat_state.specs.Dependence.{owner}
+use Rattle.desc_groups.specs.flat_state.specs.Declaration.{locks_granted}
+use Rattle.desc_groups.specs.run_journal.specs.Legal.{is_kernel, is_kind, limit_of, limits_in, locked_by}
 use Rattle.desc_groups.specs.desc_stores.specs.declared.items.Item.{Item}
 use Rattle.desc_groups.specs.desc_stores.specs.declared.items.Item.TheVariants as item
 use Rattle.desc_groups.specs.desc_stores.specs.Contents.{content_of, resident_as, residents_of, Contents}

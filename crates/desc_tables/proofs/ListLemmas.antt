@@ -4,7 +4,7 @@ use Rattle.std.specs.List.{count_by, find}
 use Rattle.std.specs.Option.{option_map}
 use Rattle.std.proofs.lemmas.List.{length-map}
 use Rattle.std.proofs.lemmas.List.Sums.{length-filter}
-use Rattle.flat_laws.proofs.Members.{Contains-here, Contains-behind}
+use Rattle.desc_groups.specs.flat_laws.proofs.Members.{Contains-here, Contains-behind}
 
 module _ {X : Type 0} where
   -- two tests that agree on the elements keep the same

@@ -8,12 +8,12 @@ use Rattle.slot_cache.specs.Rows.{row_name}
 use Rattle.phys_groups.specs.declared.rows.Row.{Row}
 use Rattle.kernel_cache.specs.declared.KernelRec.{KernelRec}
 use Rattle.kernel_cache.specs.Kernels as kernel_rec
-use Rattle.space_cache.specs.declared.SpaceRec.{SpaceRec}
-use Rattle.space_cache.specs.Spaces as space_rec
+use Rattle.desc_groups.specs.space_cache.specs.declared.SpaceRec.{SpaceRec}
+use Rattle.desc_groups.specs.space_cache.specs.Spaces as space_rec
 use Rattle.thread_cache.specs.declared.ThreadRec.{ThreadRec}
 use Rattle.thread_cache.specs.Threads as thread_rec
-use Rattle.kind_store.specs.Kept.{Kept}
-use Rattle.kind_store.specs.Changes.{cells_with, loaded_with, with_content}
+use Rattle.row_store.specs.kind_store.specs.Kept.{Kept}
+use Rattle.row_store.specs.kind_store.specs.Changes.{cells_with, loaded_with, with_content}
 use Rattle.desc_groups.specs.desc_stores.specs.declared.items.Item.{Item}
 use Rattle.desc_groups.specs.desc_stores.specs.declared.items.Item.TheVariants as item
 use Rattle.desc_groups.specs.desc_stores.specs.Changes.{with_named}

@@ -8,16 +8,16 @@ use Rattle.cache_ident.specs.declared.rolls.Issued.{Issued}
 use Rattle.cache_ident.specs.Residents.{Resident}
 use Rattle.depend_lists.specs.Pairs.{count_of}
 use Rattle.desc_groups.specs.resident_pairs.specs.Among.{Among}
-use Rattle.owner_shelf.specs.declared.shelved.Shelved.{Shelved}
+use Rattle.row_store.specs.owner_shelf.specs.declared.shelved.Shelved.{Shelved}
 use Rattle.slot_cache.specs.Rows.{row_name}
 use Rattle.kernel_cache.specs.Kernels as kernel_rec
-use Rattle.space_cache.specs.Spaces as space_rec
+use Rattle.desc_groups.specs.space_cache.specs.Spaces as space_rec
 use Rattle.thread_cache.specs.Threads as thread_rec
-use Rattle.flat_state.specs.State.{nothing_declared, FlatState}
-use Rattle.flat_state.specs.Dependence.{owner}
-use Rattle.flat_state.specs.Names.{stands}
-use Rattle.flat_laws.proofs.Members.{contains_nothing}
-use Rattle.kind_store.specs.Kept as stored
+use Rattle.desc_groups.specs.flat_state.specs.State.{nothing_declared, FlatState}
+use Rattle.desc_groups.specs.flat_state.specs.Dependence.{owner}
+use Rattle.desc_groups.specs.flat_state.specs.Names.{stands}
+use Rattle.desc_groups.specs.flat_laws.proofs.Members.{contains_nothing}
+use Rattle.row_store.specs.kind_store.specs.Kept as stored
 use Rattle.desc_groups.specs.desc_stores.specs.declared.items.Item.{Item}
 use Rattle.desc_groups.specs.desc_stores.specs.Changes.{IsNothing}
 use Rattle.desc_groups.specs.desc_stores.specs.Contents.{content_of, residents_of, Contents}

@@ -10,13 +10,13 @@ use Rattle.cache_ident.specs.declared.names.Name.TheVariants as name
 use Rattle.cache_ident.specs.declared.names.SpaceNo.{SpaceNo}
 use Rattle.cache_ident.specs.Residents.{Resident}
 use Rattle.phys_groups.specs.Translation.{row_of}
-use Rattle.flat_state.specs.declared.records.FlatThread.{FlatThread}
-use Rattle.flat_state.specs.State.{FlatState}
-use Rattle.flat_state.specs.Dependence.{owner, owner_of_row, owner_of_thread, parents, parents_of_found}
-use Rattle.flat_state.specs.Names.{stands}
-use Rattle.flat_laws.proofs.Members.{Contains-here, Contains-some}
-use Rattle.run_journal.specs.Groups.{HasParents}
-use Rattle.run_journal.specs.Legal.{AreGood}
+use Rattle.desc_groups.specs.flat_state.specs.declared.records.FlatThread.{FlatThread}
+use Rattle.desc_groups.specs.flat_state.specs.State.{FlatState}
+use Rattle.desc_groups.specs.flat_state.specs.Dependence.{owner, owner_of_row, owner_of_thread, parents, parents_of_found}
+use Rattle.desc_groups.specs.flat_state.specs.Names.{stands}
+use Rattle.desc_groups.specs.flat_laws.proofs.Members.{Contains-here, Contains-some}
+use Rattle.desc_groups.specs.run_journal.specs.Groups.{HasParents}
+use Rattle.desc_groups.specs.run_journal.specs.Legal.{AreGood}
 use Rattle.desc_groups.specs.store_residents.proofs.SlotLaws.{what_is_there}
 
 -- a kernel owns the name, and stands

@@ -17,19 +17,19 @@ use Rattle.cache_ident.specs.Residents.{Resident}
 use Rattle.depend_lists.specs.declared.nodes.Node.{Node}
 use Rattle.phys_groups.specs.declared.rows.Row.{Row}
 use Rattle.phys_groups.specs.Translation.{row_of}
-use Rattle.signal_pages.specs.Signals.{is_signal_row_of}
+use Rattle.row_store.specs.signal_pages.specs.Signals.{is_signal_row_of}
 use Rattle.kernel_cache.specs.declared.KernelRec.{KernelRec}
-use Rattle.flat_state.specs.declared.records.FlatThread.{FlatThread}
-use Rattle.flat_state.specs.State.{FlatState}
-use Rattle.flat_state.specs.Translation.{is_fit_row}
-use Rattle.flat_state.specs.Dependence.{owner}
-use Rattle.flat_state.specs.Names.{stands}
-use Rattle.flat_state.proofs.Places.{get-append}
-use Rattle.run_journal.specs.Legal.{locked_by}
-use Rattle.space_cache.specs.declared.SpaceRec.{SpaceRec}
-use Rattle.space_cache.specs.Spaces as space_rec
-use Rattle.kind_store.specs.Changes.{is_name}
-use Rattle.kind_store.specs.Kept as stored
+use Rattle.desc_groups.specs.flat_state.specs.declared.records.FlatThread.{FlatThread}
+use Rattle.desc_groups.specs.flat_state.specs.State.{FlatState}
+use Rattle.desc_groups.specs.flat_state.specs.Translation.{is_fit_row}
+use Rattle.desc_groups.specs.flat_state.specs.Dependence.{owner}
+use Rattle.desc_groups.specs.flat_state.specs.Names.{stands}
+use Rattle.desc_groups.specs.flat_state.proofs.Places.{get-append}
+use Rattle.desc_groups.specs.run_journal.specs.Legal.{locked_by}
+use Rattle.desc_groups.specs.space_cache.specs.declared.SpaceRec.{SpaceRec}
+use Rattle.desc_groups.specs.space_cache.specs.Spaces as space_rec
+use Rattle.row_store.specs.kind_store.specs.Changes.{is_name}
+use Rattle.row_store.specs.kind_store.specs.Kept as stored
 use Rattle.desc_groups.specs.desc_stores.specs.declared.items.Item.{Item}
 use Rattle.desc_groups.specs.desc_stores.specs.declared.items.Item.TheVariants as item
 use Rattle.desc_groups.specs.desc_stores.specs.Changes.{HasContent, IsDeclaring, IsNext}

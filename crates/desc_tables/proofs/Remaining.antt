@@ -6,11 +6,11 @@ use Rattle.cache_ident.specs.declared.names.Name.{Name}
 use Rattle.cache_ident.specs.Residents.{Resident}
 use Rattle.depend_lists.specs.declared.nodes.Node.{Node}
 use Rattle.sorted_list.proofs.ListLemmas.{Contains-from_map, Contains-map}
-use Rattle.writeback_order.specs.Order.{directly, further, DependsOn}
-use Rattle.flat_state.specs.State.{FlatState}
-use Rattle.flat_state.specs.Dependence.{Depends}
-use Rattle.flat_laws.proofs.Members.{Contains-here, Contains-cases, contains_nothing}
-use Rattle.run_journal.specs.Groups.{node_of, ArePairsOf, HasParents, IsGroup}
+use Rattle.desc_groups.specs.writeback_order.specs.Order.{directly, further, DependsOn}
+use Rattle.desc_groups.specs.flat_state.specs.State.{FlatState}
+use Rattle.desc_groups.specs.flat_state.specs.Dependence.{Depends}
+use Rattle.desc_groups.specs.flat_laws.proofs.Members.{Contains-here, Contains-cases, contains_nothing}
+use Rattle.desc_groups.specs.run_journal.specs.Groups.{node_of, ArePairsOf, HasParents, IsGroup}
 use Rattle.desc_groups.specs.group_laws.specs.Leaving.{without_all}
 use Rattle.desc_groups.specs.group_laws.proofs.Remaining.{stays_without_all}
 

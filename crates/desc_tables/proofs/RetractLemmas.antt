@@ -16,17 +16,17 @@ use Rattle.depend_lists.specs.declared.nodes.Node.{Node}
 use Rattle.phys_groups.specs.declared.rows.Row.{Row}
 use Rattle.phys_groups.specs.Rows.{row_name, HasOneRowAPage}
 use Rattle.phys_groups.specs.Translation.{is_row_of, row_of, without}
-use Rattle.signal_pages.specs.Signals.{is_signal_row_of}
+use Rattle.row_store.specs.signal_pages.specs.Signals.{is_signal_row_of}
 use Rattle.kernel_cache.specs.declared.KernelRec.{KernelRec}
-use Rattle.flat_state.specs.State.{FlatState}
-use Rattle.flat_state.specs.Translation.{is_fit_row}
-use Rattle.flat_state.specs.Dependence.{owner, signal_rows_of}
-use Rattle.flat_state.proofs.Places.{count_by-filter}
-use Rattle.flat_laws.proofs.Members.{Contains-filter}
-use Rattle.run_journal.specs.Legal.{AreGood}
-use Rattle.owner_shelf.specs.Rows.{content_under}
-use Rattle.owner_shelf.proofs.NameLemmas.{eq_same}
-use Rattle.kind_store.specs.Changes.{is_name}
+use Rattle.desc_groups.specs.flat_state.specs.State.{FlatState}
+use Rattle.desc_groups.specs.flat_state.specs.Translation.{is_fit_row}
+use Rattle.desc_groups.specs.flat_state.specs.Dependence.{owner, signal_rows_of}
+use Rattle.desc_groups.specs.flat_state.proofs.Places.{count_by-filter}
+use Rattle.desc_groups.specs.flat_laws.proofs.Members.{Contains-filter}
+use Rattle.desc_groups.specs.run_journal.specs.Legal.{AreGood}
+use Rattle.row_store.specs.owner_shelf.specs.Rows.{content_under}
+use Rattle.row_store.specs.owner_shelf.proofs.NameLemmas.{eq_same}
+use Rattle.row_store.specs.kind_store.specs.Changes.{is_name}
 use Rattle.desc_groups.specs.desc_stores.specs.declared.items.Item.{Item}
 use Rattle.desc_groups.specs.desc_stores.specs.declared.items.Item.TheVariants as item
 use Rattle.desc_groups.specs.desc_stores.specs.Changes.{HasNoContent}

@@ -20,30 +20,30 @@ use Rattle.depend_lists.specs.declared.nodes.Node.{Node}
 use Rattle.phys_groups.specs.declared.rows.Row.{Row}
 use Rattle.phys_groups.specs.Rows.{row_name, HasOneRowAPage}
 use Rattle.phys_groups.specs.Translation.{row_of}
-use Rattle.signal_pages.specs.Signals.{is_signal_row_of}
+use Rattle.row_store.specs.signal_pages.specs.Signals.{is_signal_row_of}
 use Rattle.kernel_cache.specs.declared.KernelRec.{KernelRec}
-use Rattle.flat_state.specs.declared.events.Machine.{Machine}
-use Rattle.flat_state.specs.declared.records.FlatKernel.{FlatKernel}
-use Rattle.flat_state.specs.Declaration.{declared, locks_granted}
-use Rattle.flat_state.specs.Declaration.{with_right as with_right_in}
-use Rattle.flat_state.specs.State.{FlatState}
-use Rattle.flat_state.specs.Translation.{is_fit_row}
-use Rattle.flat_state.specs.Dependence.{owner, parents, parents_of_found, signal_rows_of, Depends}
-use Rattle.flat_state.proofs.Places.{get-set_other, get-set_same, sum_by-set_same}
-use Rattle.flat_laws.proofs.Members.{Contains-behind, Contains-map}
-use Rattle.run_journal.specs.Legal.{locked_by, AreGood}
-use Rattle.run_journal.proofs.Others.{Contains-from_filter}
+use Rattle.desc_groups.specs.flat_state.specs.declared.events.Machine.{Machine}
+use Rattle.desc_groups.specs.flat_state.specs.declared.records.FlatKernel.{FlatKernel}
+use Rattle.desc_groups.specs.flat_state.specs.Declaration.{declared, locks_granted}
+use Rattle.desc_groups.specs.flat_state.specs.Declaration.{with_right as with_right_in}
+use Rattle.desc_groups.specs.flat_state.specs.State.{FlatState}
+use Rattle.desc_groups.specs.flat_state.specs.Translation.{is_fit_row}
+use Rattle.desc_groups.specs.flat_state.specs.Dependence.{owner, parents, parents_of_found, signal_rows_of, Depends}
+use Rattle.desc_groups.specs.flat_state.proofs.Places.{get-set_other, get-set_same, sum_by-set_same}
+use Rattle.desc_groups.specs.flat_laws.proofs.Members.{Contains-behind, Contains-map}
+use Rattle.desc_groups.specs.run_journal.specs.Legal.{locked_by, AreGood}
+use Rattle.desc_groups.specs.run_journal.proofs.Others.{Contains-from_filter}
 use Rattle.desc_groups.specs.group_laws.proofs.Ranks.{own_row}
 use Rattle.kernel_cache.specs.Kernels as kernel_rec
-use Rattle.kind_store.specs.Kept as stored
-use Rattle.kind_store.specs.Changes.{is_name}
+use Rattle.row_store.specs.kind_store.specs.Kept as stored
+use Rattle.row_store.specs.kind_store.specs.Changes.{is_name}
 use Rattle.desc_groups.specs.desc_stores.specs.declared.items.Item.{Item}
 use Rattle.desc_groups.specs.desc_stores.specs.declared.items.Item.TheVariants as item
 use Rattle.desc_groups.specs.desc_stores.specs.Changes.{HasContent}
 use Rattle.desc_groups.specs.desc_stores.specs.Contents.{content_of, residents_of, Contents}
 use Rattle.desc_groups.specs.desc_stores.specs.Items.{name_of}
 use Rattle.desc_groups.specs.desc_stores.specs.Sound.{AreOwned, IsExactlyOne}
-use Rattle.owner_shelf.proofs.NameLemmas.{same_by_eq}
+use Rattle.row_store.specs.owner_shelf.proofs.NameLemmas.{same_by_eq}
 use Rattle.desc_groups.specs.shown_state.specs.Shown.{flat_kernel, kernel_of, shown}
 use Rattle.desc_groups.specs.shown_state.specs.Edits.{with_changed}
 use Rattle.desc_groups.specs.shown_state.proofs.ChangeLemmas.{change_shown}

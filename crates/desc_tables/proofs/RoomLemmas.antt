@@ -12,14 +12,14 @@ use Rattle.cache_ident.specs.declared.names.Name.TheVariants as name
 use Rattle.depend_lists.specs.declared.nodes.Node.{Node}
 use Rattle.cache_ident.specs.Names.{amount_of}
 use Rattle.cache_ident.specs.Residents.{Resident}
-use Rattle.signal_pages.specs.Signals.{is_signal_row_of}
-use Rattle.flat_state.specs.declared.events.Machine.{Machine}
-use Rattle.flat_state.specs.Declaration.{is_receiver_in, locks_granted}
-use Rattle.flat_state.specs.Dependence.{owner}
-use Rattle.flat_state.specs.State.{FlatState}
-use Rattle.flat_state.specs.Translation.{is_fit_row}
-use Rattle.kind_store.specs.Changes.{is_name}
-use Rattle.kind_store.specs.Kept as stored
+use Rattle.row_store.specs.signal_pages.specs.Signals.{is_signal_row_of}
+use Rattle.desc_groups.specs.flat_state.specs.declared.events.Machine.{Machine}
+use Rattle.desc_groups.specs.flat_state.specs.Declaration.{is_receiver_in, locks_granted}
+use Rattle.desc_groups.specs.flat_state.specs.Dependence.{owner}
+use Rattle.desc_groups.specs.flat_state.specs.State.{FlatState}
+use Rattle.desc_groups.specs.flat_state.specs.Translation.{is_fit_row}
+use Rattle.row_store.specs.kind_store.specs.Changes.{is_name}
+use Rattle.row_store.specs.kind_store.specs.Kept as stored
 use Rattle.desc_groups.specs.desc_stores.specs.declared.items.Item.{Item}
 use Rattle.desc_groups.specs.desc_stores.specs.declared.items.Item.TheVariants as item
 use Rattle.desc_groups.specs.desc_stores.specs.Changes.{room_of, HasContent, IsDeclaring, IsNext, KeepsContents, OnlyMakesRoom}

@@ -8,12 +8,12 @@ use Rattle.cache_ident.specs.declared.names.Name.{Name}
 use Rattle.cache_ident.specs.Names.{amount_of}
 use Rattle.cache_ident.specs.Residents.{Resident}
 use Rattle.depend_lists.specs.declared.nodes.Node.{Node}
-use Rattle.flat_state.specs.Declaration.{locks_granted}
-use Rattle.flat_state.specs.State.{FlatState}
-use Rattle.flat_state.specs.Dependence.{owner, parents}
-use Rattle.flat_state.specs.Names.{class_of}
-use Rattle.run_journal.specs.Groups.{node_of, ArePairsOf}
-use Rattle.run_journal.specs.Legal.{locked_by, AreGood}
+use Rattle.desc_groups.specs.flat_state.specs.Declaration.{locks_granted}
+use Rattle.desc_groups.specs.flat_state.specs.State.{FlatState}
+use Rattle.desc_groups.specs.flat_state.specs.Dependence.{owner, parents}
+use Rattle.desc_groups.specs.flat_state.specs.Names.{class_of}
+use Rattle.desc_groups.specs.run_journal.specs.Groups.{node_of, ArePairsOf}
+use Rattle.desc_groups.specs.run_journal.specs.Legal.{locked_by, AreGood}
 use Rattle.kernel_cache.specs.declared.KernelRec.{KernelRec}
 use Rattle.desc_groups.specs.desc_stores.specs.declared.items.Item.TheVariants as item
 use Rattle.desc_groups.specs.desc_stores.specs.Changes.{KeepsContents}

@@ -11,11 +11,11 @@ use Rattle.cache_ident.specs.declared.rolls.Issued.{Issued}
 use Rattle.cache_ident.specs.Rolls.{departed, departed_if}
 use Rattle.cache_ident.specs.Residents.{Resident, IsNameResident}
 use Rattle.depend_lists.specs.declared.nodes.Node.{Node}
-use Rattle.flat_state.specs.State.{FlatState}
-use Rattle.flat_state.specs.Names.{is_fit_name, stands}
-use Rattle.flat_laws.proofs.ParentLaws.{there_is}
-use Rattle.run_journal.specs.Groups.{HasParents, IsGroup}
-use Rattle.run_journal.specs.Legal.{count_of, is_kind}
+use Rattle.desc_groups.specs.flat_state.specs.State.{FlatState}
+use Rattle.desc_groups.specs.flat_state.specs.Names.{is_fit_name, stands}
+use Rattle.desc_groups.specs.flat_laws.proofs.ParentLaws.{there_is}
+use Rattle.desc_groups.specs.run_journal.specs.Groups.{HasParents, IsGroup}
+use Rattle.desc_groups.specs.run_journal.specs.Legal.{count_of, is_kind}
 use Rattle.desc_groups.specs.desc_stores.specs.Contents.{content_of, residents_of, Contents, IsFullOf, IsLowestFreeOf, NoneMayGoOf}
 use Rattle.desc_groups.specs.shown_state.proofs.LookupLemmas.{name_stands}
 use Rattle.desc_groups.specs.store_residents.specs.Slots.{resident_at}

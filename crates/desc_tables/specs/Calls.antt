@@ -7,11 +7,11 @@ use Rattle.cache_ident.specs.declared.names.Name.TheVariants as name
 use Rattle.cache_ident.specs.Names.{kind_of}
 use Rattle.cache_ident.specs.Residents.{Resident}
 use Rattle.phys_groups.specs.Rows.{row_name}
-use Rattle.flat_state.specs.declared.events.Decl.TheVariants as decls
-use Rattle.flat_state.specs.declared.events.Machine.{Machine}
-use Rattle.flat_state.specs.Declaration.{declared}
-use Rattle.flat_state.specs.Dependence.{owner}
-use Rattle.flat_state.specs.State.{FlatState}
+use Rattle.desc_groups.specs.flat_state.specs.declared.events.Decl.TheVariants as decls
+use Rattle.desc_groups.specs.flat_state.specs.declared.events.Machine.{Machine}
+use Rattle.desc_groups.specs.flat_state.specs.Declaration.{declared}
+use Rattle.desc_groups.specs.flat_state.specs.Dependence.{owner}
+use Rattle.desc_groups.specs.flat_state.specs.State.{FlatState}
 use Rattle.kernel_cache.specs.declared.KernelRec.{KernelRec}
 use Rattle.desc_groups.specs.desc_stores.specs.declared.items.Item.{Item}
 use Rattle.desc_groups.specs.desc_stores.specs.declared.items.Item.TheVariants as item

@@ -3,7 +3,7 @@ use Rattle.std.specs.Prelude.{◌≡◌, List, Contains}
 use Rattle.cache_ident.specs.declared.idents.Ident.{Ident}
 use Rattle.cache_ident.specs.declared.names.Name.{Name}
 use Rattle.cache_ident.specs.Residents.{Resident}
-use Rattle.flat_state.specs.Dependence.{Depends}
+use Rattle.desc_groups.specs.flat_state.specs.Dependence.{Depends}
 use Rattle.desc_groups.specs.desc_stores.specs.Contents.{residents_of, Contents}
 use Rattle.desc_groups.specs.desc_parents.specs.Seen.{seen}
 

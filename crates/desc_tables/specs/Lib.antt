@@ -6,6 +6,12 @@ pub use Rattle.desc_groups.specs.journal_laws
 pub use Rattle.desc_groups.specs.resident_pairs
 pub use Rattle.desc_groups.specs.shown_state
 pub use Rattle.desc_groups.specs.store_residents
+pub use Rattle.desc_groups.specs.run_journal
+pub use Rattle.row_store
+pub use Rattle.thread_cache
+pub use Rattle.desc_groups.specs.space_cache
+pub use Rattle.kernel_cache
+pub use Rattle.slot_cache
 pub mod Tables
 pub mod Calls
 pub mod May

@@ -9,13 +9,13 @@ use Rattle.cache_ident.specs.declared.names.Name.TheVariants as name
 use Rattle.cache_ident.specs.Names.{amount_of, kind_of}
 use Rattle.cache_ident.specs.Residents.{Resident}
 use Rattle.phys_groups.specs.declared.rows.Row.{Row}
-use Rattle.signal_pages.specs.Signals.{is_signal_row_of}
-use Rattle.flat_state.specs.Declaration.{agree, is_receiver_in, locks_granted}
-use Rattle.flat_state.specs.Dependence.{Depends}
-use Rattle.flat_state.specs.Names.{is_fit_name}
-use Rattle.flat_state.specs.Translation.{is_fit_row}
-use Rattle.run_journal.specs.Groups.{HasParents}
-use Rattle.run_journal.specs.Legal.{is_kind}
+use Rattle.row_store.specs.signal_pages.specs.Signals.{is_signal_row_of}
+use Rattle.desc_groups.specs.flat_state.specs.Declaration.{agree, is_receiver_in, locks_granted}
+use Rattle.desc_groups.specs.flat_state.specs.Dependence.{Depends}
+use Rattle.desc_groups.specs.flat_state.specs.Names.{is_fit_name}
+use Rattle.desc_groups.specs.flat_state.specs.Translation.{is_fit_row}
+use Rattle.desc_groups.specs.run_journal.specs.Groups.{HasParents}
+use Rattle.desc_groups.specs.run_journal.specs.Legal.{is_kind}
 use Rattle.kernel_cache.specs.declared.KernelRec.{KernelRec}
 use Rattle.desc_groups.specs.desc_stores.specs.declared.items.Item.{Item}
 use Rattle.desc_groups.specs.desc_stores.specs.declared.items.Item.TheVariants as item

@@ -8,8 +8,8 @@ use Rattle.cache_ident.specs.declared.names.Name.{Name}
 use Rattle.cache_ident.specs.Names.{amount_of}
 use Rattle.depend_lists.specs.declared.nodes.Node.{Node}
 use Rattle.phys_groups.specs.declared.rows.Row.{Row}
-use Rattle.flat_state.specs.Declaration.{locks_granted}
-use Rattle.flat_state.specs.State.{FlatState}
+use Rattle.desc_groups.specs.flat_state.specs.Declaration.{locks_granted}
+use Rattle.desc_groups.specs.flat_state.specs.State.{FlatState}
 use Rattle.kernel_cache.specs.declared.KernelRec.{KernelRec}
 use Rattle.desc_groups.specs.desc_stores.specs.declared.items.Item.TheVariants as item
 use Rattle.desc_groups.specs.desc_stores.specs.Contents.{content_of, Contents}

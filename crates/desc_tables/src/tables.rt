@@ -17,10 +17,10 @@ ghost use Rattle.cache_ident.specs.Residents.{Resident, with_loaded, with_lock, 
 ghost use Rattle.depend_lists.specs.Pairs.{count_of};
 ghost use Rattle.depend_lists.specs.declared.nodes.Node.{Node};
 ghost use Rattle.cache_ident.specs.declared.idents.Ident.{Ident};
-ghost use Rattle.flat_state.specs.Dependence.{owner};
-ghost use Rattle.flat_state.specs.declared.events.Machine.{Machine};
-ghost use Rattle.run_journal.specs.Groups.{IsGroup};
-ghost use Rattle.run_journal.specs.Legal.{AreGood, IsTaken};
+ghost use Rattle.desc_groups.specs.flat_state.specs.Dependence.{owner};
+ghost use Rattle.desc_groups.specs.flat_state.specs.declared.events.Machine.{Machine};
+ghost use Rattle.desc_groups.specs.run_journal.specs.Groups.{IsGroup};
+ghost use Rattle.desc_groups.specs.run_journal.specs.Legal.{AreGood, IsTaken};
 ghost use Rattle.phys_groups.specs.declared.rows.Row.{Row};
 ghost use Rattle.slot_cache.specs.Cells.{loaded_in, HasExactlyLoaded, IsInOrderOfSlot};
 ghost use Rattle.thread_cache.specs.declared.ThreadRec.{ThreadRec};
@@ -40,7 +40,7 @@ ghost use Rattle.desc_groups.specs.Moves.{AreNamed, HasPlaces, but_for_counts, K
 ghost use Rattle.desc_tables.specs.May.{MayBeDeclared, MayBeLoaded};
 ghost use Rattle.desc_tables.specs.Calls.{HasPlacesFor, IsLike, IsUpdated, with_right, with_rights, IsOfWhatStands, OwnsNew};
 ghost use Rattle.row_store.specs.Kept.{signal_names};
-ghost use Rattle.kind_store.specs.Changes.{is_name};
+ghost use Rattle.row_store.specs.kind_store.specs.Changes.{is_name};
 
 use crate::names::Names;
 use cache_ident::{Caps, Cause, Frame, Ident, KernelNo, Kind, Name, NoMemory, SpaceNo, Standing};

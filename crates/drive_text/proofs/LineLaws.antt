@@ -10,7 +10,7 @@ use Rattle.journal_text.specs.Lines.{field, decl_text}
 use Rattle.journal_text.specs.Ranges.{IsSmall, IsIdentInRange, IsDeclInRange}
 use Rattle.journal_text.proofs.FieldLaws.{after_again, number_again, field_again, field_ends}
 use Rattle.journal_text.proofs.LineLaws.{decl_again}
-use Rattle.flat_state.specs.declared.events.Decl.{Decl}
+use Rattle.quantum.specs.flat_state.specs.declared.events.Decl.{Decl}
 use Rattle.board_ops.specs.declared.ops.Op.{Op}
 use Rattle.board_ops.specs.declared.ops.Op.TheVariants.{Declare, Seal, LoadKernel, LoadSpace, LoadThread, LoadMapping, Unload, Lock, Unlock, Checkout, View, RunAhead, Commit, Leave, Complete, ConfirmFault, HealStep, Reserve}
 use Rattle.drive_text.specs.declared.lines.Line.{Line}

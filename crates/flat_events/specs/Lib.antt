@@ -1,2 +1,3 @@
+pub use Rattle.flat_mmu
 pub mod Readings
 pub mod Asked

@@ -4,11 +4,11 @@ use Rattle.std.proofs.lemmas.Simd.{map-map}
 use Rattle.std.specs.Prelude.{if◌then◌else◌, ◌==◌}
 use Rattle.phys_groups.specs.declared.rows.Row.{Row}
 use Rattle.phys_groups.specs.Translation.{right_on}
-use Rattle.rv32_exec.specs.declared.statuses.Access.{Access}
-use Rattle.rv32_exec.specs.declared.statuses.Access.TheVariants.{Fetch, Read, Write}
-use Rattle.rv32_exec.specs.Pages.{Page, put_bytes, put_in_frame, mark, mark_page}
-use Rattle.rv32_exec.specs.Changes.{Change, Marked, Put, all_changed}
-use Rattle.rv32_exec.proofs.StepChanges.{changed_by, all_changed-is}
+use Rattle.flat_state.specs.rv32_exec.specs.declared.statuses.Access.{Access}
+use Rattle.flat_state.specs.rv32_exec.specs.declared.statuses.Access.TheVariants.{Fetch, Read, Write}
+use Rattle.flat_state.specs.rv32_exec.specs.Pages.{Page, put_bytes, put_in_frame, mark, mark_page}
+use Rattle.flat_state.specs.rv32_exec.specs.Changes.{Change, Marked, Put, all_changed}
+use Rattle.flat_state.specs.rv32_exec.proofs.StepChanges.{changed_by, all_changed-is}
 use Rattle.flat_state.proofs.StepKeeps.{changed_keeps}
 
 -- pages made of rows, and then changed, are made of rows

@@ -9,9 +9,9 @@ use Rattle.cache_ident.specs.declared.names.KernelNo.{KernelNo}
 use Rattle.cache_ident.specs.declared.names.SpaceNo.{SpaceNo}
 use Rattle.phys_groups.specs.declared.rows.Row.{Row}
 use Rattle.phys_groups.specs.Translation.{is_row_of, row_of, without}
-use Rattle.fault_forward.specs.declared.effects.Effect.{Effect}
-use Rattle.fault_forward.specs.declared.effects.Effect.TheVariants as effects
-use Rattle.fault_forward.specs.Calls.{Completion, completion_of}
+use Rattle.flat_state.specs.fault_forward.specs.declared.effects.Effect.{Effect}
+use Rattle.flat_state.specs.fault_forward.specs.declared.effects.Effect.TheVariants as effects
+use Rattle.flat_state.specs.fault_forward.specs.Calls.{Completion, completion_of}
 use Rattle.flat_state.specs.declared.events.Decl.{Decl}
 use Rattle.flat_state.specs.declared.events.Decl.TheVariants as decls
 use Rattle.flat_state.specs.declared.events.Event.{Event}

@@ -7,11 +7,11 @@ use Rattle.std.proofs.lemmas.Bool.{cases_lt, cases_eq}
 use Rattle.cache_ident.specs.declared.names.SpaceNo.{SpaceNo}
 use Rattle.phys_groups.specs.declared.rows.Row.{Row}
 use Rattle.phys_groups.specs.Memory.{page_at, with_page}
-use Rattle.rv32_exec.specs.declared.statuses.Access.{Access}
-use Rattle.rv32_exec.specs.declared.statuses.Access.TheVariants.{Fetch, Read, Write}
-use Rattle.rv32_exec.specs.Pages.{Page, put_bytes, put_in_frame, mark, mark_page}
-use Rattle.rv32_exec.specs.Changes.{Change, Marked, Put, changed}
-use Rattle.rv32_exec.proofs.StepChanges.{changed_by}
+use Rattle.flat_state.specs.rv32_exec.specs.declared.statuses.Access.{Access}
+use Rattle.flat_state.specs.rv32_exec.specs.declared.statuses.Access.TheVariants.{Fetch, Read, Write}
+use Rattle.flat_state.specs.rv32_exec.specs.Pages.{Page, put_bytes, put_in_frame, mark, mark_page}
+use Rattle.flat_state.specs.rv32_exec.specs.Changes.{Change, Marked, Put, changed}
+use Rattle.flat_state.specs.rv32_exec.proofs.StepChanges.{changed_by}
 use Rattle.flat_state.proofs.StepKeeps.{changed_by_keeps}
 use Rattle.flat_state.specs.Pages.{page_of, with_pages, is_in, with_marks, with_marks_of}
 use Rattle.flat_laws.specs.Rights.{StayOrAgree}

@@ -7,7 +7,7 @@ use Rattle.cache_ident.specs.declared.names.Frame.{Frame}
 use Rattle.cache_ident.specs.declared.names.ThreadNo.{ThreadNo}
 use Rattle.cache_ident.specs.declared.names.Vpn.{Vpn}
 use Rattle.phys_groups.specs.declared.rows.Row.{Row}
-use Rattle.signal_pages.specs.Signals.{is_signal_row_of, receivers_in}
+use Rattle.flat_state.specs.signal_pages.specs.Signals.{is_signal_row_of, receivers_in}
 use Rattle.flat_state.specs.State.{FlatState}
 use Rattle.flat_state.specs.Translation.{is_fit_row}
 use Rattle.flat_state.specs.Signals.{receivers_of}

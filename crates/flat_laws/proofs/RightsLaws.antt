@@ -4,16 +4,16 @@ use Rattle.std.specs.Option.{option_map, option_and_then}
 use Rattle.phys_groups.specs.declared.rows.Row.{Row}
 use Rattle.phys_groups.specs.Translation.{right_on}
 use Rattle.rv32_isa.specs.Table.{instruction_of}
-use Rattle.rv32_exec.specs.declared.actions.Action.{Action}
-use Rattle.rv32_exec.specs.declared.actions.Action.TheVariants.{Store}
-use Rattle.rv32_exec.specs.declared.spaces.Width.TheVariants.{Word}
-use Rattle.rv32_exec.specs.declared.statuses.Status.{Status}
-use Rattle.rv32_exec.specs.declared.statuses.Status.TheVariants.{Ready, Trapped, Ended}
-use Rattle.rv32_exec.specs.declared.steps.Stepped.{Stepped}
-use Rattle.rv32_exec.specs.declared.steps.Stepped.TheVariants.{Next, Call, Stop, Miss}
-use Rattle.rv32_exec.specs.Steps.{After}
-use Rattle.rv32_exec.specs.Actions.{action_of}
-use Rattle.rv32_exec.proofs.StepChanges.{changed_by}
+use Rattle.flat_state.specs.rv32_exec.specs.declared.actions.Action.{Action}
+use Rattle.flat_state.specs.rv32_exec.specs.declared.actions.Action.TheVariants.{Store}
+use Rattle.flat_state.specs.rv32_exec.specs.declared.spaces.Width.TheVariants.{Word}
+use Rattle.flat_state.specs.rv32_exec.specs.declared.statuses.Status.{Status}
+use Rattle.flat_state.specs.rv32_exec.specs.declared.statuses.Status.TheVariants.{Ready, Trapped, Ended}
+use Rattle.flat_state.specs.rv32_exec.specs.declared.steps.Stepped.{Stepped}
+use Rattle.flat_state.specs.rv32_exec.specs.declared.steps.Stepped.TheVariants.{Next, Call, Stop, Miss}
+use Rattle.flat_state.specs.rv32_exec.specs.Steps.{After}
+use Rattle.flat_state.specs.rv32_exec.specs.Actions.{action_of}
+use Rattle.flat_state.specs.rv32_exec.proofs.StepChanges.{changed_by}
 use Rattle.flat_state.specs.declared.records.FlatThread.{FlatThread}
 use Rattle.flat_state.specs.declared.records.Signal.{Signal}
 use Rattle.flat_state.specs.State.{FlatState, is_ready}

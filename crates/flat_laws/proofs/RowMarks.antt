@@ -8,13 +8,13 @@ use Rattle.std.proofs.lemmas.Bool.{eqb-true, false≢true}
 use Rattle.std.proofs.lemmas.Option.{same_Some}
 use Rattle.phys_groups.specs.declared.rows.Row.{Row}
 use Rattle.rv32_ma.specs.declared.atomics.AmoOp.{AmoOp}
-use Rattle.rv32_exec.specs.declared.statuses.Access.{Access}
-use Rattle.rv32_exec.specs.declared.statuses.Access.TheVariants.{Fetch, Read, Write}
-use Rattle.rv32_exec.specs.declared.actions.Action.{Action}
-use Rattle.rv32_exec.specs.declared.actions.Action.TheVariants as actions
-use Rattle.rv32_exec.specs.declared.steps.Stepped.{Stepped}
-use Rattle.rv32_exec.specs.declared.steps.Stepped.TheVariants.{Next, Call, Stop, Miss}
-use Rattle.rv32_exec.specs.Pages.{Page, translates}
+use Rattle.flat_state.specs.rv32_exec.specs.declared.statuses.Access.{Access}
+use Rattle.flat_state.specs.rv32_exec.specs.declared.statuses.Access.TheVariants.{Fetch, Read, Write}
+use Rattle.flat_state.specs.rv32_exec.specs.declared.actions.Action.{Action}
+use Rattle.flat_state.specs.rv32_exec.specs.declared.actions.Action.TheVariants as actions
+use Rattle.flat_state.specs.rv32_exec.specs.declared.steps.Stepped.{Stepped}
+use Rattle.flat_state.specs.rv32_exec.specs.declared.steps.Stepped.TheVariants.{Next, Call, Stop, Miss}
+use Rattle.flat_state.specs.rv32_exec.specs.Pages.{Page, translates}
 use Rattle.flat_state.specs.declared.records.DataAccess.{DataAccess}
 use Rattle.flat_state.specs.declared.records.FlatThread.{FlatThread}
 use Rattle.flat_state.specs.State.{FlatState}

@@ -19,7 +19,7 @@ use Rattle.cache_ident.proofs.Numbers.{same_space}
 use Rattle.phys_groups.specs.declared.rows.Flags.{Flags}
 use Rattle.phys_groups.specs.declared.rows.Row.{Row}
 use Rattle.phys_groups.specs.Translation.{allows_fetch, is_row_of, row_of, translated}
-use Rattle.signal_pages.specs.Signals.{is_signal_row_of}
+use Rattle.flat_state.specs.signal_pages.specs.Signals.{is_signal_row_of}
 use Rattle.flat_state.specs.declared.records.FlatThread.{FlatThread}
 use Rattle.flat_state.specs.State.{FlatState}
 use Rattle.flat_state.specs.Translation.{is_fit_row, row_through}

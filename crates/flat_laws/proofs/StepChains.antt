@@ -8,7 +8,7 @@ use Rattle.cache_ident.specs.declared.names.Name.TheVariants.{Thread}
 use Rattle.cache_ident.specs.declared.names.ThreadNo.{ThreadNo}
 use Rattle.phys_groups.specs.declared.rows.Row.{Row}
 use Rattle.phys_groups.specs.Translation.{allows_fetch}
-use Rattle.rv32_exec.specs.declared.actions.Action.{Action}
+use Rattle.flat_state.specs.rv32_exec.specs.declared.actions.Action.{Action}
 use Rattle.flat_state.specs.declared.records.DataAccess.{DataAccess}
 use Rattle.flat_state.specs.declared.records.FlatThread.{FlatThread}
 use Rattle.flat_state.specs.State.{FlatState}

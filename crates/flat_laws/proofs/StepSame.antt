@@ -14,12 +14,12 @@ use Rattle.cache_ident.specs.declared.names.Name.{Name}
 use Rattle.cache_ident.specs.declared.names.Name.TheVariants.{Kernel, Space, Thread, Mapping}
 use Rattle.phys_groups.specs.declared.rows.Row.{Row}
 use Rattle.phys_groups.specs.Translation.{is_fit, is_row_of, row_of}
-use Rattle.signal_pages.specs.Signals.{address_of, is_signal_row_of}
-use Rattle.rv32_exec.specs.declared.statuses.Status.{Status}
-use Rattle.rv32_exec.specs.declared.statuses.Status.TheVariants.{Ready, Trapped, Ended}
-use Rattle.rv32_exec.specs.declared.steps.Stepped.{Stepped}
-use Rattle.rv32_exec.specs.declared.steps.Stepped.TheVariants.{Next, Call, Stop, Miss}
-use Rattle.rv32_exec.specs.Steps.{After}
+use Rattle.flat_state.specs.signal_pages.specs.Signals.{address_of, is_signal_row_of}
+use Rattle.flat_state.specs.rv32_exec.specs.declared.statuses.Status.{Status}
+use Rattle.flat_state.specs.rv32_exec.specs.declared.statuses.Status.TheVariants.{Ready, Trapped, Ended}
+use Rattle.flat_state.specs.rv32_exec.specs.declared.steps.Stepped.{Stepped}
+use Rattle.flat_state.specs.rv32_exec.specs.declared.steps.Stepped.TheVariants.{Next, Call, Stop, Miss}
+use Rattle.flat_state.specs.rv32_exec.specs.Steps.{After}
 use Rattle.flat_state.specs.declared.events.Event.TheVariants.{Step}
 use Rattle.flat_state.specs.declared.records.FlatThread.{FlatThread}
 use Rattle.flat_state.specs.declared.records.Signal.{Signal}

@@ -8,15 +8,15 @@ use Rattle.cache_ident.specs.declared.names.Frame.{Frame}
 use Rattle.phys_groups.specs.declared.rows.Row.{Row}
 use Rattle.phys_groups.specs.Memory.{page_at}
 use Rattle.phys_groups.specs.Translation.{right_on, implies, is_fit}
-use Rattle.rv32_exec.specs.declared.contexts.Context.{Context}
-use Rattle.rv32_exec.specs.declared.statuses.Access.{Access}
-use Rattle.rv32_exec.specs.declared.statuses.Access.TheVariants.{Fetch, Read, Write}
-use Rattle.rv32_exec.specs.declared.spaces.Width.{Width}
-use Rattle.rv32_exec.specs.declared.spaces.Width.TheVariants.{Word}
-use Rattle.rv32_exec.specs.Pages.{Page, where_allowed, translation, number_at, read_through, fetched, loaded}
-use Rattle.rv32_exec.specs.Changes.{Change, Marked, Put, all_changed}
-use Rattle.rv32_exec.specs.Steps.{After, after_step}
-use Rattle.rv32_exec.proofs.StepChanges.{IsPut, AreMade, steps_alike}
+use Rattle.flat_state.specs.rv32_exec.specs.declared.contexts.Context.{Context}
+use Rattle.flat_state.specs.rv32_exec.specs.declared.statuses.Access.{Access}
+use Rattle.flat_state.specs.rv32_exec.specs.declared.statuses.Access.TheVariants.{Fetch, Read, Write}
+use Rattle.flat_state.specs.rv32_exec.specs.declared.spaces.Width.{Width}
+use Rattle.flat_state.specs.rv32_exec.specs.declared.spaces.Width.TheVariants.{Word}
+use Rattle.flat_state.specs.rv32_exec.specs.Pages.{Page, where_allowed, translation, number_at, read_through, fetched, loaded}
+use Rattle.flat_state.specs.rv32_exec.specs.Changes.{Change, Marked, Put, all_changed}
+use Rattle.flat_state.specs.rv32_exec.specs.Steps.{After, after_step}
+use Rattle.flat_state.specs.rv32_exec.proofs.StepChanges.{IsPut, AreMade, steps_alike}
 use Rattle.flat_state.specs.Pages.{page_of}
 use Rattle.flat_laws.specs.Rights.{AgreeWhereReadable}
 use Rattle.phys_groups.proofs.PageBytes.{get_or-page_at}

@@ -2,9 +2,9 @@
 
 ghost use Rattle.std.specs.Prelude.{◌≡◌, ℕ, ◌%◌, true, false, is_some, List, map, Some, slice_get};
 ghost use Rattle.rv32_ma.specs.declared.atomics.AmoOp.{AmoOp};
-ghost use Rattle.rv32_exec.specs.declared.statuses.Access.TheVariants.{Write};
-ghost use Rattle.rv32_exec.specs.declared.actions.Action.{Action};
-ghost use Rattle.rv32_exec.specs.declared.actions.Action.TheVariants.{Atomic};
+ghost use Rattle.flat_state.specs.rv32_exec.specs.declared.statuses.Access.TheVariants.{Write};
+ghost use Rattle.flat_state.specs.rv32_exec.specs.declared.actions.Action.{Action};
+ghost use Rattle.flat_state.specs.rv32_exec.specs.declared.actions.Action.TheVariants.{Atomic};
 ghost use Rattle.flat_state.specs.declared.events.Event.{Event};
 ghost use Rattle.flat_state.specs.declared.records.DataAccess.{DataAccess};
 ghost use Rattle.flat_state.specs.declared.records.FlatThread.{FlatThread};

@@ -3,7 +3,7 @@
 ghost use Rattle.std.specs.Prelude.{◌≡◌, ◌&&◌, true, filter};
 ghost use Rattle.cache_ident.specs.declared.names.Frame.{Frame};
 ghost use Rattle.phys_groups.specs.declared.rows.Row.{Row};
-ghost use Rattle.signal_pages.specs.Signals.{is_signal_row_of};
+ghost use Rattle.flat_state.specs.signal_pages.specs.Signals.{is_signal_row_of};
 ghost use Rattle.flat_state.specs.State.{FlatState};
 ghost use Rattle.flat_state.specs.Translation.{is_fit_row};
 ghost use Rattle.flat_state.specs.Signals.{receivers_of};

@@ -11,8 +11,8 @@ use Rattle.phys_groups.specs.Translation.{is_row_of}
 use Rattle.rv32_exec.specs.declared.statuses.Access.{Access}
 use Rattle.rv32_exec.specs.declared.statuses.Access.TheVariants.{Fetch, Read, Write}
 use Rattle.rv32_exec.specs.Pages.{Page, is_write, mark, mark_page}
-use Rattle.flat_state.specs.Pages.{is_in, page_of, pages_in}
-use Rattle.flat_state.specs.Rest.{is_mapped, rest_of, unmarked}
+use Rattle.flat_rules.specs.flat_state.specs.Pages.{is_in, page_of, pages_in}
+use Rattle.flat_rules.specs.flat_state.specs.Rest.{is_mapped, rest_of, unmarked}
 use Rattle.phys_groups.specs.Rows.{marked}
 
 or_false : (b : Bool) → (b || false) ≡ b

@@ -10,14 +10,14 @@ use Rattle.rv32_exec.specs.declared.statuses.Access.TheVariants.{Write}
 use Rattle.rv32_exec.specs.declared.spaces.Width.{Width}
 use Rattle.rv32_exec.specs.declared.spaces.Width.TheVariants.{Byte, Half, Word}
 use Rattle.rv32_exec.specs.Pages.{is_write, number_at, put_bytes, read_through, size_of, stored, touched_at, translates}
-use Rattle.flat_state.specs.State.{FlatState}
-use Rattle.flat_state.specs.Translation.{wants}
-use Rattle.flat_state.specs.Pages.{page_of, pages_of}
-use Rattle.flat_state.specs.Rest.{Rest}
-use Rattle.flat_state.proofs.Found.{found-mapped}
-use Rattle.flat_state.proofs.Keeping.{rest-put_bytes}
-use Rattle.flat_state.proofs.Storing.{fits, read-none, read-pages, stored-none, stored-pages}
-use Rattle.flat_state.proofs.Translating.{translation-pages}
+use Rattle.flat_rules.specs.flat_state.specs.State.{FlatState}
+use Rattle.flat_rules.specs.flat_state.specs.Translation.{wants}
+use Rattle.flat_rules.specs.flat_state.specs.Pages.{page_of, pages_of}
+use Rattle.flat_rules.specs.flat_state.specs.Rest.{Rest}
+use Rattle.flat_rules.specs.flat_state.proofs.Found.{found-mapped}
+use Rattle.flat_rules.specs.flat_state.proofs.Keeping.{rest-put_bytes}
+use Rattle.flat_rules.specs.flat_state.proofs.Storing.{fits, read-none, read-pages, stored-none, stored-pages}
+use Rattle.flat_rules.specs.flat_state.proofs.Translating.{translation-pages}
 use Rattle.phys_groups.specs.Rows.{marked}
 use Rattle.flat_rules.specs.Readings.{IsInMemory}
 use Rattle.flat_mmu.specs.Seen.{Seen, beside, pages_seen, rest_seen, seen, seen_row}

@@ -5,10 +5,10 @@ use Rattle.phys_groups.specs.declared.rows.Row.{Row}
 use Rattle.phys_groups.specs.Translation.{translated}
 use Rattle.rv32_exec.specs.declared.statuses.Access.{Access}
 use Rattle.rv32_exec.specs.Pages.{Page}
-use Rattle.flat_state.specs.State.{FlatState}
-use Rattle.flat_state.specs.Translation.{rights_of, row_through, wants}
-use Rattle.flat_state.specs.Pages.{pages_in}
-use Rattle.flat_state.specs.Rest.{Rest, rest_of}
+use Rattle.flat_rules.specs.flat_state.specs.State.{FlatState}
+use Rattle.flat_rules.specs.flat_state.specs.Translation.{rights_of, row_through, wants}
+use Rattle.flat_rules.specs.flat_state.specs.Pages.{pages_in}
+use Rattle.flat_rules.specs.flat_state.specs.Rest.{Rest, rest_of}
 
 -- memory and rows as the threads of a space see them, whose owner has those rights
 pub record Seen : Type 0 where

@@ -3,7 +3,7 @@
 ghost use Rattle.std.specs.Prelude.{◌≡◌, ◌%◌, ◌<◌, IfSome};
 ghost use Rattle.phys_groups.specs.Translation.{place_in as place_in_def};
 ghost use Rattle.rv32_exec.specs.Pages.{is_write, number_at, size_of};
-ghost use Rattle.flat_state.specs.Pages.{pages_of};
+ghost use Rattle.flat_rules.specs.flat_state.specs.Pages.{pages_of};
 ghost use Rattle.flat_rules.specs.Readings.{IsInMemory};
 ghost use Rattle.flat_mmu.specs.Seen.{Beside, beside, seen, seen_row};
 

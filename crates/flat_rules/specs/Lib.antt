@@ -1,3 +1,4 @@
+pub use Rattle.flat_state
 pub mod Readings
 pub mod Looking
 pub mod Settling

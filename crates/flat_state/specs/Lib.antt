@@ -1,3 +1,6 @@
+pub use Rattle.signal_pages
+pub use Rattle.fault_forward
+pub use Rattle.rv32_exec
 pub mod State
 pub mod Translation
 pub mod Pages

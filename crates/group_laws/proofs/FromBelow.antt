@@ -14,15 +14,15 @@ use Rattle.cache_ident.specs.contracts.idents.IdentOrd.TheImpl as ident_order
 use Rattle.cache_ident.specs.contracts.idents.IdentOrd.TheImpl.Laws as ident_laws
 use Rattle.cache_ident.specs.declared.names.Name.{Name}
 use Rattle.cache_ident.specs.Residents.{Resident, without}
-use Rattle.depend_lists.specs.declared.nodes.Node.{Node}
+use Rattle.journal_laws.specs.depend_lists.specs.declared.nodes.Node.{Node}
 use Rattle.phys_groups.specs.Rows.{HasOneRowAPage}
-use Rattle.writeback_order.specs.Order.{DependsOn, directly, further, leaving_cmp, rank_of, IsOrder}
-use Rattle.flat_state.specs.State.{FlatState}
-use Rattle.flat_state.specs.Dependence.{Depends}
-use Rattle.flat_state.specs.Names.{class_of}
-use Rattle.flat_laws.proofs.Members.{Contains-here, Contains-cases, Contains-from_map, Contains-map, contains_nothing}
-use Rattle.run_journal.specs.Groups.{node_of, ArePairsOf, NothingDependsOn}
-use Rattle.run_journal.specs.Legal.{AreGood}
+use Rattle.journal_laws.specs.writeback_order.specs.Order.{DependsOn, directly, further, leaving_cmp, rank_of, IsOrder}
+use Rattle.journal_laws.specs.flat_state.specs.State.{FlatState}
+use Rattle.journal_laws.specs.flat_state.specs.Dependence.{Depends}
+use Rattle.journal_laws.specs.flat_state.specs.Names.{class_of}
+use Rattle.journal_laws.specs.flat_laws.proofs.Members.{Contains-here, Contains-cases, Contains-from_map, Contains-map, contains_nothing}
+use Rattle.journal_laws.specs.run_journal.specs.Groups.{node_of, ArePairsOf, NothingDependsOn}
+use Rattle.journal_laws.specs.run_journal.specs.Legal.{AreGood}
 use Rattle.journal_laws.specs.Leaving.{HaveOneEach}
 use Rattle.group_laws.specs.Leaving.{AreAgreed, without_all}
 use Rattle.group_laws.proofs.Ranks.{parent_leaves_later}

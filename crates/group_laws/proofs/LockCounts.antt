@@ -8,10 +8,10 @@ use Rattle.cache_ident.specs.declared.names.Name.{Name}
 use Rattle.cache_ident.specs.Rolls.{is_same}
 use Rattle.cache_ident.proofs.RollLemmas.{same_ident}
 use Rattle.cache_ident.specs.Residents.{Resident, with_loaded, without, with_lock}
-use Rattle.flat_state.specs.State.{FlatState}
-use Rattle.flat_state.specs.Dependence.{owner}
-use Rattle.flat_laws.proofs.Members.{Contains-here, Contains-behind}
-use Rattle.run_journal.specs.Legal.{is_kernel, is_kind, locked_by}
+use Rattle.journal_laws.specs.flat_state.specs.State.{FlatState}
+use Rattle.journal_laws.specs.flat_state.specs.Dependence.{owner}
+use Rattle.journal_laws.specs.flat_laws.proofs.Members.{Contains-here, Contains-behind}
+use Rattle.journal_laws.specs.run_journal.specs.Legal.{is_kernel, is_kind, locked_by}
 use Rattle.journal_laws.specs.Leaving.{AreApart, HaveOneEach}
 use Rattle.group_laws.specs.Leaving.{lock_of}
 use Rattle.group_laws.proofs.Counting.{count-loaded, count-without, count-locked, count-same}

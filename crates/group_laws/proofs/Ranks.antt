@@ -9,15 +9,15 @@ use Rattle.cache_ident.specs.declared.names.Name.TheVariants.{Kernel, Space, Thr
 use Rattle.phys_groups.specs.declared.rows.Row.{Row}
 use Rattle.phys_groups.specs.Rows.{HasOneRowAPage, row_name}
 use Rattle.phys_groups.specs.Translation.{is_row_of, row_of}
-use Rattle.signal_pages.specs.Signals.{is_signal_row_of}
-use Rattle.writeback_order.specs.Order.{rank_of}
-use Rattle.flat_state.specs.declared.records.FlatThread.{FlatThread}
-use Rattle.flat_state.specs.State.{FlatState}
-use Rattle.flat_state.specs.Translation.{is_fit_row}
-use Rattle.flat_state.specs.Dependence.{signal_rows_of, parents_of_row, parents_of_found, parents}
-use Rattle.flat_state.specs.Names.{class_by, class_of_row, class_of}
-use Rattle.flat_state.proofs.Places.{get_from_Contains, fails_if_not_found}
-use Rattle.flat_laws.proofs.Members.{Contains-cases, contains_nothing, Contains-filter, Contains-from_map, Contains-option_map, found_place}
+use Rattle.journal_laws.specs.signal_pages.specs.Signals.{is_signal_row_of}
+use Rattle.journal_laws.specs.writeback_order.specs.Order.{rank_of}
+use Rattle.journal_laws.specs.flat_state.specs.declared.records.FlatThread.{FlatThread}
+use Rattle.journal_laws.specs.flat_state.specs.State.{FlatState}
+use Rattle.journal_laws.specs.flat_state.specs.Translation.{is_fit_row}
+use Rattle.journal_laws.specs.flat_state.specs.Dependence.{signal_rows_of, parents_of_row, parents_of_found, parents}
+use Rattle.journal_laws.specs.flat_state.specs.Names.{class_by, class_of_row, class_of}
+use Rattle.journal_laws.specs.flat_state.proofs.Places.{get_from_Contains, fails_if_not_found}
+use Rattle.journal_laws.specs.flat_laws.proofs.Members.{Contains-cases, contains_nothing, Contains-filter, Contains-from_map, Contains-option_map, found_place}
 use Rattle.group_laws.specs.Leaving.{AreAgreed}
 
 -- a row with a receiver has no m

@@ -3,8 +3,8 @@ use Rattle.std.proofs.Common.{◌≡◌, suc, List, [], ◌∷◌, ◌++◌, All
 use Rattle.std.proofs.lemmas.List.Elements.{Contains-append_right}
 use Rattle.cache_ident.specs.declared.idents.Ident.{Ident}
 use Rattle.cache_ident.specs.Residents.{Resident, without}
-use Rattle.flat_laws.proofs.Members.{Contains-here, Contains-behind, Contains-cases, contains_nothing}
-use Rattle.run_journal.proofs.Others.{without_cases, stays_without}
+use Rattle.journal_laws.specs.flat_laws.proofs.Members.{Contains-here, Contains-behind, Contains-cases, contains_nothing}
+use Rattle.journal_laws.specs.run_journal.proofs.Others.{without_cases, stays_without}
 use Rattle.group_laws.specs.Leaving.{without_all}
 
 -- it was resident, and isn't one of these

@@ -4,13 +4,13 @@ use Rattle.std.proofs.lemmas.List.Elements.{Contains-append_left, Contains-push_
 use Rattle.cache_ident.specs.declared.idents.Ident.{Ident}
 use Rattle.cache_ident.specs.declared.names.Name.{Name}
 use Rattle.cache_ident.specs.Residents.{Resident, IsNameResident, with_loaded, without, locked_if, with_lock}
-use Rattle.flat_state.specs.State.{FlatState}
-use Rattle.flat_state.specs.Dependence.{Depends}
-use Rattle.flat_state.specs.Names.{is_fit_name, stands}
-use Rattle.flat_laws.proofs.Members.{Contains-map, Contains-from_map}
-use Rattle.run_journal.specs.Groups.{HasParents, NothingDependsOn}
-use Rattle.run_journal.specs.Legal.{StaysGood, AreGood}
-use Rattle.run_journal.proofs.Others.{without_cases, stays_without, locked_keeps}
+use Rattle.journal_laws.specs.flat_state.specs.State.{FlatState}
+use Rattle.journal_laws.specs.flat_state.specs.Dependence.{Depends}
+use Rattle.journal_laws.specs.flat_state.specs.Names.{is_fit_name, stands}
+use Rattle.journal_laws.specs.flat_laws.proofs.Members.{Contains-map, Contains-from_map}
+use Rattle.journal_laws.specs.run_journal.specs.Groups.{HasParents, NothingDependsOn}
+use Rattle.journal_laws.specs.run_journal.specs.Legal.{StaysGood, AreGood}
+use Rattle.journal_laws.specs.run_journal.proofs.Others.{without_cases, stays_without, locked_keeps}
 use Rattle.journal_laws.specs.Leaving.{HaveOneEach}
 
 -- what a resident was before a lock, or its end

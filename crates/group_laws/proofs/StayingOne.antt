@@ -7,8 +7,8 @@ use Rattle.cache_ident.specs.declared.idents.Ident.{Ident}
 use Rattle.cache_ident.specs.declared.names.Name.{Name}
 use Rattle.cache_ident.specs.Rolls.{is_same}
 use Rattle.cache_ident.specs.Residents.{Resident, IsIdentResident, IsNameResident, with_loaded, without, locked_if, with_lock}
-use Rattle.flat_laws.proofs.Members.{Contains-from_map}
-use Rattle.run_journal.proofs.Others.{without_cases, locked_keeps}
+use Rattle.journal_laws.specs.flat_laws.proofs.Members.{Contains-from_map}
+use Rattle.journal_laws.specs.run_journal.proofs.Others.{without_cases, locked_keeps}
 use Rattle.journal_laws.specs.Leaving.{AreApart, HaveOneEach}
 use Rattle.group_laws.specs.Leaving.{without_all}
 use Rattle.group_laws.proofs.Counting.{apart_behind, apart_first}

@@ -5,10 +5,10 @@ use Rattle.cache_ident.specs.declared.idents.Kind.{Kind}
 use Rattle.cache_ident.specs.declared.names.KernelNo.{KernelNo}
 use Rattle.cache_ident.specs.Residents.{Resident, without}
 use Rattle.phys_groups.specs.declared.rows.Row.{Row}
-use Rattle.flat_state.specs.State.{FlatState}
-use Rattle.flat_state.specs.Declaration.{agree}
-use Rattle.flat_state.specs.Dependence.{owner}
-use Rattle.run_journal.specs.Legal.{is_kernel, is_kind}
+use Rattle.journal_laws.specs.flat_state.specs.State.{FlatState}
+use Rattle.journal_laws.specs.flat_state.specs.Declaration.{agree}
+use Rattle.journal_laws.specs.flat_state.specs.Dependence.{owner}
+use Rattle.journal_laws.specs.run_journal.specs.Legal.{is_kernel, is_kind}
 
 -- what is resident once these have left, one after another
 abbrev pub without_all : List Ident → List Resident → List Resident

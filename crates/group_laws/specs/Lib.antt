@@ -1,1 +1,9 @@
+pub use Rattle.journal_laws
+pub use Rattle.journal_laws.specs.run_journal
+pub use Rattle.journal_laws.specs.flat_laws
+pub use Rattle.journal_laws.specs.flat_state
+pub use Rattle.journal_laws.specs.writeback_order
+pub use Rattle.journal_laws.specs.signal_pages
+pub use Rattle.journal_laws.specs.fault_forward
+pub use Rattle.journal_laws.specs.rv32_exec
 pub mod Leaving

@@ -3,12 +3,12 @@
 ghost use Rattle.std.specs.Prelude.{◌≡◌, ◌≢◌, ◌↔◌, [], ◌∷◌, ◌++◌, List, AllPairs, Contains, map};
 ghost use Rattle.cache_ident.specs.Residents.{Resident, without};
 ghost use Rattle.cache_ident.specs.declared.idents.Ident.{Ident};
-ghost use Rattle.depend_lists.specs.declared.nodes.Node.{Node};
+ghost use Rattle.journal_laws.specs.depend_lists.specs.declared.nodes.Node.{Node};
 ghost use Rattle.phys_groups.specs.Rows.{HasOneRowAPage};
-ghost use Rattle.writeback_order.specs.Order.{IsOrder};
-ghost use Rattle.flat_state.specs.State.{FlatState};
-ghost use Rattle.run_journal.specs.Groups.{ArePairsOf, NothingDependsOn, node_of};
-ghost use Rattle.run_journal.specs.Legal.{AreGood};
+ghost use Rattle.journal_laws.specs.writeback_order.specs.Order.{IsOrder};
+ghost use Rattle.journal_laws.specs.flat_state.specs.State.{FlatState};
+ghost use Rattle.journal_laws.specs.run_journal.specs.Groups.{ArePairsOf, NothingDependsOn, node_of};
+ghost use Rattle.journal_laws.specs.run_journal.specs.Legal.{AreGood};
 ghost use Rattle.journal_laws.specs.Leaving.{HaveOneEach};
 ghost use Rattle.group_laws.specs.Leaving.{AreAgreed, without_all};
 

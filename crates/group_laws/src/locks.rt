@@ -6,9 +6,9 @@ ghost use Rattle.cache_ident.specs.declared.idents.Ident.{Ident};
 ghost use Rattle.cache_ident.specs.declared.idents.Kind.{Kind};
 ghost use Rattle.cache_ident.specs.declared.names.KernelNo.{KernelNo};
 ghost use Rattle.cache_ident.specs.declared.names.Name.{Name};
-ghost use Rattle.flat_state.specs.State.{FlatState};
-ghost use Rattle.flat_state.specs.Dependence.{owner};
-ghost use Rattle.run_journal.specs.Legal.{locked_by};
+ghost use Rattle.journal_laws.specs.flat_state.specs.State.{FlatState};
+ghost use Rattle.journal_laws.specs.flat_state.specs.Dependence.{owner};
+ghost use Rattle.journal_laws.specs.run_journal.specs.Legal.{locked_by};
 ghost use Rattle.journal_laws.specs.Leaving.{AreApart, HaveOneEach};
 ghost use Rattle.group_laws.specs.Leaving.{lock_of};
 

@@ -4,10 +4,10 @@ ghost use Rattle.std.specs.Prelude.{◌≡◌, true, Bool, List, Contains};
 ghost use Rattle.cache_ident.specs.Residents.{Resident, IsNameResident, with_loaded, with_lock, without};
 ghost use Rattle.cache_ident.specs.declared.idents.Ident.{Ident};
 ghost use Rattle.cache_ident.specs.declared.names.Name.{Name};
-ghost use Rattle.flat_state.specs.State.{FlatState};
-ghost use Rattle.flat_state.specs.Names.{is_fit_name, stands};
-ghost use Rattle.run_journal.specs.Groups.{HasParents, NothingDependsOn};
-ghost use Rattle.run_journal.specs.Legal.{AreGood};
+ghost use Rattle.journal_laws.specs.flat_state.specs.State.{FlatState};
+ghost use Rattle.journal_laws.specs.flat_state.specs.Names.{is_fit_name, stands};
+ghost use Rattle.journal_laws.specs.run_journal.specs.Groups.{HasParents, NothingDependsOn};
+ghost use Rattle.journal_laws.specs.run_journal.specs.Legal.{AreGood};
 ghost use Rattle.journal_laws.specs.Leaving.{HaveOneEach};
 
 /// Where each resident stands, is fit and has all that it depends on, this stays so where one leaves on which nothing

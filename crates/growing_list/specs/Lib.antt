@@ -1,2 +1,3 @@
+pub use Rattle.slot_cache
 pub mod Shown
 pub mod Index

@@ -4,13 +4,13 @@ use Rattle.std.proofs.lemmas.Bool.{cases_lt}
 use Rattle.std.proofs.lemmas.List.{get_or-set_same, get_or-set_other, length-set}
 use Rattle.cache_ident.specs.declared.names.Frame.{Frame}
 use Rattle.phys_groups.specs.Memory.{word_bytes, written}
-use Rattle.flat_state.specs.declared.events.Decl.{Decl}
-use Rattle.flat_state.specs.declared.events.Decl.TheVariants as decls
-use Rattle.flat_state.specs.State.{FlatState}
-use Rattle.flat_state.specs.Declaration.{broken_rule, declared}
-use Rattle.flat_state.specs.WellFormed.{IsWellFormed}
-use Rattle.flat_state.specs.Events.{AllFit, after_declarations}
-use Rattle.flat_state.proofs.FormedParts.{declared_formed}
+use Rattle.image_decls.specs.flat_state.specs.declared.events.Decl.{Decl}
+use Rattle.image_decls.specs.flat_state.specs.declared.events.Decl.TheVariants as decls
+use Rattle.image_decls.specs.flat_state.specs.State.{FlatState}
+use Rattle.image_decls.specs.flat_state.specs.Declaration.{broken_rule, declared}
+use Rattle.image_decls.specs.flat_state.specs.WellFormed.{IsWellFormed}
+use Rattle.image_decls.specs.flat_state.specs.Events.{AllFit, after_declarations}
+use Rattle.image_decls.specs.flat_state.proofs.FormedParts.{declared_formed}
 use Rattle.image_memory.proofs.Listed.{IsIn}
 use Rattle.image_memory.proofs.Fitting.{word_lies}
 

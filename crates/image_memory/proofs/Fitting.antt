@@ -11,12 +11,12 @@ use Rattle.cache_ident.specs.declared.names.Frame.{Frame}
 use Rattle.phys_groups.specs.declared.rows.Flags.{Flags}
 use Rattle.phys_groups.specs.declared.rows.Row.{Row}
 use Rattle.phys_groups.specs.Translation.{is_row_of, row_of}
-use Rattle.flat_state.specs.declared.events.Decl.{Decl}
-use Rattle.flat_state.specs.declared.events.Decl.TheVariants as decls
-use Rattle.flat_state.specs.State.{FlatState, groups_of}
-use Rattle.flat_state.specs.Declaration.{broken_rule, declared, has_frame, new_row, rule_of_map, rule_of_word}
-use Rattle.flat_state.specs.Events.{AllFit, after_declarations}
-use Rattle.flat_state.proofs.FormedParts.{breaks_none, other_rule}
+use Rattle.image_decls.specs.flat_state.specs.declared.events.Decl.{Decl}
+use Rattle.image_decls.specs.flat_state.specs.declared.events.Decl.TheVariants as decls
+use Rattle.image_decls.specs.flat_state.specs.State.{FlatState, groups_of}
+use Rattle.image_decls.specs.flat_state.specs.Declaration.{broken_rule, declared, has_frame, new_row, rule_of_map, rule_of_word}
+use Rattle.image_decls.specs.flat_state.specs.Events.{AllFit, after_declarations}
+use Rattle.image_decls.specs.flat_state.proofs.FormedParts.{breaks_none, other_rule}
 use Rattle.image_memory.proofs.Listed.{IsIn}
 
 -- a row in front is found before one behind

@@ -4,8 +4,8 @@ use Rattle.std.specs.List.{slice_get}
 use Rattle.std.proofs.lemmas.Bool.{cases_lt}
 use Rattle.std.proofs.lemmas.Option.{same_Some}
 use Rattle.cache_ident.specs.declared.names.SpaceNo.{SpaceNo}
-use Rattle.flat_state.specs.declared.events.Decl.{Decl}
-use Rattle.elf_image.specs.declared.images.Part.{Part}
+use Rattle.image_decls.specs.flat_state.specs.declared.events.Decl.{Decl}
+use Rattle.image_decls.specs.elf_image.specs.declared.images.Part.{Part}
 use Rattle.image_decls.specs.Declarations.{page_count, each, row_at, first_rows, word_decl, first_words}
 use Rattle.image_memory.proofs.Listed.{IsIn, in_front, in_back, in_either}
 

@@ -8,15 +8,15 @@ use Rattle.cache_ident.specs.declared.names.SpaceNo.{SpaceNo}
 use Rattle.cache_ident.specs.declared.names.ThreadNo.{ThreadNo}
 use Rattle.phys_groups.specs.Memory.{word_bytes}
 use Rattle.phys_groups.specs.Translation.{row_of}
-use Rattle.flat_state.specs.declared.events.Decl.{Decl}
-use Rattle.flat_state.specs.declared.events.Decl.TheVariants as decls
-use Rattle.flat_state.specs.State.{FlatState, nothing_declared}
-use Rattle.flat_state.specs.Declaration.{declared, new_row}
-use Rattle.flat_state.specs.WellFormed.{IsWellFormed}
-use Rattle.flat_state.specs.Events.{AllFit, after_declarations}
-use Rattle.flat_state.proofs.FormedParts.{declared_formed, nothing_formed}
-use Rattle.elf_image.specs.declared.images.Part.{Part}
-use Rattle.elf_image.specs.Elf.{Executable}
+use Rattle.image_decls.specs.flat_state.specs.declared.events.Decl.{Decl}
+use Rattle.image_decls.specs.flat_state.specs.declared.events.Decl.TheVariants as decls
+use Rattle.image_decls.specs.flat_state.specs.State.{FlatState, nothing_declared}
+use Rattle.image_decls.specs.flat_state.specs.Declaration.{declared, new_row}
+use Rattle.image_decls.specs.flat_state.specs.WellFormed.{IsWellFormed}
+use Rattle.image_decls.specs.flat_state.specs.Events.{AllFit, after_declarations}
+use Rattle.image_decls.specs.flat_state.proofs.FormedParts.{declared_formed, nothing_formed}
+use Rattle.image_decls.specs.elf_image.specs.declared.images.Part.{Part}
+use Rattle.image_decls.specs.elf_image.specs.Elf.{Executable}
 use Rattle.image_decls.specs.Declarations.{first_page, page_count, row_at, part_rows, each, byte_at, word_at, word_decl, word_count, part_words, declarations}
 use Rattle.image_memory.specs.Loaded.{IsBytes, IsLoaded}
 use Rattle.image_memory.proofs.Listed.{IsIn, in_front, in_back, in_either}

@@ -3,8 +3,8 @@ use Rattle.std.specs.Prelude.{◌≡◌, ℕ, ◌+◌, ◌<◌, ◌≤◌, ◌^�
 use Rattle.cache_ident.specs.declared.names.SpaceNo.{SpaceNo}
 use Rattle.phys_groups.specs.declared.rows.Row.{Row}
 use Rattle.phys_groups.specs.Translation.{row_of, page_of, place_in}
-use Rattle.elf_image.specs.declared.images.Part.{Part}
-use Rattle.flat_state.specs.State.{FlatState}
+use Rattle.image_decls.specs.elf_image.specs.declared.images.Part.{Part}
+use Rattle.image_decls.specs.flat_state.specs.State.{FlatState}
 
 -- each of these numbers is a byte
 abbrev pub IsBytes : List ℕ → Type 0

@@ -5,12 +5,12 @@
 ghost use Rattle.std.specs.Prelude.{◌≡◌, ◌<◌, ◌++◌, ℕ, List, Some, slice_get};
 ghost use Rattle.cache_ident.specs.declared.names.SpaceNo.{SpaceNo};
 ghost use Rattle.cache_ident.specs.declared.names.ThreadNo.{ThreadNo};
-ghost use Rattle.flat_state.specs.declared.events.Decl.{Decl};
-ghost use Rattle.flat_state.specs.State.{FlatState, nothing_declared};
-ghost use Rattle.flat_state.specs.WellFormed.{IsWellFormed};
-ghost use Rattle.flat_state.specs.Events.{AllFit, after_declarations};
-ghost use Rattle.elf_image.specs.declared.images.Part.{Part};
-ghost use Rattle.elf_image.specs.Elf.{Executable};
+ghost use Rattle.image_decls.specs.flat_state.specs.declared.events.Decl.{Decl};
+ghost use Rattle.image_decls.specs.flat_state.specs.State.{FlatState, nothing_declared};
+ghost use Rattle.image_decls.specs.flat_state.specs.WellFormed.{IsWellFormed};
+ghost use Rattle.image_decls.specs.flat_state.specs.Events.{AllFit, after_declarations};
+ghost use Rattle.image_decls.specs.elf_image.specs.declared.images.Part.{Part};
+ghost use Rattle.image_decls.specs.elf_image.specs.Elf.{Executable};
 ghost use Rattle.image_decls.specs.Declarations.{declarations};
 ghost use Rattle.image_memory.specs.Loaded.{IsBytes, IsLoaded};
 

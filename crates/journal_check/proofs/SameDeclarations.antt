@@ -8,9 +8,9 @@ use Rattle.cache_ident.specs.declared.names.ThreadNo.{ThreadNo}
 use Rattle.cache_ident.specs.declared.names.Vpn.{Vpn}
 use Rattle.phys_groups.specs.declared.rows.Flags.{Flags}
 use Rattle.phys_groups.specs.contracts.rows.FlagsPartialEq.TheImpl as flags_equality
-use Rattle.flat_state.specs.declared.events.Decl.{Decl}
-use Rattle.flat_state.specs.declared.events.Decl.TheVariants.{Machine, Kernel, Right, Space, Thread, Map, Word}
-use Rattle.flat_state.specs.contracts.events.DeclPartialEq.TheImpl as decl_equality
+use Rattle.flat_machine.specs.flat_state.specs.declared.events.Decl.{Decl}
+use Rattle.flat_machine.specs.flat_state.specs.declared.events.Decl.TheVariants.{Machine, Kernel, Right, Space, Thread, Map, Word}
+use Rattle.flat_machine.specs.flat_state.specs.contracts.events.DeclPartialEq.TheImpl as decl_equality
 use Rattle.run_journal.specs.declared.entries.Entry.{Entry}
 use Rattle.run_journal.specs.declared.entries.Entry.TheVariants.{Declared}
 

@@ -1,6 +1,6 @@
 -- What a place of a journal keeps, and what it breaks first.
 use Rattle.std.specs.Prelude.{◌≡◌, ℕ, ◌<◌, List, Option, Some, None}
-use Rattle.flat_state.specs.declared.events.Decl.{Decl}
+use Rattle.flat_machine.specs.flat_state.specs.declared.events.Decl.{Decl}
 use Rattle.run_journal.specs.declared.entries.Entry.{Entry}
 use Rattle.run_journal.specs.Told.{Told, told_after}
 use Rattle.run_journal.specs.Points.{Rule, Place, Keeps, number_of}

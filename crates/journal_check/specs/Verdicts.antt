@@ -1,7 +1,7 @@
 -- What a verdict on a journal says.
 use Rattle.std.specs.Prelude.{◌≡◌, List}
-use Rattle.flat_state.specs.declared.events.Decl.{Decl}
-use Rattle.flat_state.specs.Events.{flat}
+use Rattle.flat_machine.specs.flat_state.specs.declared.events.Decl.{Decl}
+use Rattle.flat_machine.specs.flat_state.specs.Events.{flat}
 use Rattle.run_journal.specs.declared.entries.Entry.{Entry}
 use Rattle.run_journal.specs.Entries.{erase}
 use Rattle.run_journal.specs.Points.{KeepsAll, IsFirstBroken}

@@ -1,7 +1,7 @@
 //! The rules of a journal, at one place of it.
 
 ghost use Rattle.std.specs.Prelude.{◌≡◌, ◌↔◌, ◌<◌, List, ℕ, IsTrue, IfOk, MatchOption, Some, length, slice_get};
-ghost use Rattle.flat_state.specs.declared.events.Decl.{Decl};
+ghost use Rattle.flat_machine.specs.flat_state.specs.declared.events.Decl.{Decl};
 ghost use Rattle.run_journal.specs.declared.entries.Entry.TheVariants as entries;
 ghost use Rattle.run_journal.specs.Entries.{maker_of};
 ghost use Rattle.run_journal.specs.Points.{opening, Beginning, Order, Keeps};

@@ -6,10 +6,10 @@ use Rattle.std.proofs.lemmas.List.{get_or_default, length-map}
 use Rattle.std.proofs.lemmas.Option.{slice_get-map}
 use Rattle.std.specs.declared.cmp.Ordering.TheVariants.{Less}
 use Rattle.cache_ident.specs.Residents.{Resident}
-use Rattle.depend_lists.specs.declared.nodes.Node.{Node}
-use Rattle.writeback_order.specs.Order.{leaving_cmp}
-use Rattle.flat_state.specs.State.{FlatState}
-use Rattle.run_journal.specs.Groups.{HasParents}
+use Rattle.residents.specs.depend_lists.specs.declared.nodes.Node.{Node}
+use Rattle.residents.specs.writeback_order.specs.Order.{leaving_cmp}
+use Rattle.residents.specs.flat_state.specs.State.{FlatState}
+use Rattle.residents.specs.run_journal.specs.Groups.{HasParents}
 use Rattle.journal_tables.specs.journal_laws.specs.Leaving.{LacksParent}
 use Rattle.journal_groups.specs.declared.gone.Gone.{Gone}
 use Rattle.journal_groups.specs.Leaving.{node_of_gone, IsBehindLast, LackOneEach}

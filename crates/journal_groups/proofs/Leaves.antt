@@ -10,17 +10,17 @@ use Rattle.cache_ident.specs.declared.idents.Kind.{Kind}
 use Rattle.cache_ident.specs.Rolls.{is_same}
 use Rattle.cache_ident.proofs.RollLemmas.{same_ident}
 use Rattle.cache_ident.specs.Residents.{Resident, without}
-use Rattle.depend_lists.specs.declared.nodes.Node.{Node}
+use Rattle.residents.specs.depend_lists.specs.declared.nodes.Node.{Node}
 use Rattle.sorted_list.specs.Sorted.{IsRising}
-use Rattle.writeback_order.specs.Order.{leaving_cmp}
-use Rattle.flat_state.specs.State.{FlatState}
-use Rattle.flat_state.specs.WellFormed.{IsWellFormed}
-use Rattle.flat_state.proofs.Places.{count_by-cons}
-use Rattle.flat_laws.proofs.Members.{Contains-map, Contains-from_map}
-use Rattle.run_journal.specs.Groups.{node_of, IsGroup}
-use Rattle.run_journal.specs.Legal.{is_kind, count_of, AreGood}
-use Rattle.run_journal.proofs.Growth.{count-append}
-use Rattle.run_journal.proofs.Others.{other_ident, without_cases, stays_without}
+use Rattle.residents.specs.writeback_order.specs.Order.{leaving_cmp}
+use Rattle.residents.specs.flat_state.specs.State.{FlatState}
+use Rattle.residents.specs.flat_state.specs.WellFormed.{IsWellFormed}
+use Rattle.residents.specs.flat_state.proofs.Places.{count_by-cons}
+use Rattle.residents.specs.flat_laws.proofs.Members.{Contains-map, Contains-from_map}
+use Rattle.residents.specs.run_journal.specs.Groups.{node_of, IsGroup}
+use Rattle.residents.specs.run_journal.specs.Legal.{is_kind, count_of, AreGood}
+use Rattle.residents.specs.run_journal.proofs.Growth.{count-append}
+use Rattle.residents.specs.run_journal.proofs.Others.{other_ident, without_cases, stays_without}
 use Rattle.journal_tables.specs.journal_laws.specs.Leaving.{AreApart, HaveLeft, HaveOneEach, LacksParent}
 use Rattle.journal_tables.specs.journal_laws.proofs.GroupLaw.{group_if, order_if}
 use Rattle.journal_tables.proofs.Counting.{count-without}

@@ -8,9 +8,9 @@ use Rattle.std.proofs.lemmas.List.{length-append}
 use Rattle.std.proofs.lemmas.List.Quantifiers.{all_pairs_push}
 use Rattle.std.proofs.lemmas.Option.{slice_get-get_or, slice_get_within, get_or_from_slice_get}
 use Rattle.cache_ident.specs.contracts.idents.IdentOrd.TheImpl.Laws as ident_laws
-use Rattle.depend_lists.specs.declared.nodes.Node.{Node}
+use Rattle.residents.specs.depend_lists.specs.declared.nodes.Node.{Node}
 use Rattle.sorted_list.specs.Sorted.{IsRising}
-use Rattle.writeback_order.specs.Order.{leaving_cmp, rank_of}
+use Rattle.residents.specs.writeback_order.specs.Order.{leaving_cmp, rank_of}
 
 -- the order of leaving is a total order
 pub leaving_total : IsTotalOrder leaving_cmp

@@ -4,13 +4,13 @@ use Rattle.std.specs.declared.cmp.Ordering.TheVariants.{Less}
 use Rattle.cache_ident.specs.declared.idents.Ident.{Ident}
 use Rattle.cache_ident.specs.declared.idents.Kind.{Kind}
 use Rattle.cache_ident.specs.Residents.{Resident}
-use Rattle.depend_lists.specs.declared.nodes.Node.{Node}
+use Rattle.residents.specs.depend_lists.specs.declared.nodes.Node.{Node}
 use Rattle.sorted_list.specs.Sorted.{IsRising}
-use Rattle.writeback_order.specs.Order.{leaving_cmp}
-use Rattle.flat_state.specs.State.{FlatState}
-use Rattle.flat_state.specs.Names.{class_of}
-use Rattle.run_journal.specs.Groups.{node_of}
-use Rattle.run_journal.specs.Legal.{count_of, AreGood}
+use Rattle.residents.specs.writeback_order.specs.Order.{leaving_cmp}
+use Rattle.residents.specs.flat_state.specs.State.{FlatState}
+use Rattle.residents.specs.flat_state.specs.Names.{class_of}
+use Rattle.residents.specs.run_journal.specs.Groups.{node_of}
+use Rattle.residents.specs.run_journal.specs.Legal.{count_of, AreGood}
 use Rattle.journal_tables.specs.journal_laws.specs.Leaving.{AreApart, HaveOneEach, LacksParent}
 use Rattle.journal_groups.specs.declared.group.Group.{Group}
 use Rattle.journal_groups.specs.declared.gone.Gone.{Gone}

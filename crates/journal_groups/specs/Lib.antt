@@ -1,4 +1,3 @@
-pub use Rattle.journal_tables.specs.flat_machine
 pub use Rattle.journal_tables.specs.journal_rules
 pub use Rattle.journal_tables
 pub mod Leaving

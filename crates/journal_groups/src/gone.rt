@@ -1,7 +1,7 @@
 //! One that left, and which of two leaves first.
 
 ghost use Rattle.std.specs.Prelude.{◌≡◌, ◌↔◌, IsTrue};
-ghost use Rattle.writeback_order.specs.Order.{leaving_cmp};
+ghost use Rattle.residents.specs.writeback_order.specs.Order.{leaving_cmp};
 ghost use Rattle.std.specs.declared.cmp.Ordering.TheVariants.{Less};
 ghost use Rattle.journal_groups.specs.Leaving.{node_of_gone};
 

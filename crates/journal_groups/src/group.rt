@@ -3,11 +3,11 @@
 ghost use Rattle.std.specs.Prelude.{◌≡◌, ◌↔◌, ◌+◌, [], ◌∷◌, ◌++◌, List, Contains, IsTrue, OnOk, OnErr, count_by};
 ghost use Rattle.cache_ident.specs.declared.idents.Ident.{Ident};
 ghost use Rattle.cache_ident.specs.Residents.{Resident, without};
-ghost use Rattle.flat_state.specs.State.{FlatState};
-ghost use Rattle.flat_state.specs.WellFormed.{IsWellFormed};
+ghost use Rattle.residents.specs.flat_state.specs.State.{FlatState};
+ghost use Rattle.residents.specs.flat_state.specs.WellFormed.{IsWellFormed};
 ghost use Rattle.residents.specs.Tables.{AreThose, resident_of};
-ghost use Rattle.run_journal.specs.Groups.{IsGroup};
-ghost use Rattle.run_journal.specs.Legal.{AreGood, count_of, is_kind};
+ghost use Rattle.residents.specs.run_journal.specs.Groups.{IsGroup};
+ghost use Rattle.residents.specs.run_journal.specs.Legal.{AreGood, count_of, is_kind};
 ghost use Rattle.journal_tables.specs.journal_laws.specs.Leaving.{AreApart, HaveOneEach};
 
 use crate::gone::Gone;

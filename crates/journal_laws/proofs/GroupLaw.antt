@@ -7,15 +7,15 @@ use Rattle.cache_ident.specs.declared.classes.Class.{Class}
 use Rattle.cache_ident.specs.declared.classes.Class.TheVariants as class
 use Rattle.cache_ident.specs.declared.names.Name.{Name}
 use Rattle.cache_ident.specs.Residents.{Resident, IsNameResident}
-use Rattle.depend_lists.specs.declared.nodes.Node.{Node}
-use Rattle.writeback_order.specs.Order.{DependsOn, directly, further, leaving_cmp, rank_of, IsClosure}
+use Rattle.run_journal.specs.depend_lists.specs.declared.nodes.Node.{Node}
+use Rattle.run_journal.specs.writeback_order.specs.Order.{DependsOn, directly, further, leaving_cmp, rank_of, IsClosure}
 use Rattle.sorted_list.specs.Sorted.{IsRising}
-use Rattle.flat_state.specs.State.{FlatState}
-use Rattle.flat_state.specs.Dependence.{parents, Depends}
-use Rattle.flat_state.specs.Names.{class_of}
-use Rattle.flat_state.specs.WellFormed.{IsWellFormed}
-use Rattle.flat_laws.proofs.Members.{contains_nothing, Contains-here, Contains-behind, Contains-cases, Contains-map, Contains-from_map}
-use Rattle.flat_laws.proofs.ParentLaws.{parent_leaves_later}
+use Rattle.run_journal.specs.flat_state.specs.State.{FlatState}
+use Rattle.run_journal.specs.flat_state.specs.Dependence.{parents, Depends}
+use Rattle.run_journal.specs.flat_state.specs.Names.{class_of}
+use Rattle.run_journal.specs.flat_state.specs.WellFormed.{IsWellFormed}
+use Rattle.run_journal.specs.flat_laws.proofs.Members.{contains_nothing, Contains-here, Contains-behind, Contains-cases, Contains-map, Contains-from_map}
+use Rattle.run_journal.specs.flat_laws.proofs.ParentLaws.{parent_leaves_later}
 use Rattle.run_journal.specs.Groups.{node_of, IsPairOf, ArePairsOf, IsGroup}
 use Rattle.run_journal.specs.Legal.{AreGood}
 use Rattle.journal_laws.specs.Leaving.{LacksParent, HaveOneEach, HaveLeft}

@@ -15,22 +15,22 @@ use Rattle.cache_ident.specs.Residents.{Resident}
 use Rattle.phys_groups.specs.declared.rows.Row.{Row}
 use Rattle.phys_groups.specs.Rows.{row_name}
 use Rattle.phys_groups.specs.Translation.{is_row_of, row_of}
-use Rattle.signal_pages.specs.Signals.{is_signal_row_of}
-use Rattle.flat_state.specs.declared.events.Event.{Event}
-use Rattle.flat_state.specs.declared.records.FlatThread.{FlatThread}
-use Rattle.flat_state.specs.State.{FlatState}
-use Rattle.flat_state.specs.Translation.{is_fit_row}
-use Rattle.flat_state.specs.Dependence.{signal_rows_of, parents_of_row, parents_of_found, parents, Depends, owner_of_thread, owner_of_row, owner}
-use Rattle.flat_state.specs.Names.{stands, is_fit_found, is_fit_name, class_by, class_of_row, class_of}
-use Rattle.flat_state.specs.WellFormed.{IsWellFormed}
-use Rattle.flat_state.specs.Events.{applied}
-use Rattle.flat_state.proofs.Finding.{find-contains}
-use Rattle.flat_state.proofs.FormedEvents.{applied_formed}
-use Rattle.flat_laws.specs.Rows.{IsButForBits}
-use Rattle.flat_laws.proofs.EventKeeps.{Keeps, event_keeps}
-use Rattle.flat_laws.proofs.Members.{contains_nothing, Contains-here, Contains-behind, Contains-cases, Contains-filter, Contains-map, Contains-from_map}
-use Rattle.flat_laws.proofs.ShortChains.{own_row}
-use Rattle.flat_laws.proofs.ParentLaws.{there_is}
+use Rattle.run_journal.specs.signal_pages.specs.Signals.{is_signal_row_of}
+use Rattle.run_journal.specs.flat_state.specs.declared.events.Event.{Event}
+use Rattle.run_journal.specs.flat_state.specs.declared.records.FlatThread.{FlatThread}
+use Rattle.run_journal.specs.flat_state.specs.State.{FlatState}
+use Rattle.run_journal.specs.flat_state.specs.Translation.{is_fit_row}
+use Rattle.run_journal.specs.flat_state.specs.Dependence.{signal_rows_of, parents_of_row, parents_of_found, parents, Depends, owner_of_thread, owner_of_row, owner}
+use Rattle.run_journal.specs.flat_state.specs.Names.{stands, is_fit_found, is_fit_name, class_by, class_of_row, class_of}
+use Rattle.run_journal.specs.flat_state.specs.WellFormed.{IsWellFormed}
+use Rattle.run_journal.specs.flat_state.specs.Events.{applied}
+use Rattle.run_journal.specs.flat_state.proofs.Finding.{find-contains}
+use Rattle.run_journal.specs.flat_state.proofs.FormedEvents.{applied_formed}
+use Rattle.run_journal.specs.flat_laws.specs.Rows.{IsButForBits}
+use Rattle.run_journal.specs.flat_laws.proofs.EventKeeps.{Keeps, event_keeps}
+use Rattle.run_journal.specs.flat_laws.proofs.Members.{contains_nothing, Contains-here, Contains-behind, Contains-cases, Contains-filter, Contains-map, Contains-from_map}
+use Rattle.run_journal.specs.flat_laws.proofs.ShortChains.{own_row}
+use Rattle.run_journal.specs.flat_laws.proofs.ParentLaws.{there_is}
 use Rattle.run_journal.proofs.Others.{Contains-from_filter}
 use Rattle.run_journal.specs.Legal.{AreGood}
 use Rattle.journal_laws.specs.Touching.{frame_of}

@@ -16,24 +16,24 @@ use Rattle.cache_ident.specs.Residents.{Resident}
 use Rattle.phys_groups.specs.declared.rows.Row.{Row}
 use Rattle.phys_groups.specs.Rows.{row_name}
 use Rattle.phys_groups.specs.Translation.{implies, is_row_of, right_on, row_of, without}
-use Rattle.signal_pages.specs.Signals.{is_signal_row_of}
-use Rattle.fault_forward.specs.declared.effects.Effect.{Effect}
-use Rattle.fault_forward.specs.declared.effects.Effect.TheVariants as effects
-use Rattle.fault_forward.specs.Calls.{Completion, completion_of}
-use Rattle.flat_state.specs.declared.events.Decl.{Decl}
-use Rattle.flat_state.specs.declared.events.Event.TheVariants.{Complete}
-use Rattle.flat_state.specs.declared.records.FlatKernel.{FlatKernel}
-use Rattle.flat_state.specs.declared.records.FlatThread.{FlatThread}
-use Rattle.flat_state.specs.State.{FlatState, with_thread}
-use Rattle.flat_state.specs.Translation.{rights_in, kernel_rights, is_fit_row}
-use Rattle.flat_state.specs.Declaration.{broken_rule, declared, with_right}
-use Rattle.flat_state.specs.Dependence.{signal_rows_of, parents_of_row, parents_of_found, parents, Depends}
-use Rattle.flat_state.specs.Names.{stands, is_fit_found, is_fit_name}
-use Rattle.flat_state.specs.Call.{answered, refusal, made, mapping, rule_of_mapping, mapped, unmapped, spawning, spawned, is_first, granting, rule_of_granting, granted, completed_so, complete_if, completion_for, after_completion, is_completable}
-use Rattle.flat_state.specs.Events.{applied}
-use Rattle.flat_state.proofs.Places.{get-append, get-set_same, get-set_other}
-use Rattle.flat_laws.proofs.Members.{Contains-here, Contains-behind, Contains-cases, Contains-filter, Contains-map, Contains-from_map}
-use Rattle.flat_laws.proofs.StepSame.{IsSameBut, set_same, same_parents, same_stands, same_fit_name}
+use Rattle.run_journal.specs.signal_pages.specs.Signals.{is_signal_row_of}
+use Rattle.run_journal.specs.fault_forward.specs.declared.effects.Effect.{Effect}
+use Rattle.run_journal.specs.fault_forward.specs.declared.effects.Effect.TheVariants as effects
+use Rattle.run_journal.specs.fault_forward.specs.Calls.{Completion, completion_of}
+use Rattle.run_journal.specs.flat_state.specs.declared.events.Decl.{Decl}
+use Rattle.run_journal.specs.flat_state.specs.declared.events.Event.TheVariants.{Complete}
+use Rattle.run_journal.specs.flat_state.specs.declared.records.FlatKernel.{FlatKernel}
+use Rattle.run_journal.specs.flat_state.specs.declared.records.FlatThread.{FlatThread}
+use Rattle.run_journal.specs.flat_state.specs.State.{FlatState, with_thread}
+use Rattle.run_journal.specs.flat_state.specs.Translation.{rights_in, kernel_rights, is_fit_row}
+use Rattle.run_journal.specs.flat_state.specs.Declaration.{broken_rule, declared, with_right}
+use Rattle.run_journal.specs.flat_state.specs.Dependence.{signal_rows_of, parents_of_row, parents_of_found, parents, Depends}
+use Rattle.run_journal.specs.flat_state.specs.Names.{stands, is_fit_found, is_fit_name}
+use Rattle.run_journal.specs.flat_state.specs.Call.{answered, refusal, made, mapping, rule_of_mapping, mapped, unmapped, spawning, spawned, is_first, granting, rule_of_granting, granted, completed_so, complete_if, completion_for, after_completion, is_completable}
+use Rattle.run_journal.specs.flat_state.specs.Events.{applied}
+use Rattle.run_journal.specs.flat_state.proofs.Places.{get-append, get-set_same, get-set_other}
+use Rattle.run_journal.specs.flat_laws.proofs.Members.{Contains-here, Contains-behind, Contains-cases, Contains-filter, Contains-map, Contains-from_map}
+use Rattle.run_journal.specs.flat_laws.proofs.StepSame.{IsSameBut, set_same, same_parents, same_stands, same_fit_name}
 use Rattle.run_journal.specs.Legal.{StaysGood}
 use Rattle.journal_laws.specs.Touching.{IsRowWith, TouchesBy, TouchesFor, Touches}
 use Rattle.run_journal.proofs.Others.{Contains-from_filter}

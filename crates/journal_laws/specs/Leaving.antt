@@ -2,8 +2,8 @@
 use Rattle.std.specs.Prelude.{◌≡◌, ◌≢◌, ◌⊎◌, List, AllPairs, Contains}
 use Rattle.cache_ident.specs.declared.names.Name.{Name}
 use Rattle.cache_ident.specs.Residents.{Resident, IsNameResident}
-use Rattle.flat_state.specs.State.{FlatState}
-use Rattle.flat_state.specs.Dependence.{Depends}
+use Rattle.run_journal.specs.flat_state.specs.State.{FlatState}
+use Rattle.run_journal.specs.flat_state.specs.Dependence.{Depends}
 
 -- something that it depends on isn't resident
 abbrev pub LacksParent : FlatState → List Resident → Name → Type 0

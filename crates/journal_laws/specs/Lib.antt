@@ -1,2 +1,10 @@
+pub use Rattle.run_journal
+pub use Rattle.run_journal.specs.flat_laws
+pub use Rattle.run_journal.specs.flat_state
+pub use Rattle.run_journal.specs.writeback_order
+pub use Rattle.run_journal.specs.depend_lists
+pub use Rattle.run_journal.specs.signal_pages
+pub use Rattle.run_journal.specs.fault_forward
+pub use Rattle.run_journal.specs.rv32_exec
 pub mod Touching
 pub mod Leaving

@@ -8,11 +8,11 @@ use Rattle.cache_ident.specs.declared.names.SpaceNo.{SpaceNo}
 use Rattle.cache_ident.specs.declared.names.ThreadNo.{ThreadNo}
 use Rattle.phys_groups.specs.declared.rows.Row.{Row}
 use Rattle.phys_groups.specs.Translation.{row_of}
-use Rattle.fault_forward.specs.declared.effects.Effect.{Effect}
-use Rattle.fault_forward.specs.declared.effects.Effect.TheVariants as effects
-use Rattle.fault_forward.specs.Calls.{completion_of}
-use Rattle.flat_state.specs.declared.records.FlatThread.{FlatThread}
-use Rattle.flat_state.specs.State.{FlatState}
+use Rattle.run_journal.specs.fault_forward.specs.declared.effects.Effect.{Effect}
+use Rattle.run_journal.specs.fault_forward.specs.declared.effects.Effect.TheVariants as effects
+use Rattle.run_journal.specs.fault_forward.specs.Calls.{completion_of}
+use Rattle.run_journal.specs.flat_state.specs.declared.records.FlatThread.{FlatThread}
+use Rattle.run_journal.specs.flat_state.specs.State.{FlatState}
 
 -- the frame of the row that has the name, if there is one
 abbrev pub frame_of : FlatState → Name → Option Frame

@@ -3,9 +3,9 @@
 ghost use Rattle.std.specs.Prelude.{List};
 ghost use Rattle.cache_ident.specs.declared.names.ThreadNo.{ThreadNo};
 ghost use Rattle.cache_ident.specs.Residents.{Resident};
-ghost use Rattle.flat_state.specs.declared.events.Event.TheVariants.{Complete};
-ghost use Rattle.flat_state.specs.State.{FlatState};
-ghost use Rattle.flat_state.specs.Events.{applied};
+ghost use Rattle.run_journal.specs.flat_state.specs.declared.events.Event.TheVariants.{Complete};
+ghost use Rattle.run_journal.specs.flat_state.specs.State.{FlatState};
+ghost use Rattle.run_journal.specs.flat_state.specs.Events.{applied};
 ghost use Rattle.run_journal.specs.Legal.{StaysGood};
 ghost use Rattle.journal_laws.specs.Touching.{Touches};
 

@@ -3,9 +3,9 @@
 ghost use Rattle.std.specs.Prelude.{◌↔◌, [], ◌∷◌, ◌++◌, List, Contains, map};
 ghost use Rattle.cache_ident.specs.Residents.{Resident};
 ghost use Rattle.sorted_list.specs.Sorted.{IsRising};
-ghost use Rattle.writeback_order.specs.Order.{leaving_cmp};
-ghost use Rattle.flat_state.specs.declared.events.Event.{Event};
-ghost use Rattle.flat_state.specs.Events.{flat};
+ghost use Rattle.run_journal.specs.writeback_order.specs.Order.{leaving_cmp};
+ghost use Rattle.run_journal.specs.flat_state.specs.declared.events.Event.{Event};
+ghost use Rattle.run_journal.specs.flat_state.specs.Events.{flat};
 ghost use Rattle.run_journal.specs.Groups.{IsGroup, node_of};
 ghost use Rattle.run_journal.specs.Legal.{AreGood};
 ghost use Rattle.journal_laws.specs.Leaving.{HaveLeft, LacksParent};

@@ -3,10 +3,10 @@
 ghost use Rattle.std.specs.Prelude.{◌≡◌, ◌↔◌, List, Contains, true};
 ghost use Rattle.cache_ident.specs.declared.names.Name.{Name};
 ghost use Rattle.cache_ident.specs.Residents.{Resident};
-ghost use Rattle.flat_state.specs.declared.events.Event.{Event};
-ghost use Rattle.flat_state.specs.Dependence.{Depends, owner};
-ghost use Rattle.flat_state.specs.Events.{applied, flat};
-ghost use Rattle.flat_state.specs.Names.{class_of, stands};
+ghost use Rattle.run_journal.specs.flat_state.specs.declared.events.Event.{Event};
+ghost use Rattle.run_journal.specs.flat_state.specs.Dependence.{Depends, owner};
+ghost use Rattle.run_journal.specs.flat_state.specs.Events.{applied, flat};
+ghost use Rattle.run_journal.specs.flat_state.specs.Names.{class_of, stands};
 ghost use Rattle.run_journal.specs.Legal.{AreGood};
 ghost use Rattle.journal_laws.specs.Touching.{frame_of};
 

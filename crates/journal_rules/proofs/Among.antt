@@ -5,7 +5,7 @@ use Rattle.std.proofs.lemmas.Bool.{cases_lt}
 use Rattle.cache_ident.specs.declared.names.Frame.{Frame}
 use Rattle.cache_ident.specs.declared.names.KernelNo.{KernelNo}
 use Rattle.cache_ident.specs.declared.names.Name.{Name}
-use Rattle.flat_laws.proofs.Members.{contains_nothing}
+use Rattle.run_journal.specs.flat_laws.proofs.Members.{contains_nothing}
 use Rattle.residents.specs.declared.relying.Reliance.{Reliance}
 use Rattle.residents.specs.declared.relying.Reliance.TheVariants.{Signals, Rights}
 use Rattle.residents.specs.declared.relying.RelyingRows.{RelyingRows}

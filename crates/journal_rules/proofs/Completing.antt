@@ -12,7 +12,7 @@ use Rattle.flat_state.specs.declared.records.FlatThread.{FlatThread}
 use Rattle.flat_state.specs.State.{FlatState}
 use Rattle.flat_state.specs.Call.{is_completable, complete_if, completion_for, after_completion}
 use Rattle.flat_state.specs.Events.{after_event, applied}
-use Rattle.flat_laws.proofs.Members.{contains_nothing, Contains-here, Contains-behind, Contains-cases}
+use Rattle.run_journal.specs.flat_laws.proofs.Members.{contains_nothing, Contains-here, Contains-behind, Contains-cases}
 use Rattle.run_journal.specs.Legal.{StaysGood, AreGood}
 use Rattle.residents.specs.declared.list.Residents.{Residents}
 use Rattle.residents.specs.declared.relying.RelyingRows.{RelyingRows}

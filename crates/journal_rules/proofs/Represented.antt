@@ -16,10 +16,10 @@ use Rattle.cache_ident.specs.Residents.{Resident, IsNameResident}
 use Rattle.phys_groups.specs.declared.rows.Row.{Row}
 use Rattle.phys_groups.specs.Rows.{row_name}
 use Rattle.phys_groups.specs.Translation.{implies, is_row_of, right_on, row_of}
-use Rattle.signal_pages.specs.Signals.{is_signal_row_of}
-use Rattle.fault_forward.specs.declared.effects.Effect.{Effect}
-use Rattle.fault_forward.specs.declared.effects.Effect.TheVariants as effects
-use Rattle.fault_forward.specs.Calls.{Completion, completion_of}
+use Rattle.flat_state.specs.signal_pages.specs.Signals.{is_signal_row_of}
+use Rattle.flat_state.specs.fault_forward.specs.declared.effects.Effect.{Effect}
+use Rattle.flat_state.specs.fault_forward.specs.declared.effects.Effect.TheVariants as effects
+use Rattle.flat_state.specs.fault_forward.specs.Calls.{Completion, completion_of}
 use Rattle.flat_state.specs.declared.events.Event.TheVariants.{Complete}
 use Rattle.flat_state.specs.declared.records.FlatKernel.{FlatKernel}
 use Rattle.flat_state.specs.declared.records.FlatThread.{FlatThread}
@@ -31,7 +31,7 @@ use Rattle.flat_state.specs.Names.{stands, is_fit_found, is_fit_name}
 use Rattle.flat_state.specs.Call.{answered, refusal, made, mapping, rule_of_mapping, is_first, granting, rule_of_granting, completed_so, complete_if, completion_for, after_completion, is_completable}
 use Rattle.flat_state.specs.Events.{applied}
 use Rattle.flat_state.proofs.Places.{get-set_other}
-use Rattle.flat_laws.proofs.Members.{contains_nothing, Contains-here, Contains-behind, Contains-cases, Contains-map, Contains-from_map}
+use Rattle.run_journal.specs.flat_laws.proofs.Members.{contains_nothing, Contains-here, Contains-behind, Contains-cases, Contains-map, Contains-from_map}
 use Rattle.run_journal.specs.Groups.{HasParents}
 use Rattle.run_journal.specs.Legal.{StaysGood}
 use Rattle.journal_laws.specs.Touching.{IsRowWith, TouchesBy, TouchesFor}

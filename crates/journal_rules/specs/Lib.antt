@@ -1,4 +1,3 @@
-pub use Rattle.flat_machine
 pub use Rattle.journal_laws
 pub mod Running
 pub mod Relied

@@ -4,9 +4,9 @@ use Rattle.cache_ident.specs.declared.names.Name.{Name}
 use Rattle.cache_ident.specs.declared.names.Name.TheVariants.{Mapping}
 use Rattle.cache_ident.specs.declared.names.SpaceNo.{SpaceNo}
 use Rattle.cache_ident.specs.Residents.{Resident, IsNameResident}
-use Rattle.fault_forward.specs.Calls.{completion_of}
-use Rattle.fault_forward.specs.declared.effects.Effect.{Effect}
-use Rattle.fault_forward.specs.declared.effects.Effect.TheVariants as effects
+use Rattle.flat_state.specs.fault_forward.specs.Calls.{completion_of}
+use Rattle.flat_state.specs.fault_forward.specs.declared.effects.Effect.{Effect}
+use Rattle.flat_state.specs.fault_forward.specs.declared.effects.Effect.TheVariants as effects
 use Rattle.flat_state.specs.declared.records.FlatThread.{FlatThread}
 use Rattle.residents.specs.declared.list.Residents.{Residents}
 use Rattle.residents.specs.declared.relying.Reliance.{Reliance}

@@ -6,9 +6,9 @@ use Rattle.cache_ident.specs.declared.names.Name.{Name}
 use Rattle.cache_ident.specs.Rolls.{is_same}
 use Rattle.cache_ident.proofs.RollLemmas.{is_same-refl}
 use Rattle.cache_ident.specs.Residents.{Resident, with_loaded, without, locked_if, with_lock}
-use Rattle.flat_state.proofs.Places.{count_by-cons}
-use Rattle.flat_laws.proofs.Members.{Contains-here, Contains-behind, Contains-cases, contains_nothing}
-use Rattle.run_journal.proofs.Others.{differ}
+use Rattle.residents.specs.flat_state.proofs.Places.{count_by-cons}
+use Rattle.residents.specs.flat_laws.proofs.Members.{Contains-here, Contains-behind, Contains-cases, contains_nothing}
+use Rattle.residents.specs.run_journal.proofs.Others.{differ}
 use Rattle.journal_rules.specs.journal_laws.specs.Leaving.{AreApart}
 
 pub apart_behind : (x : Resident) (xs : List Resident) → AreApart (x ∷ xs) → AreApart xs

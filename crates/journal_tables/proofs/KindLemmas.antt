@@ -13,7 +13,7 @@ use Rattle.cache_ident.specs.contracts.idents.KindOrd.TheImpl as kind_order
 use Rattle.cache_ident.specs.contracts.idents.KindOrd.TheImpl.Laws as kind_laws
 use Rattle.cache_ident.specs.contracts.names.KernelNoOrd.TheImpl as kernel_order
 use Rattle.cache_ident.specs.contracts.names.KernelNoOrd.TheImpl.Laws as kernel_laws
-use Rattle.run_journal.specs.Legal.{is_kind}
+use Rattle.residents.specs.run_journal.specs.Legal.{is_kind}
 use Rattle.residents.proofs.NameLemmas.{one_or_other, at_other, then_equal}
 use Rattle.journal_tables.specs.Locks.{owned_cmp}
 

@@ -8,9 +8,9 @@ use Rattle.cache_ident.specs.declared.idents.Kind.{Kind}
 use Rattle.cache_ident.specs.declared.names.KernelNo.{KernelNo}
 use Rattle.cache_ident.specs.declared.names.Name.{Name}
 use Rattle.cache_ident.specs.Residents.{Resident, with_loaded, without, with_lock}
-use Rattle.flat_state.specs.State.{FlatState}
-use Rattle.flat_state.specs.Dependence.{owner}
-use Rattle.run_journal.specs.Legal.{is_kind, is_kernel, locked_by}
+use Rattle.residents.specs.flat_state.specs.State.{FlatState}
+use Rattle.residents.specs.flat_state.specs.Dependence.{owner}
+use Rattle.residents.specs.run_journal.specs.Legal.{is_kind, is_kernel, locked_by}
 use Rattle.journal_tables.specs.declared.locks.Locks.{Locks}
 use Rattle.journal_tables.specs.Locks.{lock_count, Recounts, RecountsFor, RecountsIf}
 use Rattle.journal_rules.specs.journal_laws.specs.Leaving.{AreApart}

@@ -4,8 +4,8 @@ use Rattle.std.proofs.lemmas.List.Elements.{Contains-push, Contains-push_cases, 
 use Rattle.cache_ident.specs.declared.idents.Ident.{Ident}
 use Rattle.cache_ident.specs.declared.names.Name.{Name}
 use Rattle.cache_ident.specs.Residents.{Resident, IsNameResident, with_loaded, without, locked_if, with_lock}
-use Rattle.flat_laws.proofs.Members.{Contains-map, Contains-from_map}
-use Rattle.run_journal.proofs.Others.{without_cases, stays_without, locked_keeps}
+use Rattle.residents.specs.flat_laws.proofs.Members.{Contains-map, Contains-from_map}
+use Rattle.residents.specs.run_journal.proofs.Others.{without_cases, stays_without, locked_keeps}
 
 abbrev new_one : Ident → Name → Resident
 new_one ident name = record { ident = ident; name = name; locked = false }

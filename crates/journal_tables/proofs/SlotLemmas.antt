@@ -5,9 +5,9 @@ use Rattle.cache_ident.specs.declared.idents.Ident.{Ident}
 use Rattle.cache_ident.specs.declared.idents.Kind.{Kind}
 use Rattle.cache_ident.specs.declared.names.Name.{Name}
 use Rattle.cache_ident.specs.Residents.{Resident, with_loaded, without, locked_if, with_lock}
-use Rattle.flat_laws.proofs.Members.{Contains-map, Contains-from_map, contains_nothing}
-use Rattle.run_journal.specs.Legal.{IsTaken, count_of, is_kind}
-use Rattle.run_journal.proofs.Others.{without_cases, stays_without, locked_keeps}
+use Rattle.residents.specs.flat_laws.proofs.Members.{Contains-map, Contains-from_map, contains_nothing}
+use Rattle.residents.specs.run_journal.specs.Legal.{IsTaken, count_of, is_kind}
+use Rattle.residents.specs.run_journal.proofs.Others.{without_cases, stays_without, locked_keeps}
 use Rattle.residents.specs.declared.slots.Slots.{Slots}
 use Rattle.residents.specs.Slots.{IsCount, IsTakenIn}
 use Rattle.journal_tables.specs.Tables.{AreSlotsOf}

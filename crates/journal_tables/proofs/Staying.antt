@@ -12,27 +12,27 @@ use Rattle.cache_ident.specs.Residents.{Resident}
 use Rattle.phys_groups.specs.declared.rows.Flags.{Flags}
 use Rattle.phys_groups.specs.declared.rows.Row.{Row}
 use Rattle.phys_groups.specs.Translation.{row_of}
-use Rattle.flat_state.specs.declared.events.Decl.{Decl}
-use Rattle.flat_state.specs.declared.events.Event.{Event}
-use Rattle.flat_state.specs.declared.events.Event.TheVariants.{Step, Complete}
-use Rattle.flat_state.specs.State.{FlatState}
-use Rattle.flat_state.specs.Names.{stands}
-use Rattle.flat_state.specs.Dependence.{Depends, owner, owner_of_row, parents}
-use Rattle.flat_state.specs.Events.{after_events, applied, flat}
-use Rattle.flat_state.specs.WellFormed.{IsWellFormed}
-use Rattle.flat_state.proofs.FormedEvents.{flat_formed}
-use Rattle.flat_laws.proofs.EventKeeps.{event_keeps}
-use Rattle.flat_laws.proofs.Members.{contains_nothing}
-use Rattle.flat_laws.proofs.StepSame.{IsSameBut, step_same, found_row, same_owner, same_parents}
+use Rattle.residents.specs.flat_state.specs.declared.events.Decl.{Decl}
+use Rattle.residents.specs.flat_state.specs.declared.events.Event.{Event}
+use Rattle.residents.specs.flat_state.specs.declared.events.Event.TheVariants.{Step, Complete}
+use Rattle.residents.specs.flat_state.specs.State.{FlatState}
+use Rattle.residents.specs.flat_state.specs.Names.{stands}
+use Rattle.residents.specs.flat_state.specs.Dependence.{Depends, owner, owner_of_row, parents}
+use Rattle.residents.specs.flat_state.specs.Events.{after_events, applied, flat}
+use Rattle.residents.specs.flat_state.specs.WellFormed.{IsWellFormed}
+use Rattle.residents.specs.flat_state.proofs.FormedEvents.{flat_formed}
+use Rattle.residents.specs.flat_laws.proofs.EventKeeps.{event_keeps}
+use Rattle.residents.specs.flat_laws.proofs.Members.{contains_nothing}
+use Rattle.residents.specs.flat_laws.proofs.StepSame.{IsSameBut, step_same, found_row, same_owner, same_parents}
 use Rattle.journal_rules.specs.Relied.{reliances_of, relied_on}
 use Rattle.journal_rules.specs.journal_laws.proofs.SameDependence.{depends_on_same, owner_stays}
 use Rattle.residents.specs.declared.relying.Reliance.{Reliance}
 use Rattle.residents.specs.declared.relying.Reliance.TheVariants.{Rights, Signals}
 use Rattle.residents.specs.Pairs.{IsPair}
 use Rattle.residents.specs.Relying.{IsRelying}
-use Rattle.run_journal.specs.declared.entries.Entry.TheVariants.{Declared, Sealed, Ran, Ended, Completed}
-use Rattle.run_journal.specs.Told.{Told, told_after}
-use Rattle.run_journal.specs.Legal.{MayRun, MayEnd, MayComplete}
+use Rattle.residents.specs.run_journal.specs.declared.entries.Entry.TheVariants.{Declared, Sealed, Ran, Ended, Completed}
+use Rattle.residents.specs.run_journal.specs.Told.{Told, told_after}
+use Rattle.residents.specs.run_journal.specs.Legal.{MayRun, MayEnd, MayComplete}
 use Rattle.journal_tables.specs.declared.tables.Tables.{Tables}
 use Rattle.journal_tables.specs.Tables.{AreOf}
 use Rattle.journal_tables.specs.Whole.{AreWhole}

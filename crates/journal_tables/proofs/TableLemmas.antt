@@ -10,11 +10,11 @@ use Rattle.cache_ident.specs.declared.names.KernelNo.{KernelNo}
 use Rattle.cache_ident.specs.declared.names.Name.{Name}
 use Rattle.cache_ident.specs.Names.{kind_of}
 use Rattle.cache_ident.specs.Residents.{IsNameResident, Resident, with_loaded, without, with_lock}
-use Rattle.flat_state.specs.State.{FlatState}
-use Rattle.flat_state.specs.Dependence.{parents, Depends, owner}
-use Rattle.run_journal.specs.declared.entries.Entry.TheVariants.{Loaded, WrittenBack, Locked, Unlocked}
-use Rattle.run_journal.specs.Told.{Told, told_after}
-use Rattle.run_journal.specs.Legal.{IsTaken, MayLoad, MayLeave, MayLock, MayUnlock, StaysGood, cap_of, first_ident, limit_of, locked_by}
+use Rattle.residents.specs.flat_state.specs.State.{FlatState}
+use Rattle.residents.specs.flat_state.specs.Dependence.{parents, Depends, owner}
+use Rattle.residents.specs.run_journal.specs.declared.entries.Entry.TheVariants.{Loaded, WrittenBack, Locked, Unlocked}
+use Rattle.residents.specs.run_journal.specs.Told.{Told, told_after}
+use Rattle.residents.specs.run_journal.specs.Legal.{IsTaken, MayLoad, MayLeave, MayLock, MayUnlock, StaysGood, cap_of, first_ident, limit_of, locked_by}
 use Rattle.residents.specs.declared.dependents.Dependents.{Dependents}
 use Rattle.residents.specs.declared.relying.Reliance.{Reliance}
 use Rattle.residents.specs.declared.relying.RelyingRows.{RelyingRows}

@@ -8,14 +8,14 @@ use Rattle.cache_ident.specs.declared.idents.Ident.{Ident}
 use Rattle.cache_ident.specs.declared.names.Name.{Name}
 use Rattle.cache_ident.specs.declared.names.ThreadNo.{ThreadNo}
 use Rattle.cache_ident.specs.Residents.{Resident, with_loaded, without, locked_if, with_lock}
-use Rattle.flat_laws.proofs.Members.{contains_nothing, Contains-from_map}
-use Rattle.flat_state.specs.State.{FlatState}
-use Rattle.run_journal.specs.declared.entries.Entry.{Entry}
-use Rattle.run_journal.specs.declared.entries.Entry.TheVariants.{Loaded, WrittenBack, Locked, Unlocked, Ran, Ended, Completed}
-use Rattle.run_journal.specs.Told.{Told, Anything, told_of, told_after}
-use Rattle.run_journal.specs.Legal.{MayHappen, MayLoad, MayLeave, MayLock, MayUnlock, MayRun, MayEnd, MayComplete, IsInPlace, IsByProcessor, Comes}
-use Rattle.run_journal.proofs.Others.{locked_keeps}
-use Rattle.run_journal.proofs.Whole.{IsWhole, whole_after}
+use Rattle.residents.specs.flat_laws.proofs.Members.{contains_nothing, Contains-from_map}
+use Rattle.residents.specs.flat_state.specs.State.{FlatState}
+use Rattle.residents.specs.run_journal.specs.declared.entries.Entry.{Entry}
+use Rattle.residents.specs.run_journal.specs.declared.entries.Entry.TheVariants.{Loaded, WrittenBack, Locked, Unlocked, Ran, Ended, Completed}
+use Rattle.residents.specs.run_journal.specs.Told.{Told, Anything, told_of, told_after}
+use Rattle.residents.specs.run_journal.specs.Legal.{MayHappen, MayLoad, MayLeave, MayLock, MayUnlock, MayRun, MayEnd, MayComplete, IsInPlace, IsByProcessor, Comes}
+use Rattle.residents.specs.run_journal.proofs.Others.{locked_keeps}
+use Rattle.residents.specs.run_journal.proofs.Whole.{IsWhole, whole_after}
 use Rattle.journal_rules.specs.journal_laws.specs.Leaving.{AreApart}
 use Rattle.journal_tables.specs.Whole.{AreWhole}
 use Rattle.journal_tables.proofs.Counting.{apart_behind, apart_first}

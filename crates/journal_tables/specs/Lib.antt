@@ -1,4 +1,3 @@
-pub use Rattle.journal_rules.specs.flat_machine
 pub use Rattle.journal_rules.specs.journal_laws
 pub use Rattle.journal_rules
 pub mod KindSlots

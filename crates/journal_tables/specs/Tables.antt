@@ -6,10 +6,10 @@ use Rattle.cache_ident.specs.declared.idents.Kind.{Kind}
 use Rattle.cache_ident.specs.declared.names.KernelNo.{KernelNo}
 use Rattle.cache_ident.specs.declared.names.Name.{Name}
 use Rattle.cache_ident.specs.Residents.{Resident, IsNameResident}
-use Rattle.flat_state.specs.State.{FlatState}
-use Rattle.flat_state.specs.Dependence.{Depends}
-use Rattle.run_journal.specs.Told.{Told}
-use Rattle.run_journal.specs.Legal.{IsTaken, count_of, locked_by, MayLeave}
+use Rattle.residents.specs.flat_state.specs.State.{FlatState}
+use Rattle.residents.specs.flat_state.specs.Dependence.{Depends}
+use Rattle.residents.specs.run_journal.specs.Told.{Told}
+use Rattle.residents.specs.run_journal.specs.Legal.{IsTaken, count_of, locked_by, MayLeave}
 use Rattle.residents.specs.declared.dependents.Dependents.{Dependents}
 use Rattle.residents.specs.declared.list.Held.{Held}
 use Rattle.residents.specs.declared.slots.Slots.{Slots}

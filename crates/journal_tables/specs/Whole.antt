@@ -2,8 +2,8 @@
 use Rattle.std.specs.Prelude.{◌≡◌, ℕ, ◌<◌, List, Contains}
 use Rattle.cache_ident.specs.Names.{kind_of}
 use Rattle.cache_ident.specs.Residents.{Resident}
-use Rattle.flat_state.specs.State.{FlatState}
-use Rattle.run_journal.specs.Legal.{AreGood}
+use Rattle.residents.specs.flat_state.specs.State.{FlatState}
+use Rattle.residents.specs.run_journal.specs.Legal.{AreGood}
 use Rattle.journal_rules.specs.journal_laws.specs.Leaving.{AreApart, HaveOneEach}
 
 -- After so many loads no identifier stands twice. Each has a serial that a load gave out, the kind of its name, and an

@@ -2,12 +2,12 @@
 
 ghost use Rattle.std.specs.Prelude.{◌≡◌, ℕ, [], List};
 ghost use Rattle.cache_ident.specs.declared.names.ThreadNo.{ThreadNo};
-ghost use Rattle.flat_state.specs.declared.events.Decl.{Decl};
-ghost use Rattle.flat_state.specs.declared.events.Event.{Event};
-ghost use Rattle.flat_state.specs.Events.{flat};
-ghost use Rattle.run_journal.specs.declared.entries.Entry.TheVariants as entries;
-ghost use Rattle.run_journal.specs.Legal.{MayComplete, MayEnd, MayRun};
-ghost use Rattle.run_journal.specs.Told.{Told, told_after};
+ghost use Rattle.residents.specs.flat_state.specs.declared.events.Decl.{Decl};
+ghost use Rattle.residents.specs.flat_state.specs.declared.events.Event.{Event};
+ghost use Rattle.residents.specs.flat_state.specs.Events.{flat};
+ghost use Rattle.residents.specs.run_journal.specs.declared.entries.Entry.TheVariants as entries;
+ghost use Rattle.residents.specs.run_journal.specs.Legal.{MayComplete, MayEnd, MayRun};
+ghost use Rattle.residents.specs.run_journal.specs.Told.{Told, told_after};
 ghost use Rattle.journal_tables.specs.declared.tables.Tables.{Tables};
 ghost use Rattle.journal_tables.specs.Tables.{AreOf};
 

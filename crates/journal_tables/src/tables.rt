@@ -4,13 +4,13 @@ ghost use Rattle.std.specs.Prelude.{◌≡◌, ◌↔◌, ℕ, ◌+◌, ◌<◌,
 ghost use Rattle.std.specs.Bool.{MatchBool};
 ghost use Rattle.cache_ident.specs.declared.idents.Cause.{Cause};
 ghost use Rattle.cache_ident.specs.declared.idents.Cause.TheVariants as causes;
-ghost use Rattle.flat_state.specs.Dependence.{owner};
+ghost use Rattle.residents.specs.flat_state.specs.Dependence.{owner};
 ghost use Rattle.residents.specs.Slots.{IsLowest};
 ghost use Rattle.residents.specs.Tables.{AreThose, resident_of};
-ghost use Rattle.run_journal.specs.declared.entries.Entry.TheVariants as entries;
-ghost use Rattle.run_journal.specs.Groups.{NothingDependsOn};
-ghost use Rattle.run_journal.specs.Legal.{MayLeave, MayLoad, MayLock, MayUnlock, cap_of, count_of};
-ghost use Rattle.run_journal.specs.Told.{Told, nothing_told, told_after};
+ghost use Rattle.residents.specs.run_journal.specs.declared.entries.Entry.TheVariants as entries;
+ghost use Rattle.residents.specs.run_journal.specs.Groups.{NothingDependsOn};
+ghost use Rattle.residents.specs.run_journal.specs.Legal.{MayLeave, MayLoad, MayLock, MayUnlock, cap_of, count_of};
+ghost use Rattle.residents.specs.run_journal.specs.Told.{Told, nothing_told, told_after};
 ghost use Rattle.journal_rules.specs.Relied.{AreRelyingOn};
 ghost use Rattle.journal_tables.specs.Locks.{RecountsIf};
 

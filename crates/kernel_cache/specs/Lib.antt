@@ -1,1 +1,2 @@
+pub use Rattle.slot_cache
 pub mod Kernels

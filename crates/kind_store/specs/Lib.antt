@@ -1,3 +1,4 @@
+pub use Rattle.owner_shelf
 pub mod Kept
 pub mod Rolls
 pub mod Changes

@@ -6,29 +6,29 @@ use Rattle.std.proofs.lemmas.Option.{same_Some}
 use Rattle.cache_ident.specs.declared.names.ThreadNo.{ThreadNo}
 use Rattle.cache_ident.specs.declared.names.Vpn.{Vpn}
 use Rattle.phys_groups.specs.Translation.{row_of, without}
-use Rattle.signal_pages.specs.Signals.{address_of}
-use Rattle.rv32_exec.specs.declared.statuses.Status.{Status}
-use Rattle.rv32_exec.specs.declared.statuses.Status.TheVariants.{Ready, Trapped, Ended}
-use Rattle.rv32_exec.specs.declared.steps.Stepped.{Stepped}
-use Rattle.rv32_exec.specs.declared.steps.Stepped.TheVariants.{Next, Call, Stop, Miss}
-use Rattle.rv32_exec.specs.Steps.{After}
-use Rattle.fault_forward.specs.declared.effects.Effect.{Effect}
-use Rattle.fault_forward.specs.declared.effects.Effect.TheVariants as effects
-use Rattle.fault_forward.specs.Calls.{Completion, completion_of}
-use Rattle.flat_state.specs.declared.events.Decl.{Decl}
-use Rattle.flat_state.specs.declared.events.Decl.TheVariants as decls
-use Rattle.flat_state.specs.declared.events.Event.{Event}
-use Rattle.flat_state.specs.declared.events.Event.TheVariants.{Declare, Step, Complete}
-use Rattle.flat_state.specs.declared.records.FlatThread.{FlatThread}
-use Rattle.flat_state.specs.declared.records.Signal.{Signal}
-use Rattle.flat_state.specs.State.{FlatState, with_thread, is_trapped, is_ended}
-use Rattle.flat_state.specs.Declaration.{broken_rule, declared}
-use Rattle.flat_state.specs.Signals.{is_runnable, next_signal, receivers_for, with_address, sent_to, sent, delivered}
-use Rattle.flat_state.specs.Step.{outcome, went_on, stepped_so, step_if, step_of, after_step}
-use Rattle.flat_state.specs.Call.{answered, refusal, made, mapping, rule_of_mapping, mapped, unmapped, spawning, spawned, is_first, granting, rule_of_granting, granted, completed_so, complete_if, completion_for, after_completion, is_completable, waits}
-use Rattle.flat_state.specs.Events.{declared_unless, applied, after_events}
-use Rattle.flat_state.proofs.Places.{count_by-cons, get-append}
-use Rattle.run_journal.specs.Entries.{is_step}
+use Rattle.board_core.specs.signal_pages.specs.Signals.{address_of}
+use Rattle.board_core.specs.rv32_exec.specs.declared.statuses.Status.{Status}
+use Rattle.board_core.specs.rv32_exec.specs.declared.statuses.Status.TheVariants.{Ready, Trapped, Ended}
+use Rattle.board_core.specs.rv32_exec.specs.declared.steps.Stepped.{Stepped}
+use Rattle.board_core.specs.rv32_exec.specs.declared.steps.Stepped.TheVariants.{Next, Call, Stop, Miss}
+use Rattle.board_core.specs.rv32_exec.specs.Steps.{After}
+use Rattle.board_core.specs.fault_forward.specs.declared.effects.Effect.{Effect}
+use Rattle.board_core.specs.fault_forward.specs.declared.effects.Effect.TheVariants as effects
+use Rattle.board_core.specs.fault_forward.specs.Calls.{Completion, completion_of}
+use Rattle.board_core.specs.flat_state.specs.declared.events.Decl.{Decl}
+use Rattle.board_core.specs.flat_state.specs.declared.events.Decl.TheVariants as decls
+use Rattle.board_core.specs.flat_state.specs.declared.events.Event.{Event}
+use Rattle.board_core.specs.flat_state.specs.declared.events.Event.TheVariants.{Declare, Step, Complete}
+use Rattle.board_core.specs.flat_state.specs.declared.records.FlatThread.{FlatThread}
+use Rattle.board_core.specs.flat_state.specs.declared.records.Signal.{Signal}
+use Rattle.board_core.specs.flat_state.specs.State.{FlatState, with_thread, is_trapped, is_ended}
+use Rattle.board_core.specs.flat_state.specs.Declaration.{broken_rule, declared}
+use Rattle.board_core.specs.flat_state.specs.Signals.{is_runnable, next_signal, receivers_for, with_address, sent_to, sent, delivered}
+use Rattle.board_core.specs.flat_state.specs.Step.{outcome, went_on, stepped_so, step_if, step_of, after_step}
+use Rattle.board_core.specs.flat_state.specs.Call.{answered, refusal, made, mapping, rule_of_mapping, mapped, unmapped, spawning, spawned, is_first, granting, rule_of_granting, granted, completed_so, complete_if, completion_for, after_completion, is_completable, waits}
+use Rattle.board_core.specs.flat_state.specs.Events.{declared_unless, applied, after_events}
+use Rattle.board_core.specs.flat_state.proofs.Places.{count_by-cons, get-append}
+use Rattle.board_core.specs.run_journal.specs.Entries.{is_step}
 use Rattle.left_laws.specs.Left.{in_call, calls_among, calls_in}
 
 -- ---- one thread in the place of another

@@ -1,14 +1,14 @@
 -- What is left falls.
 use Rattle.std.proofs.Common.{◌≡◌, ℕ, ◌+◌, ◌-◌, ◌*◌, ◌≤◌, true, List, Some, slice_get, ap, ap₂, sym, ◌∙◌, subst, arith}
-use Rattle.run_journal.specs.declared.entries.Entry.{Entry}
-use Rattle.run_journal.specs.Entries.{erase, steps_in}
-use Rattle.run_journal.proofs.Growth.{steps-append}
+use Rattle.board_core.specs.run_journal.specs.declared.entries.Entry.{Entry}
+use Rattle.board_core.specs.run_journal.specs.Entries.{erase, steps_in}
+use Rattle.board_core.specs.run_journal.proofs.Growth.{steps-append}
 use Rattle.cache_ident.specs.declared.names.ThreadNo.{ThreadNo}
-use Rattle.flat_state.specs.declared.events.Event.TheVariants.{Complete}
-use Rattle.flat_state.specs.declared.records.FlatThread.{FlatThread}
-use Rattle.flat_state.specs.Call.{is_completable}
-use Rattle.flat_state.specs.Events.{applied}
-use Rattle.flat_state.specs.State.{FlatState}
+use Rattle.board_core.specs.flat_state.specs.declared.events.Event.TheVariants.{Complete}
+use Rattle.board_core.specs.flat_state.specs.declared.records.FlatThread.{FlatThread}
+use Rattle.board_core.specs.flat_state.specs.Call.{is_completable}
+use Rattle.board_core.specs.flat_state.specs.Events.{applied}
+use Rattle.board_core.specs.flat_state.specs.State.{FlatState}
 use Rattle.left_laws.proofs.EventsLeft.{completion_takes_one, events_bring}
 use Rattle.board_core.specs.Core.{IsSound, Recorded}
 use Rattle.board_core.specs.Going.{IsOneEvent}

@@ -1,7 +1,7 @@
 -- How much a run can still do, at most.
 use Rattle.std.specs.Prelude.{ℕ, ◌+◌, ◌-◌, ◌*◌, List, sum_by, if◌then◌else◌}
-use Rattle.flat_state.specs.declared.records.FlatThread.{FlatThread}
-use Rattle.flat_state.specs.State.{FlatState, is_trapped}
+use Rattle.board_core.specs.flat_state.specs.declared.records.FlatThread.{FlatThread}
+use Rattle.board_core.specs.flat_state.specs.State.{FlatState, is_trapped}
 use Rattle.board_core.specs.cached_machine.specs.Cached.{state_of}
 use Rattle.board_core.specs.Core.{Recorded}
 

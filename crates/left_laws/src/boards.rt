@@ -2,12 +2,12 @@
 
 ghost use Rattle.std.specs.Prelude.{◌≡◌, ◌+◌, ◌≤◌, ℕ, true, List, Some, slice_get};
 ghost use Rattle.cache_ident.specs.declared.names.ThreadNo.{ThreadNo};
-ghost use Rattle.flat_state.specs.declared.events.Event.TheVariants.{Complete};
-ghost use Rattle.flat_state.specs.declared.records.FlatThread.{FlatThread};
-ghost use Rattle.flat_state.specs.Call.{is_completable};
-ghost use Rattle.flat_state.specs.Events.{applied};
-ghost use Rattle.run_journal.specs.declared.entries.Entry.{Entry};
-ghost use Rattle.run_journal.specs.Entries.{steps_in};
+ghost use Rattle.board_core.specs.flat_state.specs.declared.events.Event.TheVariants.{Complete};
+ghost use Rattle.board_core.specs.flat_state.specs.declared.records.FlatThread.{FlatThread};
+ghost use Rattle.board_core.specs.flat_state.specs.Call.{is_completable};
+ghost use Rattle.board_core.specs.flat_state.specs.Events.{applied};
+ghost use Rattle.board_core.specs.run_journal.specs.declared.entries.Entry.{Entry};
+ghost use Rattle.board_core.specs.run_journal.specs.Entries.{steps_in};
 ghost use Rattle.board_core.specs.cached_machine.specs.Cached.{state_of};
 ghost use Rattle.board_core.specs.Core.{IsSound, Recorded};
 ghost use Rattle.board_core.specs.Going.{IsOneEvent};

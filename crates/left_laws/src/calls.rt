@@ -2,13 +2,13 @@
 
 ghost use Rattle.std.specs.Prelude.{◌≡◌, ◌≤◌, ◌+◌, true, List, Some, slice_get, count_by};
 ghost use Rattle.cache_ident.specs.declared.names.ThreadNo.{ThreadNo};
-ghost use Rattle.flat_state.specs.declared.events.Event.{Event};
-ghost use Rattle.flat_state.specs.declared.events.Event.TheVariants.{Complete};
-ghost use Rattle.flat_state.specs.declared.records.FlatThread.{FlatThread};
-ghost use Rattle.flat_state.specs.State.{FlatState};
-ghost use Rattle.flat_state.specs.Call.{is_completable};
-ghost use Rattle.flat_state.specs.Events.{applied, after_events};
-ghost use Rattle.run_journal.specs.Entries.{is_step};
+ghost use Rattle.board_core.specs.flat_state.specs.declared.events.Event.{Event};
+ghost use Rattle.board_core.specs.flat_state.specs.declared.events.Event.TheVariants.{Complete};
+ghost use Rattle.board_core.specs.flat_state.specs.declared.records.FlatThread.{FlatThread};
+ghost use Rattle.board_core.specs.flat_state.specs.State.{FlatState};
+ghost use Rattle.board_core.specs.flat_state.specs.Call.{is_completable};
+ghost use Rattle.board_core.specs.flat_state.specs.Events.{applied, after_events};
+ghost use Rattle.board_core.specs.run_journal.specs.Entries.{is_step};
 ghost use Rattle.left_laws.specs.Left.{calls_in};
 
 /// Events bring at most as many threads into a call as there are steps among them. This holds of every state.

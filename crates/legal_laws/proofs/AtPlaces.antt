@@ -2,9 +2,9 @@
 use Rattle.std.proofs.Common.{◌≡◌, ℕ, zero, suc, ◌<◌, List, [], ◌∷◌, ◌++◌, length, take, Some, slice_get, refl, ap, sym, ◌∙◌, subst, inl, inr, ◌⊎◌, append_assoc, arith}
 use Rattle.std.proofs.lemmas.List.{append-nil}
 use Rattle.std.proofs.lemmas.Option.{same_Some}
-use Rattle.run_journal.specs.declared.entries.Entry.{Entry}
-use Rattle.run_journal.specs.Legal.{AreLegal, IsLegal, MayCome}
-use Rattle.run_journal.specs.Told.{nothing_told, told, told_after, told_from, Told}
+use Rattle.group_laws.specs.run_journal.specs.declared.entries.Entry.{Entry}
+use Rattle.group_laws.specs.run_journal.specs.Legal.{AreLegal, IsLegal, MayCome}
+use Rattle.group_laws.specs.run_journal.specs.Told.{nothing_told, told, told_after, told_from, Told}
 
 module _ {X : Type 0} where
   pub get_last : (xs : List X) (x : X) → slice_get (xs ++ x ∷ []) (length xs) ≡ Some x

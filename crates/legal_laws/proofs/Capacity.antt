@@ -17,23 +17,23 @@ use Rattle.cache_ident.specs.declared.names.Name.{Name}
 use Rattle.cache_ident.specs.declared.names.ThreadNo.{ThreadNo}
 use Rattle.cache_ident.specs.Names.{amount_of}
 use Rattle.cache_ident.specs.Residents.{Resident, with_loaded, without, locked_if, with_lock}
-use Rattle.flat_state.specs.declared.events.Event.TheVariants.{Step, Complete}
-use Rattle.flat_state.specs.declared.events.Machine.{Machine}
-use Rattle.flat_state.specs.State.{FlatState}
-use Rattle.flat_state.specs.Declaration.{caps_of}
-use Rattle.flat_state.specs.Events.{after_events, applied, flat}
-use Rattle.flat_laws.proofs.Members.{contains_nothing, Contains-behind, Contains-here, Contains-from_map}
-use Rattle.run_journal.specs.declared.entries.Entry.{Entry}
-use Rattle.run_journal.specs.declared.entries.Entry.TheVariants.{Declared, Sealed, Loaded, WrittenBack, Locked, Unlocked, Ran, Ended, Completed}
-use Rattle.run_journal.specs.Entries.{erase}
-use Rattle.run_journal.specs.Legal.{cap_of, count_of, is_kind, AreLegal, IsLegal, MayCome, MayLoad}
-use Rattle.run_journal.specs.Told.{nothing_told, residents, told, told_after, told_from, Told}
-use Rattle.run_journal.proofs.Growth.{residents_told_from}
-use Rattle.run_journal.proofs.LegalGrowth.{state_told}
-use Rattle.run_journal.proofs.Others.{without_cases, locked_keeps}
-use Rattle.run_journal.proofs.Sound.{AreNumbered}
-use Rattle.run_journal.proofs.Whole.{nothing_whole, whole_after, IsWhole, HaveSlots}
-use Rattle.journal_laws.specs.Leaving.{AreApart}
+use Rattle.group_laws.specs.flat_state.specs.declared.events.Event.TheVariants.{Step, Complete}
+use Rattle.group_laws.specs.flat_state.specs.declared.events.Machine.{Machine}
+use Rattle.group_laws.specs.flat_state.specs.State.{FlatState}
+use Rattle.group_laws.specs.flat_state.specs.Declaration.{caps_of}
+use Rattle.group_laws.specs.flat_state.specs.Events.{after_events, applied, flat}
+use Rattle.group_laws.specs.flat_laws.proofs.Members.{contains_nothing, Contains-behind, Contains-here, Contains-from_map}
+use Rattle.group_laws.specs.run_journal.specs.declared.entries.Entry.{Entry}
+use Rattle.group_laws.specs.run_journal.specs.declared.entries.Entry.TheVariants.{Declared, Sealed, Loaded, WrittenBack, Locked, Unlocked, Ran, Ended, Completed}
+use Rattle.group_laws.specs.run_journal.specs.Entries.{erase}
+use Rattle.group_laws.specs.run_journal.specs.Legal.{cap_of, count_of, is_kind, AreLegal, IsLegal, MayCome, MayLoad}
+use Rattle.group_laws.specs.run_journal.specs.Told.{nothing_told, residents, told, told_after, told_from, Told}
+use Rattle.group_laws.specs.run_journal.proofs.Growth.{residents_told_from}
+use Rattle.group_laws.specs.run_journal.proofs.LegalGrowth.{state_told}
+use Rattle.group_laws.specs.run_journal.proofs.Others.{without_cases, locked_keeps}
+use Rattle.group_laws.specs.run_journal.proofs.Sound.{AreNumbered}
+use Rattle.group_laws.specs.run_journal.proofs.Whole.{nothing_whole, whole_after, IsWhole, HaveSlots}
+use Rattle.group_laws.specs.journal_laws.specs.Leaving.{AreApart}
 use Rattle.group_laws.proofs.Counting.{apart_behind, apart_first}
 use Rattle.group_laws.proofs.StayingOne.{apart_left, apart_loaded, apart_locked}
 use Rattle.legal_laws.proofs.Machines.{step_machine, completed_machine}

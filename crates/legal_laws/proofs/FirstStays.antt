@@ -9,14 +9,14 @@ use Rattle.cache_ident.specs.Names.{first_name}
 use Rattle.cache_ident.specs.Residents.{Resident, IsResident, locked_if, with_loaded, with_lock, without}
 use Rattle.cache_ident.specs.Rolls.{is_same}
 use Rattle.cache_ident.proofs.RollLemmas.{is_same-refl}
-use Rattle.flat_laws.proofs.Members.{Contains-map}
-use Rattle.run_journal.specs.declared.entries.Entry.{Entry}
-use Rattle.run_journal.specs.declared.entries.Entry.TheVariants.{Declared, Sealed, Loaded, WrittenBack, Locked, Unlocked, Ran, Ended, Completed}
-use Rattle.run_journal.specs.Legal.{first_ident, AreLegal, Comes, IsLegal, MayCome}
-use Rattle.run_journal.specs.Told.{due_after_load, nothing_told, residents, told, told_after, told_from, Due, Anything, FirstLoad, FirstLock, Told}
-use Rattle.run_journal.proofs.Growth.{residents_told_from}
-use Rattle.run_journal.proofs.Others.{differ, stays_without}
-use Rattle.run_journal.proofs.Whole.{nothing_whole, whole_after, IsWhole}
+use Rattle.group_laws.specs.flat_laws.proofs.Members.{Contains-map}
+use Rattle.group_laws.specs.run_journal.specs.declared.entries.Entry.{Entry}
+use Rattle.group_laws.specs.run_journal.specs.declared.entries.Entry.TheVariants.{Declared, Sealed, Loaded, WrittenBack, Locked, Unlocked, Ran, Ended, Completed}
+use Rattle.group_laws.specs.run_journal.specs.Legal.{first_ident, AreLegal, Comes, IsLegal, MayCome}
+use Rattle.group_laws.specs.run_journal.specs.Told.{due_after_load, nothing_told, residents, told, told_after, told_from, Due, Anything, FirstLoad, FirstLock, Told}
+use Rattle.group_laws.specs.run_journal.proofs.Growth.{residents_told_from}
+use Rattle.group_laws.specs.run_journal.proofs.Others.{differ, stays_without}
+use Rattle.group_laws.specs.run_journal.proofs.Whole.{nothing_whole, whole_after, IsWhole}
 
 abbrev first_locked : Resident
 first_locked = record { ident = first_ident; name = first_name; locked = true }

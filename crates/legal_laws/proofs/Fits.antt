@@ -4,17 +4,17 @@ use Rattle.std.specs.Prelude.{is_some, IsSome}
 use Rattle.std.proofs.lemmas.Option.{same_Some}
 use Rattle.cache_ident.specs.declared.names.ThreadNo.{ThreadNo}
 use Rattle.cache_ident.specs.Residents.{Resident}
-use Rattle.flat_state.specs.declared.events.Event.{Event}
-use Rattle.flat_state.specs.declared.events.Event.TheVariants.{Step}
-use Rattle.flat_state.specs.State.{FlatState, nothing_declared}
-use Rattle.flat_state.specs.Events.{declared_unless, after_event, after_events, applied}
-use Rattle.run_journal.specs.declared.entries.Entry.{Entry}
-use Rattle.run_journal.specs.declared.entries.Entry.TheVariants.{Declared, Sealed, Loaded, WrittenBack, Locked, Unlocked, Ran, Ended, Completed}
-use Rattle.run_journal.specs.Entries.{events_of, erase}
-use Rattle.run_journal.specs.Legal.{after_steps, AreLegal, IsLegal, MayCome, MayStep}
-use Rattle.run_journal.specs.Told.{Told, nothing_told, told_after}
-use Rattle.run_journal.proofs.Growth.{state_after}
-use Rattle.run_journal.proofs.Stepping.{step_fits}
+use Rattle.group_laws.specs.flat_state.specs.declared.events.Event.{Event}
+use Rattle.group_laws.specs.flat_state.specs.declared.events.Event.TheVariants.{Step}
+use Rattle.group_laws.specs.flat_state.specs.State.{FlatState, nothing_declared}
+use Rattle.group_laws.specs.flat_state.specs.Events.{declared_unless, after_event, after_events, applied}
+use Rattle.group_laws.specs.run_journal.specs.declared.entries.Entry.{Entry}
+use Rattle.group_laws.specs.run_journal.specs.declared.entries.Entry.TheVariants.{Declared, Sealed, Loaded, WrittenBack, Locked, Unlocked, Ran, Ended, Completed}
+use Rattle.group_laws.specs.run_journal.specs.Entries.{events_of, erase}
+use Rattle.group_laws.specs.run_journal.specs.Legal.{after_steps, AreLegal, IsLegal, MayCome, MayStep}
+use Rattle.group_laws.specs.run_journal.specs.Told.{Told, nothing_told, told_after}
+use Rattle.group_laws.specs.run_journal.proofs.Growth.{state_after}
+use Rattle.group_laws.specs.run_journal.proofs.Stepping.{step_fits}
 use Rattle.legal_laws.specs.Fitting.{EachFits}
 
 -- ---- one after another

@@ -9,11 +9,11 @@ use Rattle.cache_ident.specs.declared.idents.Ident.{Ident}
 use Rattle.cache_ident.specs.declared.idents.Kind.{Kind}
 use Rattle.cache_ident.specs.declared.names.Name.{Name}
 use Rattle.cache_ident.specs.Residents.{Resident}
-use Rattle.run_journal.specs.declared.entries.Entry.{Entry}
-use Rattle.run_journal.specs.declared.entries.Entry.TheVariants.{Declared, Sealed, Loaded, WrittenBack, Locked, Unlocked, Ran, Ended, Completed}
-use Rattle.run_journal.specs.Told.{due_after_load, is_load, nothing_told, residents, told, told_after, told_from, Due, Opening, Anything, FirstLoad, FirstLock, Departure, Load, Told}
-use Rattle.run_journal.proofs.Growth.{residents_told_from, told_from-append}
-use Rattle.run_journal.proofs.LegalGrowth.{loads_told}
+use Rattle.group_laws.specs.run_journal.specs.declared.entries.Entry.{Entry}
+use Rattle.group_laws.specs.run_journal.specs.declared.entries.Entry.TheVariants.{Declared, Sealed, Loaded, WrittenBack, Locked, Unlocked, Ran, Ended, Completed}
+use Rattle.group_laws.specs.run_journal.specs.Told.{due_after_load, is_load, nothing_told, residents, told, told_after, told_from, Due, Opening, Anything, FirstLoad, FirstLock, Departure, Load, Told}
+use Rattle.group_laws.specs.run_journal.proofs.Growth.{residents_told_from, told_from-append}
+use Rattle.group_laws.specs.run_journal.proofs.LegalGrowth.{loads_told}
 use Rattle.legal_laws.specs.Last.{dependents, AreLeaving, EndsWith, IsNext, Wants}
 use Rattle.legal_laws.proofs.AtPlaces.{by_last, ends}
 

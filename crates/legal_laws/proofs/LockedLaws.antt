@@ -10,14 +10,14 @@ use Rattle.cache_ident.specs.declared.names.Name.{Name}
 use Rattle.cache_ident.specs.Residents.{Resident, IsIdentResident, locked_if, with_lock}
 use Rattle.cache_ident.specs.Rolls.{is_same}
 use Rattle.cache_ident.proofs.RollLemmas.{is_same-refl, same_ident}
-use Rattle.flat_state.proofs.Places.{get-append, push_cases}
-use Rattle.flat_laws.proofs.Members.{contains_nothing, Contains-from_map, Contains-map}
-use Rattle.run_journal.specs.declared.entries.Entry.{Entry}
-use Rattle.run_journal.specs.declared.entries.Entry.TheVariants.{Declared, Sealed, Loaded, WrittenBack, Locked, Unlocked, Ran, Ended, Completed}
-use Rattle.run_journal.specs.Legal.{AreLegal, IsLegal, MayCome}
-use Rattle.run_journal.specs.Told.{nothing_told, residents, residents_after, told, told_from, Told}
-use Rattle.run_journal.proofs.Growth.{legal-split, residents_from-append, residents_told_from}
-use Rattle.run_journal.proofs.Others.{differ, locked_keeps, stays_without, without_cases}
+use Rattle.group_laws.specs.flat_state.proofs.Places.{get-append, push_cases}
+use Rattle.group_laws.specs.flat_laws.proofs.Members.{contains_nothing, Contains-from_map, Contains-map}
+use Rattle.group_laws.specs.run_journal.specs.declared.entries.Entry.{Entry}
+use Rattle.group_laws.specs.run_journal.specs.declared.entries.Entry.TheVariants.{Declared, Sealed, Loaded, WrittenBack, Locked, Unlocked, Ran, Ended, Completed}
+use Rattle.group_laws.specs.run_journal.specs.Legal.{AreLegal, IsLegal, MayCome}
+use Rattle.group_laws.specs.run_journal.specs.Told.{nothing_told, residents, residents_after, told, told_from, Told}
+use Rattle.group_laws.specs.run_journal.proofs.Growth.{legal-split, residents_from-append, residents_told_from}
+use Rattle.group_laws.specs.run_journal.proofs.Others.{differ, locked_keeps, stays_without, without_cases}
 use Rattle.legal_laws.specs.Places.{IsDepartureAt, IsIdentLocked, IsUnlockAt, StaysLocked}
 use Rattle.legal_laws.proofs.AtPlaces.{by_last, get_last}
 use Rattle.legal_laws.proofs.Residence.{departs_before, departs_last, departs_later, none_behind, Departs}

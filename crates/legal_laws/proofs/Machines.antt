@@ -2,23 +2,23 @@
 use Rattle.std.proofs.Common.{◌≡◌, ℕ, Bool, true, false, Option, Some, None, slice_get, refl}
 use Rattle.std.specs.Prelude.{if◌then◌else◌, unwrap_or, is_some, length}
 use Rattle.cache_ident.specs.declared.names.ThreadNo.{ThreadNo}
-use Rattle.rv32_exec.specs.declared.steps.Stepped.{Stepped}
-use Rattle.rv32_exec.specs.declared.steps.Stepped.TheVariants.{Next, Call, Stop, Miss}
-use Rattle.rv32_exec.specs.Steps.{After}
-use Rattle.fault_forward.specs.declared.effects.Effect.{Effect}
-use Rattle.fault_forward.specs.declared.effects.Effect.TheVariants as effects
-use Rattle.fault_forward.specs.Calls.{Completion, completion_of}
-use Rattle.flat_state.specs.declared.events.Event.TheVariants.{Step, Complete}
-use Rattle.flat_state.specs.declared.events.Machine.{Machine}
-use Rattle.flat_state.specs.declared.events.Decl.{Decl}
-use Rattle.flat_state.specs.declared.records.FlatThread.{FlatThread}
-use Rattle.flat_state.specs.State.{FlatState, with_thread}
+use Rattle.group_laws.specs.rv32_exec.specs.declared.steps.Stepped.{Stepped}
+use Rattle.group_laws.specs.rv32_exec.specs.declared.steps.Stepped.TheVariants.{Next, Call, Stop, Miss}
+use Rattle.group_laws.specs.rv32_exec.specs.Steps.{After}
+use Rattle.group_laws.specs.fault_forward.specs.declared.effects.Effect.{Effect}
+use Rattle.group_laws.specs.fault_forward.specs.declared.effects.Effect.TheVariants as effects
+use Rattle.group_laws.specs.fault_forward.specs.Calls.{Completion, completion_of}
+use Rattle.group_laws.specs.flat_state.specs.declared.events.Event.TheVariants.{Step, Complete}
+use Rattle.group_laws.specs.flat_state.specs.declared.events.Machine.{Machine}
+use Rattle.group_laws.specs.flat_state.specs.declared.events.Decl.{Decl}
+use Rattle.group_laws.specs.flat_state.specs.declared.records.FlatThread.{FlatThread}
+use Rattle.group_laws.specs.flat_state.specs.State.{FlatState, with_thread}
 use Rattle.phys_groups.specs.Translation.{row_of, without}
-use Rattle.flat_state.specs.Declaration.{broken_rule, declared}
-use Rattle.flat_state.specs.Signals.{is_runnable}
-use Rattle.flat_state.specs.Step.{outcome, stepped_so, step_if, step_of, after_step}
-use Rattle.flat_state.specs.Call.{answered, complete_if, completed_so, completion_for, granted, granting, is_completable, is_first, made, mapped, mapping, refusal, rule_of_granting, rule_of_mapping, spawned, spawning, unmapped, after_completion}
-use Rattle.flat_state.specs.Events.{applied}
+use Rattle.group_laws.specs.flat_state.specs.Declaration.{broken_rule, declared}
+use Rattle.group_laws.specs.flat_state.specs.Signals.{is_runnable}
+use Rattle.group_laws.specs.flat_state.specs.Step.{outcome, stepped_so, step_if, step_of, after_step}
+use Rattle.group_laws.specs.flat_state.specs.Call.{answered, complete_if, completed_so, completion_for, granted, granting, is_completable, is_first, made, mapped, mapping, refusal, rule_of_granting, rule_of_mapping, spawned, spawning, unmapped, after_completion}
+use Rattle.group_laws.specs.flat_state.specs.Events.{applied}
 
 -- which machine it is
 abbrev Same : FlatState → FlatState → Type 0

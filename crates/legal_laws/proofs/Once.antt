@@ -11,14 +11,14 @@ use Rattle.cache_ident.specs.declared.idents.Standing.{Standing}
 use Rattle.cache_ident.specs.declared.idents.Standing.TheVariants.{Live, Left, Never}
 use Rattle.cache_ident.specs.declared.names.Name.{Name}
 use Rattle.cache_ident.specs.Residents.{Resident, IsIdentResident, IsResident, locked_if, without}
-use Rattle.flat_state.proofs.Places.{count_by-cons, Contains-from_get}
-use Rattle.run_journal.specs.declared.entries.Entry.{Entry}
-use Rattle.run_journal.specs.declared.entries.Entry.TheVariants.{Declared, Sealed, Loaded, WrittenBack, Locked, Unlocked, Ran, Ended, Completed}
-use Rattle.run_journal.specs.Legal.{AreLegal, IsLegal, MayCome}
-use Rattle.run_journal.specs.Standing.{StandsAs}
-use Rattle.run_journal.specs.Told.{is_load, nothing_told, residents, told, told_after, told_from, Told}
-use Rattle.run_journal.proofs.Growth.{residents_told_from}
-use Rattle.run_journal.proofs.LegalGrowth.{loads_told}
+use Rattle.group_laws.specs.flat_state.proofs.Places.{count_by-cons, Contains-from_get}
+use Rattle.group_laws.specs.run_journal.specs.declared.entries.Entry.{Entry}
+use Rattle.group_laws.specs.run_journal.specs.declared.entries.Entry.TheVariants.{Declared, Sealed, Loaded, WrittenBack, Locked, Unlocked, Ran, Ended, Completed}
+use Rattle.group_laws.specs.run_journal.specs.Legal.{AreLegal, IsLegal, MayCome}
+use Rattle.group_laws.specs.run_journal.specs.Standing.{StandsAs}
+use Rattle.group_laws.specs.run_journal.specs.Told.{is_load, nothing_told, residents, told, told_after, told_from, Told}
+use Rattle.group_laws.specs.run_journal.proofs.Growth.{residents_told_from}
+use Rattle.group_laws.specs.run_journal.proofs.LegalGrowth.{loads_told}
 use Rattle.group_laws.proofs.Counting.{count-without}
 use Rattle.legal_laws.specs.Places.{is_departure, IsDepartureAt, IsLoadAt, StaysLoaded}
 use Rattle.legal_laws.proofs.AtPlaces.{get_from_take, get_in_take, may_come_at}

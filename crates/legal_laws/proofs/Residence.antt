@@ -7,13 +7,13 @@ use Rattle.cache_ident.specs.declared.idents.Cause.{Cause}
 use Rattle.cache_ident.specs.declared.idents.Ident.{Ident}
 use Rattle.cache_ident.specs.declared.names.Name.{Name}
 use Rattle.cache_ident.specs.Residents.{Resident, IsResident, locked_if, with_lock}
-use Rattle.flat_state.proofs.Places.{get-append, push_cases}
-use Rattle.flat_laws.proofs.Members.{contains_nothing, Contains-from_map, Contains-map}
-use Rattle.run_journal.specs.declared.entries.Entry.{Entry}
-use Rattle.run_journal.specs.declared.entries.Entry.TheVariants.{Declared, Sealed, Loaded, WrittenBack, Locked, Unlocked, Ran, Ended, Completed}
-use Rattle.run_journal.specs.Told.{residents, residents_after}
-use Rattle.run_journal.proofs.Growth.{residents_from-append}
-use Rattle.run_journal.proofs.Others.{locked_keeps, stays_without, without_cases}
+use Rattle.group_laws.specs.flat_state.proofs.Places.{get-append, push_cases}
+use Rattle.group_laws.specs.flat_laws.proofs.Members.{contains_nothing, Contains-from_map, Contains-map}
+use Rattle.group_laws.specs.run_journal.specs.declared.entries.Entry.{Entry}
+use Rattle.group_laws.specs.run_journal.specs.declared.entries.Entry.TheVariants.{Declared, Sealed, Loaded, WrittenBack, Locked, Unlocked, Ran, Ended, Completed}
+use Rattle.group_laws.specs.run_journal.specs.Told.{residents, residents_after}
+use Rattle.group_laws.specs.run_journal.proofs.Growth.{residents_from-append}
+use Rattle.group_laws.specs.run_journal.proofs.Others.{locked_keeps, stays_without, without_cases}
 use Rattle.legal_laws.specs.Places.{IsDepartureAt, IsLoadAt, StaysLoaded}
 use Rattle.legal_laws.proofs.AtPlaces.{by_last, get_last}
 

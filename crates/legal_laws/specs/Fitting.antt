@@ -1,7 +1,7 @@
 -- When each event of a list fits where it stands.
 use Rattle.std.specs.Prelude.{◌≡◌, ℕ, List, take, Some, IsSome, slice_get}
-use Rattle.flat_state.specs.declared.events.Event.{Event}
-use Rattle.flat_state.specs.Events.{after_event, flat}
+use Rattle.group_laws.specs.flat_state.specs.declared.events.Event.{Event}
+use Rattle.group_laws.specs.flat_state.specs.Events.{after_event, flat}
 
 -- the event at each place fits the state that the events before it make
 abbrev pub EachFits : List Event → Type 0

@@ -4,9 +4,9 @@ use Rattle.cache_ident.specs.declared.idents.Cause.TheVariants.{Dependent, Displ
 use Rattle.cache_ident.specs.declared.idents.Ident.{Ident}
 use Rattle.cache_ident.specs.declared.names.Name.{Name}
 use Rattle.cache_ident.specs.Residents.{Resident}
-use Rattle.run_journal.specs.declared.entries.Entry.{Entry}
-use Rattle.run_journal.specs.declared.entries.Entry.TheVariants.{Sealed, Loaded, WrittenBack}
-use Rattle.run_journal.specs.Told.{is_load, residents, Due, Opening, Anything, FirstLoad, FirstLock, Departure, Load}
+use Rattle.group_laws.specs.run_journal.specs.declared.entries.Entry.{Entry}
+use Rattle.group_laws.specs.run_journal.specs.declared.entries.Entry.TheVariants.{Sealed, Loaded, WrittenBack}
+use Rattle.group_laws.specs.run_journal.specs.Told.{is_load, residents, Due, Opening, Anything, FirstLoad, FirstLock, Departure, Load}
 
 abbrev pub EndsWith : List Entry → Entry → Type 0
 EndsWith j e = (earlier : List Entry) × (j ≡ earlier ++ e ∷ [])

@@ -4,8 +4,8 @@ use Rattle.cache_ident.specs.declared.idents.Cause.{Cause}
 use Rattle.cache_ident.specs.declared.idents.Ident.{Ident}
 use Rattle.cache_ident.specs.declared.names.Name.{Name}
 use Rattle.cache_ident.specs.Residents.{Resident}
-use Rattle.run_journal.specs.declared.entries.Entry.{Entry}
-use Rattle.run_journal.specs.declared.entries.Entry.TheVariants.{Loaded, WrittenBack, Locked, Unlocked}
+use Rattle.group_laws.specs.run_journal.specs.declared.entries.Entry.{Entry}
+use Rattle.group_laws.specs.run_journal.specs.declared.entries.Entry.TheVariants.{Loaded, WrittenBack, Locked, Unlocked}
 
 -- ---- what the entry at a place does
 

@@ -4,11 +4,11 @@ ghost use Rattle.std.specs.Prelude.{◌≡◌, ◌<◌, ◌≤◌, true, List, C
 ghost use Rattle.cache_ident.specs.declared.idents.Kind.{Kind};
 ghost use Rattle.cache_ident.specs.Names.{first_name};
 ghost use Rattle.cache_ident.specs.Residents.{Resident, IsResident};
-ghost use Rattle.flat_state.specs.Events.{flat};
-ghost use Rattle.run_journal.specs.declared.entries.Entry.{Entry};
-ghost use Rattle.run_journal.specs.Entries.{erase};
-ghost use Rattle.run_journal.specs.Legal.{cap_of, count_of, first_ident, IsLegal};
-ghost use Rattle.run_journal.specs.Told.{residents, told};
+ghost use Rattle.group_laws.specs.flat_state.specs.Events.{flat};
+ghost use Rattle.group_laws.specs.run_journal.specs.declared.entries.Entry.{Entry};
+ghost use Rattle.group_laws.specs.run_journal.specs.Entries.{erase};
+ghost use Rattle.group_laws.specs.run_journal.specs.Legal.{cap_of, count_of, first_ident, IsLegal};
+ghost use Rattle.group_laws.specs.run_journal.specs.Told.{residents, told};
 
 /// After a legal journal each resident has a slot below the capacity of its kind, and of each kind no more are resident than its
 /// capacity.

@@ -1,10 +1,10 @@
 //! What stands at each place of a legal journal, and what is left of it once erased.
 
 ghost use Rattle.std.specs.Prelude.{◌≡◌, ℕ, List, Some, slice_get, take};
-ghost use Rattle.run_journal.specs.declared.entries.Entry.{Entry};
-ghost use Rattle.run_journal.specs.Entries.{erase};
-ghost use Rattle.run_journal.specs.Legal.{IsLegal, MayCome};
-ghost use Rattle.run_journal.specs.Told.{told};
+ghost use Rattle.group_laws.specs.run_journal.specs.declared.entries.Entry.{Entry};
+ghost use Rattle.group_laws.specs.run_journal.specs.Entries.{erase};
+ghost use Rattle.group_laws.specs.run_journal.specs.Legal.{IsLegal, MayCome};
+ghost use Rattle.group_laws.specs.run_journal.specs.Told.{told};
 ghost use Rattle.legal_laws.specs.Fitting.{EachFits};
 
 /// Each event of a legal journal, erased, fits the machine with unlimited tables that the events before it make: each

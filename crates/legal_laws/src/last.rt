@@ -1,8 +1,8 @@
 //! What has to come, and what is leaving.
 
 ghost use Rattle.std.specs.Prelude.{◌≡◌, ◌↔◌, List};
-ghost use Rattle.run_journal.specs.declared.entries.Entry.{Entry};
-ghost use Rattle.run_journal.specs.Told.{told, Due};
+ghost use Rattle.group_laws.specs.run_journal.specs.declared.entries.Entry.{Entry};
+ghost use Rattle.group_laws.specs.run_journal.specs.Told.{told, Due};
 ghost use Rattle.legal_laws.specs.Last.{AreLeaving, IsNext};
 
 /// What has to come next is said by the last entry, and for the first lock by whether it is the first load. What has left of a

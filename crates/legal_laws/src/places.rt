@@ -5,10 +5,10 @@ ghost use Rattle.cache_ident.specs.declared.idents.Ident.{Ident};
 ghost use Rattle.cache_ident.specs.declared.idents.Standing.{Standing};
 ghost use Rattle.cache_ident.specs.declared.names.Name.{Name};
 ghost use Rattle.cache_ident.specs.Residents.{IsResident};
-ghost use Rattle.run_journal.specs.declared.entries.Entry.{Entry};
-ghost use Rattle.run_journal.specs.Legal.{IsLegal};
-ghost use Rattle.run_journal.specs.Standing.{StandsAs};
-ghost use Rattle.run_journal.specs.Told.{is_load, residents};
+ghost use Rattle.group_laws.specs.run_journal.specs.declared.entries.Entry.{Entry};
+ghost use Rattle.group_laws.specs.run_journal.specs.Legal.{IsLegal};
+ghost use Rattle.group_laws.specs.run_journal.specs.Standing.{StandsAs};
+ghost use Rattle.group_laws.specs.run_journal.specs.Told.{is_load, residents};
 ghost use Rattle.legal_laws.specs.Places.{is_departure, IsDepartureAt, IsIdentLocked, IsLoadAt, StaysLoaded, StaysLocked};
 
 /// A name is resident under an identifier exactly where an entry loaded it so and no later entry is the identifier's departure.

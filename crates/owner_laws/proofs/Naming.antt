@@ -5,20 +5,20 @@ use Rattle.std.proofs.lemmas.List.Elements.{Contains-append_right, Contains-push
 use Rattle.cache_ident.specs.declared.idents.Ident.{Ident}
 use Rattle.cache_ident.specs.declared.names.Name.{Name}
 use Rattle.cache_ident.specs.Residents.{Resident, IsResident}
-use Rattle.flat_state.proofs.Places.{Contains-from_get, get_from_Contains}
-use Rattle.run_journal.specs.declared.entries.Entry.{Entry}
-use Rattle.run_journal.specs.declared.entries.Entry.TheVariants.{Loaded}
-use Rattle.run_journal.specs.Legal.{IsLegal}
-use Rattle.run_journal.specs.Told.{nothing_told, residents}
-use Rattle.run_journal.proofs.Growth.{residents_told_from}
+use Rattle.legal_laws.specs.flat_state.proofs.Places.{Contains-from_get, get_from_Contains}
+use Rattle.legal_laws.specs.run_journal.specs.declared.entries.Entry.{Entry}
+use Rattle.legal_laws.specs.run_journal.specs.declared.entries.Entry.TheVariants.{Loaded}
+use Rattle.legal_laws.specs.run_journal.specs.Legal.{IsLegal}
+use Rattle.legal_laws.specs.run_journal.specs.Told.{nothing_told, residents}
+use Rattle.legal_laws.specs.run_journal.proofs.Growth.{residents_told_from}
 use Rattle.legal_laws.specs.Places.{StaysLoaded}
 use Rattle.legal_laws.proofs.Once.{loaded_once}
 use Rattle.legal_laws.proofs.Residence.{residence}
-use Rattle.board_core.specs.desc_stores.specs.Contents.{residents_of}
-use Rattle.board_core.specs.board_laws.specs.Moves.{written_back}
-use Rattle.board_core.specs.Core.{contents_of, IsSound, Recorded}
-use Rattle.board_core.specs.Going.{Grew}
-use Rattle.board_loads.specs.Loads.{IsLoadedAs}
+use Rattle.answer_laws.specs.desc_stores.specs.Contents.{residents_of}
+use Rattle.answer_laws.specs.board_laws.specs.Moves.{written_back}
+use Rattle.answer_laws.specs.board_core.specs.Core.{contents_of, IsSound, Recorded}
+use Rattle.answer_laws.specs.board_core.specs.Going.{Grew}
+use Rattle.answer_laws.specs.board_loads.specs.Loads.{IsLoadedAs}
 use Rattle.owners.specs.Known.{ident_of, Known}
 use Rattle.owners.specs.Owning.{AreOwnersOf, WasLoadedAs}
 use Rattle.owners.proofs.Learning.{still_owners}

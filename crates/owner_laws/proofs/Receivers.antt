@@ -14,23 +14,23 @@ use Rattle.cache_ident.specs.declared.names.ThreadNo.{ThreadNo}
 use Rattle.cache_ident.specs.declared.names.Vpn.{Vpn}
 use Rattle.phys_groups.specs.declared.rows.Row.{Row}
 use Rattle.phys_groups.specs.Translation.{is_row_of, row_of}
-use Rattle.flat_state.specs.declared.records.FlatThread.{FlatThread}
-use Rattle.flat_state.specs.Declaration.{is_receiver_in, thread_is_in}
-use Rattle.flat_state.specs.Dependence.{signal_rows_of}
-use Rattle.flat_state.specs.Events.{flat}
-use Rattle.flat_state.specs.Translation.{is_fit_row}
-use Rattle.flat_state.specs.State.{FlatState}
-use Rattle.flat_state.proofs.Finding.{find-contains, find-passes}
-use Rattle.flat_state.proofs.FormedEvents.{flat_formed}
-use Rattle.run_journal.specs.Entries.{erase}
-use Rattle.board_core.specs.desc_stores.specs.Contents.{residents_of, Contents}
-use Rattle.board_core.specs.desc_parents.specs.Idents as idents
-use Rattle.board_core.specs.desc_parents.specs.Seen.{seen}
-use Rattle.board_core.specs.board_ops.specs.declared.refusals.Refused.{Refused}
-use Rattle.board_core.specs.board_ops.specs.declared.refusals.Refused.TheVariants as why
-use Rattle.board_core.specs.Core.{contents_of, IsSound, Recorded}
-use Rattle.board_checks.specs.Identifiers.{receiver_as}
-use Rattle.board_checks.specs.Refusals.{already_loaded, beyond_rights, is_absent, receivers_absent, refusal_in_space, refusal_of_load_mapping, refusal_of_row, wrong_receiver}
+use Rattle.legal_laws.specs.flat_state.specs.declared.records.FlatThread.{FlatThread}
+use Rattle.legal_laws.specs.flat_state.specs.Declaration.{is_receiver_in, thread_is_in}
+use Rattle.legal_laws.specs.flat_state.specs.Dependence.{signal_rows_of}
+use Rattle.legal_laws.specs.flat_state.specs.Events.{flat}
+use Rattle.legal_laws.specs.flat_state.specs.Translation.{is_fit_row}
+use Rattle.legal_laws.specs.flat_state.specs.State.{FlatState}
+use Rattle.legal_laws.specs.flat_state.proofs.Finding.{find-contains, find-passes}
+use Rattle.legal_laws.specs.flat_state.proofs.FormedEvents.{flat_formed}
+use Rattle.legal_laws.specs.run_journal.specs.Entries.{erase}
+use Rattle.answer_laws.specs.desc_stores.specs.Contents.{residents_of, Contents}
+use Rattle.answer_laws.specs.desc_parents.specs.Idents as idents
+use Rattle.answer_laws.specs.desc_parents.specs.Seen.{seen}
+use Rattle.answer_laws.specs.board_ops.specs.declared.refusals.Refused.{Refused}
+use Rattle.answer_laws.specs.board_ops.specs.declared.refusals.Refused.TheVariants as why
+use Rattle.answer_laws.specs.board_core.specs.Core.{contents_of, IsSound, Recorded}
+use Rattle.answer_laws.specs.board_checks.specs.Identifiers.{receiver_as}
+use Rattle.answer_laws.specs.board_checks.specs.Refusals.{already_loaded, beyond_rights, is_absent, receivers_absent, refusal_in_space, refusal_of_load_mapping, refusal_of_row, wrong_receiver}
 use Rattle.owners.specs.Known.{ident_of, Known}
 use Rattle.owners.specs.Owning.{AreOwnersOf, IsThreadOf}
 use Rattle.owner_laws.specs.Passing.{thread_named}

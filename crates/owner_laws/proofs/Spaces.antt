@@ -13,21 +13,21 @@ use Rattle.cache_ident.specs.declared.names.Name.TheVariants as name
 use Rattle.cache_ident.specs.declared.names.SpaceNo.{SpaceNo}
 use Rattle.cache_ident.specs.declared.names.ThreadNo.{ThreadNo}
 use Rattle.cache_ident.specs.Rolls.{standing_in}
-use Rattle.flat_state.specs.declared.records.FlatThread.{FlatThread}
-use Rattle.flat_state.specs.Events.{flat}
-use Rattle.flat_state.specs.Names.{stands}
-use Rattle.flat_state.specs.State.{FlatState}
-use Rattle.run_journal.specs.Entries.{erase}
-use Rattle.run_journal.proofs.LegalGrowth.{state_told}
-use Rattle.board_core.specs.desc_stores.specs.Contents.{Contents}
-use Rattle.board_core.specs.desc_stores.specs.Sound.{IsExactlyOne}
-use Rattle.board_core.specs.desc_parents.specs.Seen.{seen}
-use Rattle.board_core.specs.shown_state.specs.Shown.{shown}
-use Rattle.board_core.specs.store_residents.proofs.ResidentLemmas.{live_iff}
-use Rattle.board_core.specs.board_ops.specs.declared.refusals.Refused.TheVariants as why
-use Rattle.board_core.specs.Core.{contents_of, IsSound, Recorded}
-use Rattle.board_checks.specs.Identifiers.{gone_by, not_a, not_live, space_as, wrong_kind}
-use Rattle.board_checks.specs.Refusals.{not_declared, refusal_of_load_thread, wrong_parent, wrong_space}
+use Rattle.legal_laws.specs.flat_state.specs.declared.records.FlatThread.{FlatThread}
+use Rattle.legal_laws.specs.flat_state.specs.Events.{flat}
+use Rattle.legal_laws.specs.flat_state.specs.Names.{stands}
+use Rattle.legal_laws.specs.flat_state.specs.State.{FlatState}
+use Rattle.legal_laws.specs.run_journal.specs.Entries.{erase}
+use Rattle.legal_laws.specs.run_journal.proofs.LegalGrowth.{state_told}
+use Rattle.answer_laws.specs.desc_stores.specs.Contents.{Contents}
+use Rattle.answer_laws.specs.desc_stores.specs.Sound.{IsExactlyOne}
+use Rattle.answer_laws.specs.desc_parents.specs.Seen.{seen}
+use Rattle.answer_laws.specs.shown_state.specs.Shown.{shown}
+use Rattle.answer_laws.specs.store_residents.proofs.ResidentLemmas.{live_iff}
+use Rattle.answer_laws.specs.board_ops.specs.declared.refusals.Refused.TheVariants as why
+use Rattle.answer_laws.specs.board_core.specs.Core.{contents_of, IsSound, Recorded}
+use Rattle.answer_laws.specs.board_checks.specs.Identifiers.{gone_by, not_a, not_live, space_as, wrong_kind}
+use Rattle.answer_laws.specs.board_checks.specs.Refusals.{not_declared, refusal_of_load_thread, wrong_parent, wrong_space}
 use Rattle.answer_laws.proofs.Passing.{space_given}
 use Rattle.owners.specs.Known.{ident_of, Known}
 use Rattle.owners.specs.Owning.{AreOwnersOf, IsThreadOf}

@@ -11,15 +11,15 @@ use Rattle.cache_ident.specs.declared.idents.Standing.TheVariants.{Left, Live, N
 use Rattle.cache_ident.specs.declared.names.KernelNo.{KernelNo}
 use Rattle.cache_ident.specs.declared.names.Name.{Name}
 use Rattle.cache_ident.specs.Rolls.{standing_in}
-use Rattle.flat_state.specs.Dependence.{owner}
-use Rattle.flat_state.specs.Names.{stands}
-use Rattle.run_journal.specs.Legal.{is_kind}
-use Rattle.board_core.specs.desc_stores.specs.Contents.{Contents}
-use Rattle.board_core.specs.desc_parents.specs.Seen.{seen}
-use Rattle.board_core.specs.board_ops.specs.declared.refusals.Refused.{Refused}
-use Rattle.board_core.specs.board_ops.specs.declared.refusals.Refused.TheVariants as why
-use Rattle.board_checks.specs.Identifiers.{gone_by, kernel_as, not_a, not_a_receiver, not_live, wrong_kind}
-use Rattle.board_checks.specs.Refusals.{not_declared, not_owned, not_owner}
+use Rattle.legal_laws.specs.flat_state.specs.Dependence.{owner}
+use Rattle.legal_laws.specs.flat_state.specs.Names.{stands}
+use Rattle.legal_laws.specs.run_journal.specs.Legal.{is_kind}
+use Rattle.answer_laws.specs.desc_stores.specs.Contents.{Contents}
+use Rattle.answer_laws.specs.desc_parents.specs.Seen.{seen}
+use Rattle.answer_laws.specs.board_ops.specs.declared.refusals.Refused.{Refused}
+use Rattle.answer_laws.specs.board_ops.specs.declared.refusals.Refused.TheVariants as why
+use Rattle.answer_laws.specs.board_checks.specs.Identifiers.{gone_by, kernel_as, not_a, not_a_receiver, not_live, wrong_kind}
+use Rattle.answer_laws.specs.board_checks.specs.Refusals.{not_declared, not_owned, not_owner}
 
 -- a test that passes holds
 pub holds : (t : Bool) (x : Refused) → (if t then None else Some x) ≡ None → t ≡ true

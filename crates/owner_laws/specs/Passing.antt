@@ -4,8 +4,8 @@ use Rattle.cache_ident.specs.declared.idents.Ident.{Ident}
 use Rattle.cache_ident.specs.declared.names.Name.{Name}
 use Rattle.cache_ident.specs.declared.names.Name.TheVariants.{Thread}
 use Rattle.cache_ident.specs.declared.names.ThreadNo.{ThreadNo}
-use Rattle.board_core.specs.board_ops.specs.declared.refusals.Refused.{Refused}
-use Rattle.board_core.specs.board_ops.specs.declared.refusals.Refused.TheVariants.{AlreadyLoaded}
+use Rattle.answer_laws.specs.board_ops.specs.declared.refusals.Refused.{Refused}
+use Rattle.answer_laws.specs.board_ops.specs.declared.refusals.Refused.TheVariants.{AlreadyLoaded}
 
 -- a load isn't refused, or because what it asks for is loaded
 abbrev pub Passes : Option Refused → Type 0

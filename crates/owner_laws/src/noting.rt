@@ -4,10 +4,10 @@ ghost use Rattle.std.specs.Prelude.{◌≡◌, ℕ, Some};
 ghost use Rattle.cache_ident.specs.declared.idents.Ident.{Ident};
 ghost use Rattle.cache_ident.specs.declared.names.Name.{Name};
 ghost use Rattle.cache_ident.specs.Residents.{IsResident};
-ghost use Rattle.board_core.specs.desc_stores.specs.Contents.{residents_of};
-ghost use Rattle.board_core.specs.Core.{contents_of, IsSound, Recorded};
-ghost use Rattle.board_core.specs.Going.{Grew};
-ghost use Rattle.board_loads.specs.Loads.{IsLoadedAs};
+ghost use Rattle.answer_laws.specs.desc_stores.specs.Contents.{residents_of};
+ghost use Rattle.answer_laws.specs.board_core.specs.Core.{contents_of, IsSound, Recorded};
+ghost use Rattle.answer_laws.specs.board_core.specs.Going.{Grew};
+ghost use Rattle.answer_laws.specs.board_loads.specs.Loads.{IsLoadedAs};
 ghost use Rattle.owners.specs.Known.{ident_of, Known};
 ghost use Rattle.owners.specs.Owning.{AreOwnersOf, WasLoadedAs};
 

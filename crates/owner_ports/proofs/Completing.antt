@@ -7,21 +7,21 @@ use Rattle.cache_ident.specs.declared.idents.Kind.TheVariants as kind
 use Rattle.cache_ident.specs.declared.names.Name.TheVariants as name
 use Rattle.cache_ident.specs.declared.names.ThreadNo.{ThreadNo}
 use Rattle.cache_ident.specs.Residents.{IsResident}
-use Rattle.flat_state.specs.declared.records.FlatThread.{FlatThread}
-use Rattle.flat_state.specs.Call.{has_nothing_to_take, is_completable}
-use Rattle.flat_state.specs.State.{is_trapped}
-use Rattle.board_core.specs.Core.{contents_of, IsSound, Recorded}
-use Rattle.board_core.specs.desc_stores.specs.Contents.{residents_of}
-use Rattle.board_core.specs.desc_stores.specs.declared.items.Item.TheVariants as item
-use Rattle.board_core.specs.shown_state.specs.Shown.{flat_thread, shown, thread_of}
-use Rattle.board_core.specs.shown_state.proofs.LookupLemmas.{found_thread}
-use Rattle.cache_board.specs.board_commits.specs.board_checks.specs.Identifiers.{not_a}
-use Rattle.cache_board.specs.board_commits.specs.board_checks.specs.Refusals.{not_completable, not_owned_as, not_trapped, refusal_of_complete, wait_empty}
-use Rattle.cache_board.specs.board_commits.specs.board_checks.proofs.IdentifierLemmas.{call_tested}
-use Rattle.cache_board.specs.board_commits.specs.board_threads.proofs.IdentLemmas.{content_named, record_named}
-use Rattle.board_core.specs.board_ops.specs.declared.refusals.Refused.{Refused}
-use Rattle.board_core.specs.board_ops.specs.declared.refusals.Refused.TheVariants as why
-use Rattle.board_core.specs.cached_machine.specs.Cached.{state_of}
+use Rattle.left_laws.specs.flat_state.specs.declared.records.FlatThread.{FlatThread}
+use Rattle.left_laws.specs.flat_state.specs.Call.{has_nothing_to_take, is_completable}
+use Rattle.left_laws.specs.flat_state.specs.State.{is_trapped}
+use Rattle.cache_board.specs.board_core.specs.Core.{contents_of, IsSound, Recorded}
+use Rattle.left_laws.specs.desc_stores.specs.Contents.{residents_of}
+use Rattle.left_laws.specs.desc_stores.specs.declared.items.Item.TheVariants as item
+use Rattle.left_laws.specs.shown_state.specs.Shown.{flat_thread, shown, thread_of}
+use Rattle.left_laws.specs.shown_state.proofs.LookupLemmas.{found_thread}
+use Rattle.cache_board.specs.board_checks.specs.Identifiers.{not_a}
+use Rattle.cache_board.specs.board_checks.specs.Refusals.{not_completable, not_owned_as, not_trapped, refusal_of_complete, wait_empty}
+use Rattle.cache_board.specs.board_checks.proofs.IdentifierLemmas.{call_tested}
+use Rattle.cache_board.specs.board_threads.proofs.IdentLemmas.{content_named, record_named}
+use Rattle.cache_board.specs.board_ops.specs.declared.refusals.Refused.{Refused}
+use Rattle.cache_board.specs.board_ops.specs.declared.refusals.Refused.TheVariants as why
+use Rattle.cache_board.specs.cached_machine.specs.Cached.{state_of}
 
 -- where none of the tests fails the last doesn't
 last_passes : (a b c d : Option Refused) → option_or a (option_or b (option_or c d)) ≡ None → d ≡ None

@@ -4,22 +4,22 @@ use Rattle.std.specs.Prelude.{OnOk}
 use Rattle.std.proofs.Math.Nat.{le_refl}
 use Rattle.cache_ident.specs.declared.idents.Ident.{Ident}
 use Rattle.cache_ident.specs.declared.names.ThreadNo.{ThreadNo}
-use Rattle.flat_state.specs.declared.events.Event.TheVariants.{Complete}
-use Rattle.flat_state.specs.declared.records.FlatThread.{FlatThread}
-use Rattle.flat_state.specs.Call.{is_completable}
-use Rattle.flat_state.specs.Events.{applied}
+use Rattle.left_laws.specs.flat_state.specs.declared.events.Event.TheVariants.{Complete}
+use Rattle.left_laws.specs.flat_state.specs.declared.records.FlatThread.{FlatThread}
+use Rattle.left_laws.specs.flat_state.specs.Call.{is_completable}
+use Rattle.left_laws.specs.flat_state.specs.Events.{applied}
 use Rattle.left_laws.specs.Left.{left}
 use Rattle.left_laws.proofs.Falling.{completion_left, event_falls}
 use Rattle.cache_board.specs.board_calls.specs.Calls.{IsCompletion}
-use Rattle.cache_board.specs.board_commits.specs.board_checks.specs.Refusals.{refusal_of_complete}
-use Rattle.cache_board.specs.board_commits.specs.board_threads.specs.Faults.{HasEnded}
-use Rattle.board_core.specs.Core.{contents_of, Recorded}
-use Rattle.board_core.specs.Going.{GoesOn, IsOneEvent}
-use Rattle.board_core.specs.Growth.{one_more}
-use Rattle.board_core.specs.board_ops.specs.declared.refusals.Refused.{Refused}
-use Rattle.board_core.specs.cached_machine.specs.Cached.{state_of}
-use Rattle.run_journal.specs.Entries.{steps_in}
-use Rattle.run_journal.proofs.Growth.{steps-append}
+use Rattle.cache_board.specs.board_checks.specs.Refusals.{refusal_of_complete}
+use Rattle.cache_board.specs.board_threads.specs.Faults.{HasEnded}
+use Rattle.cache_board.specs.board_core.specs.Core.{contents_of, Recorded}
+use Rattle.cache_board.specs.board_core.specs.Going.{GoesOn, IsOneEvent}
+use Rattle.cache_board.specs.board_core.specs.Growth.{one_more}
+use Rattle.cache_board.specs.board_ops.specs.declared.refusals.Refused.{Refused}
+use Rattle.cache_board.specs.cached_machine.specs.Cached.{state_of}
+use Rattle.cache_board.specs.run_journal.specs.Entries.{steps_in}
+use Rattle.cache_board.specs.run_journal.proofs.Growth.{steps-append}
 use Rattle.owner_ports.specs.Brought.{brought_by, HasGained, IsCalledOn}
 use Rattle.owner_ports.proofs.Completing.{completable_of}
 

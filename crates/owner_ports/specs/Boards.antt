@@ -3,7 +3,7 @@ use Rattle.std.specs.Prelude.{◌≡◌, ◌≢◌, Option, Some, None, Result, 
 use Rattle.std.specs.Option.{option_map}
 use Rattle.cache_ident.specs.declared.names.ThreadNo.{ThreadNo}
 use Rattle.rv32_exec.specs.declared.statuses.Status.{Status}
-use Rattle.flat_state.specs.declared.records.FlatThread.{FlatThread}
+use Rattle.left_laws.specs.flat_state.specs.declared.records.FlatThread.{FlatThread}
 use Rattle.cache_board.specs.board_core.specs.Answers.{HasCallRoom, IsRefused}
 use Rattle.cache_board.specs.board_core.specs.Core.{Recorded}
 use Rattle.cache_board.specs.board_core.specs.Going.{GoesOn, IsOneEvent}

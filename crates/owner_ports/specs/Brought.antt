@@ -1,10 +1,10 @@
 -- What calls leave of the board behind a port, of which so many brought a step or a completion.
 use Rattle.std.specs.Prelude.{ℕ, ◌+◌, ◌≤◌, Result, Ok, Err}
 use Rattle.left_laws.specs.Left.{left}
-use Rattle.board_core.specs.Core.{IsSound, Recorded}
-use Rattle.board_core.specs.Going.{GoesOn}
-use Rattle.board_core.specs.Growth.{one_more}
-use Rattle.board_core.specs.board_ops.specs.declared.refusals.Refused.{Refused}
+use Rattle.cache_board.specs.board_core.specs.Core.{IsSound, Recorded}
+use Rattle.cache_board.specs.board_core.specs.Going.{GoesOn}
+use Rattle.cache_board.specs.board_core.specs.Growth.{one_more}
+use Rattle.cache_board.specs.board_ops.specs.declared.refusals.Refused.{Refused}
 
 -- how many brought one, once one more was answered: a refused call brings none
 abbrev pub brought_by : {T : Type 0} → Result T Refused → ℕ → ℕ

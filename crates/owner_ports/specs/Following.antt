@@ -2,8 +2,8 @@
 use Rattle.std.specs.Prelude.{ℕ, ◌+◌}
 use Rattle.std.proofs.Math.Nat.{le_refl, le_trans}
 use Rattle.left_laws.specs.Left.{left}
-use Rattle.board_core.specs.Core.{Recorded}
-use Rattle.board_core.proofs.GoingLaws.{goes_further, goes_nowhere}
+use Rattle.cache_board.specs.board_core.specs.Core.{Recorded}
+use Rattle.cache_board.specs.board_core.proofs.GoingLaws.{goes_further, goes_nowhere}
 use Rattle.owner_ports.specs.Brought.{HasGained, IsCalledOn}
 
 pub gains_nothing : (b : Recorded) (n : ℕ) → HasGained b n b n

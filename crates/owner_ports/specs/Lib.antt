@@ -1,4 +1,3 @@
-pub use Rattle.cache_board
 pub use Rattle.left_laws
 pub mod Boards
 pub mod Brought

@@ -4,9 +4,9 @@ use Rattle.std.specs.Prelude.{if◌then◌else◌, ◌||◌, replicate, unwrap_o
 use Rattle.std.proofs.lemmas.Bool.{true≢false}
 use Rattle.cache_ident.specs.declared.names.ThreadNo.{ThreadNo}
 use Rattle.phys_groups.specs.Translation.{row_of, without}
-use Rattle.fault_forward.specs.declared.effects.Effect.{Effect}
-use Rattle.fault_forward.specs.declared.effects.Effect.TheVariants as effects
-use Rattle.fault_forward.specs.Calls.{Completion, completion_of}
+use Rattle.flat_state.specs.fault_forward.specs.declared.effects.Effect.{Effect}
+use Rattle.flat_state.specs.fault_forward.specs.declared.effects.Effect.TheVariants as effects
+use Rattle.flat_state.specs.fault_forward.specs.Calls.{Completion, completion_of}
 use Rattle.flat_state.specs.declared.events.Decl.{Decl}
 use Rattle.flat_state.specs.declared.events.Event.TheVariants.{Step, Complete}
 use Rattle.flat_state.specs.declared.records.FlatThread.{FlatThread}
@@ -14,7 +14,7 @@ use Rattle.flat_state.specs.State.{FlatState, with_thread}
 use Rattle.flat_state.specs.Declaration.{broken_rule, declared}
 use Rattle.flat_state.specs.Call.{answered, refusal, made, mapping, rule_of_mapping, unmapped, spawning, is_first, granting, rule_of_granting, granted, completed_so, complete_if, completion_for, after_completion, is_completable}
 use Rattle.flat_state.specs.Events.{after_events, applied}
-use Rattle.flat_laws.proofs.StepSame.{step_same}
+use Rattle.run_journal.specs.flat_laws.proofs.StepSame.{step_same}
 use Rattle.run_journal.specs.declared.entries.Entry.{Entry}
 use Rattle.run_journal.specs.declared.entries.Entry.TheVariants.{Declared, Sealed, Loaded, WrittenBack, Locked, Unlocked, Ran, Ended, Completed}
 use Rattle.run_journal.specs.Entries.{erase, events_of}

@@ -13,7 +13,7 @@ use Rattle.cache_ident.specs.declared.names.Name.{Name}
 use Rattle.cache_ident.specs.declared.names.SpaceNo.{SpaceNo}
 use Rattle.cache_ident.specs.declared.names.ThreadNo.{ThreadNo}
 use Rattle.cache_ident.specs.declared.names.Vpn.{Vpn}
-use Rattle.flat_laws.proofs.Members.{contains_nothing}
+use Rattle.run_journal.specs.flat_laws.proofs.Members.{contains_nothing}
 use Rattle.flat_state.specs.declared.events.Decl.{Decl}
 use Rattle.owners.specs.Keys.{is_kernel, is_name, is_page, is_thread}
 use Rattle.owners.specs.Known.{home_of, ident_of, knows, receiver_of, space_of, IsMet, IsReceiverLearnt, IsSpaceLearnt, Known}

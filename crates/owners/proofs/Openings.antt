@@ -19,8 +19,8 @@ use Rattle.flat_state.specs.State.{FlatState}
 use Rattle.flat_state.specs.Declaration.{agree, broken_rule, declared, has_frame, has_no_flag, has_receiver, is_receiver_in, new_thread, thread_is_in}
 use Rattle.flat_state.specs.Events.{after_events, applied, declared_unless}
 use Rattle.flat_state.proofs.FormedParts.{breaks_none, other_rule}
-use Rattle.flat_laws.proofs.EventKeeps.{event_keeps}
-use Rattle.flat_laws.proofs.Members.{Contains-cases, contains_nothing}
+use Rattle.run_journal.specs.flat_laws.proofs.EventKeeps.{event_keeps}
+use Rattle.run_journal.specs.flat_laws.proofs.Members.{Contains-cases, contains_nothing}
 use Rattle.run_journal.specs.declared.entries.Entry.{Entry}
 use Rattle.run_journal.specs.declared.entries.Entry.TheVariants.{Declared, Sealed}
 use Rattle.run_journal.specs.Entries.{erase}

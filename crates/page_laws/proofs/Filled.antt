@@ -13,25 +13,25 @@ use Rattle.cache_ident.specs.declared.names.SpaceNo.{SpaceNo}
 use Rattle.cache_ident.specs.declared.names.Vpn.{Vpn}
 use Rattle.phys_groups.specs.declared.rows.Row.{Row}
 use Rattle.phys_groups.specs.Translation.{is_fit, is_row_of, judged, no_flag, no_right, page_of, row_of, through, allows_fetch}
-use Rattle.flat_state.specs.declared.records.FlatThread.{FlatThread}
-use Rattle.flat_state.specs.NextSteps.{fetch_row}
-use Rattle.flat_state.specs.State.{FlatState}
-use Rattle.flat_state.specs.Translation.{is_fit_row, rights_of, row_through}
-use Rattle.flat_state.proofs.Finding.{find-passes}
-use Rattle.board_core.specs.desc_stores.specs.Contents.{residents_of, Contents}
-use Rattle.board_core.specs.desc_parents.specs.Idents as idents
-use Rattle.board_core.specs.desc_parents.specs.Seen.{seen}
-use Rattle.board_core.specs.shown_state.specs.Shown.{shown}
-use Rattle.board_core.specs.board_ops.specs.declared.refusals.Refused.{Refused}
-use Rattle.board_core.specs.board_ops.specs.declared.refusals.Refused.TheVariants as why
-use Rattle.board_core.specs.cached_machine.specs.Cached.{state_of}
-use Rattle.board_core.specs.Answers.{IsRefused}
-use Rattle.board_core.specs.Core.{contents_of, Recorded}
-use Rattle.board_core.specs.Growth.{IsRoomMade}
-use Rattle.board_checks.specs.Identifiers.{receiver_as, space_as}
-use Rattle.board_checks.specs.Refusals.{already_loaded, beyond_rights, refusal_in_space, refusal_of_load_mapping, refusal_of_row, wrong_receiver}
-use Rattle.board_loads.specs.Loads.{IsLoadedAs}
-use Rattle.owners.specs.Known.{ident_of, Known}
+use Rattle.reach_laws.specs.flat_state.specs.declared.records.FlatThread.{FlatThread}
+use Rattle.reach_laws.specs.flat_state.specs.NextSteps.{fetch_row}
+use Rattle.reach_laws.specs.flat_state.specs.State.{FlatState}
+use Rattle.reach_laws.specs.flat_state.specs.Translation.{is_fit_row, rights_of, row_through}
+use Rattle.reach_laws.specs.flat_state.proofs.Finding.{find-passes}
+use Rattle.reach_laws.specs.desc_stores.specs.Contents.{residents_of, Contents}
+use Rattle.reach_laws.specs.desc_parents.specs.Idents as idents
+use Rattle.reach_laws.specs.desc_parents.specs.Seen.{seen}
+use Rattle.reach_laws.specs.shown_state.specs.Shown.{shown}
+use Rattle.reach_laws.specs.board_ops.specs.declared.refusals.Refused.{Refused}
+use Rattle.reach_laws.specs.board_ops.specs.declared.refusals.Refused.TheVariants as why
+use Rattle.reach_laws.specs.cached_machine.specs.Cached.{state_of}
+use Rattle.reach_laws.specs.board_core.specs.Answers.{IsRefused}
+use Rattle.reach_laws.specs.board_core.specs.Core.{contents_of, Recorded}
+use Rattle.reach_laws.specs.board_core.specs.Growth.{IsRoomMade}
+use Rattle.reach_laws.specs.board_checks.specs.Identifiers.{receiver_as, space_as}
+use Rattle.reach_laws.specs.board_checks.specs.Refusals.{already_loaded, beyond_rights, refusal_in_space, refusal_of_load_mapping, refusal_of_row, wrong_receiver}
+use Rattle.reach_laws.specs.board_loads.specs.Loads.{IsLoadedAs}
+use Rattle.reach_laws.specs.owners.specs.Known.{ident_of, Known}
 use Rattle.page_laws.specs.Keeping.{BringsNoRow, KeepsRows}
 use Rattle.reach_laws.specs.Filling.{IsFillable, IsUnfillable}
 use Rattle.reach_laws.specs.Reaching.{IsLoadAnswer, IsOwned, IsReached}

@@ -8,17 +8,17 @@ use Rattle.cache_ident.specs.declared.names.Name.TheVariants as name
 use Rattle.cache_ident.specs.declared.names.SpaceNo.{SpaceNo}
 use Rattle.cache_ident.specs.declared.names.ThreadNo.{ThreadNo}
 use Rattle.cache_ident.specs.declared.names.Vpn.{Vpn}
-use Rattle.flat_state.specs.Names.{stands}
-use Rattle.flat_state.specs.State.{FlatState}
-use Rattle.board_core.specs.desc_parents.specs.Seen.{seen}
-use Rattle.board_core.specs.shown_state.specs.Shown.{shown}
-use Rattle.board_core.specs.board_ops.specs.declared.refusals.Refused.{Refused}
-use Rattle.board_core.specs.cached_machine.specs.Cached.{state_of}
-use Rattle.board_core.specs.Core.{contents_of, IsSound, Recorded}
-use Rattle.board_core.specs.Growth.{IsRoomMade}
-use Rattle.board_checks.specs.Refusals.{refusal_of_load_thread}
-use Rattle.owners.specs.Known.{ident_of, Known}
-use Rattle.owners.specs.Owning.{IsThreadOf}
+use Rattle.reach_laws.specs.flat_state.specs.Names.{stands}
+use Rattle.reach_laws.specs.flat_state.specs.State.{FlatState}
+use Rattle.reach_laws.specs.desc_parents.specs.Seen.{seen}
+use Rattle.reach_laws.specs.shown_state.specs.Shown.{shown}
+use Rattle.reach_laws.specs.board_ops.specs.declared.refusals.Refused.{Refused}
+use Rattle.reach_laws.specs.cached_machine.specs.Cached.{state_of}
+use Rattle.reach_laws.specs.board_core.specs.Core.{contents_of, IsSound, Recorded}
+use Rattle.reach_laws.specs.board_core.specs.Growth.{IsRoomMade}
+use Rattle.reach_laws.specs.board_checks.specs.Refusals.{refusal_of_load_thread}
+use Rattle.reach_laws.specs.owners.specs.Known.{ident_of, Known}
+use Rattle.reach_laws.specs.owners.specs.Owning.{IsThreadOf}
 use Rattle.page_laws.specs.Keeping.{KeepsRows}
 use Rattle.reach_laws.specs.Reaching.{IsLoadAnswer, IsOwned, IsPlainLoaded}
 use Rattle.reach_laws.specs.owner_laws.proofs.Spaces.{is_of_space}

@@ -3,8 +3,8 @@ use Rattle.cache_ident.specs.declared.names.Name.TheVariants.{Mapping}
 use Rattle.cache_ident.specs.declared.names.SpaceNo.{SpaceNo}
 use Rattle.cache_ident.specs.declared.names.Vpn.{Vpn}
 use Rattle.cache_ident.specs.Residents.{IsNameResident}
-use Rattle.board_core.specs.desc_stores.specs.Contents.{residents_of}
-use Rattle.board_core.specs.Core.{contents_of, Recorded}
+use Rattle.reach_laws.specs.desc_stores.specs.Contents.{residents_of}
+use Rattle.reach_laws.specs.board_core.specs.Core.{contents_of, Recorded}
 use Rattle.reach_laws.specs.Reaching.{IsPlainLoaded}
 
 -- no row came

@@ -1,2 +1,14 @@
 pub use Rattle.reach_laws
+pub use Rattle.reach_laws.specs.owner_laws
+pub use Rattle.reach_laws.specs.answer_laws
+pub use Rattle.reach_laws.specs.board_calls
+pub use Rattle.reach_laws.specs.board_threads
+pub use Rattle.reach_laws.specs.board_loads
+pub use Rattle.reach_laws.specs.board_core
+pub use Rattle.reach_laws.specs.cached_machine
+pub use Rattle.reach_laws.specs.board_checks
+pub use Rattle.reach_laws.specs.desc_parents
+pub use Rattle.reach_laws.specs.shown_state
+pub use Rattle.reach_laws.specs.board_ops
+pub use Rattle.reach_laws.specs.desc_stores
 pub mod Keeping

@@ -6,12 +6,12 @@ ghost use Rattle.cache_ident.specs.declared.names.KernelNo.{KernelNo};
 ghost use Rattle.cache_ident.specs.declared.names.Name.TheVariants as name;
 ghost use Rattle.cache_ident.specs.declared.names.SpaceNo.{SpaceNo};
 ghost use Rattle.cache_ident.specs.declared.names.ThreadNo.{ThreadNo};
-ghost use Rattle.board_core.specs.board_ops.specs.declared.refusals.Refused.{Refused};
-ghost use Rattle.board_core.specs.cached_machine.specs.Cached.{state_of};
-ghost use Rattle.board_core.specs.Core.{contents_of, IsSound, Recorded};
-ghost use Rattle.board_core.specs.Growth.{IsRoomMade};
-ghost use Rattle.board_checks.specs.Refusals.{refusal_of_load_thread};
-ghost use Rattle.owners.specs.Known.{ident_of, Known};
+ghost use Rattle.reach_laws.specs.board_ops.specs.declared.refusals.Refused.{Refused};
+ghost use Rattle.reach_laws.specs.cached_machine.specs.Cached.{state_of};
+ghost use Rattle.reach_laws.specs.board_core.specs.Core.{contents_of, IsSound, Recorded};
+ghost use Rattle.reach_laws.specs.board_core.specs.Growth.{IsRoomMade};
+ghost use Rattle.reach_laws.specs.board_checks.specs.Refusals.{refusal_of_load_thread};
+ghost use Rattle.reach_laws.specs.owners.specs.Known.{ident_of, Known};
 ghost use Rattle.page_laws.specs.Keeping.{KeepsRows};
 ghost use Rattle.reach_laws.specs.Reaching.{IsLoadAnswer, IsOwned};
 

@@ -10,9 +10,9 @@ use Rattle.cache_ident.specs.declared.names.Frame.{Frame}
 use Rattle.rv32_exec.specs.declared.statuses.Access.{Access}
 use Rattle.rv32_exec.specs.declared.statuses.Access.TheVariants.{Fetch, Read, Write}
 use Rattle.rv32_exec.specs.Pages.{is_write, put_bytes}
-use Rattle.flat_state.specs.Translation.{wants}
-use Rattle.flat_state.proofs.Finding.{find-passes}
-use Rattle.flat_state.proofs.Places.{get-append, set_cases}
+use Rattle.flat_rules.specs.flat_state.specs.Translation.{wants}
+use Rattle.flat_rules.specs.flat_state.proofs.Finding.{find-passes}
+use Rattle.flat_rules.specs.flat_state.proofs.Places.{get-append, set_cases}
 use Rattle.page_views.specs.declared.spots.Spot.{Spot}
 use Rattle.page_views.specs.declared.spots.Spots.{Spots}
 use Rattle.page_views.specs.declared.spots.Marked.{Marked}

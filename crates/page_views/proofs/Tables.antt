@@ -16,8 +16,8 @@ use Rattle.rv32_exec.specs.declared.statuses.Access.TheVariants.{Fetch, Read, Wr
 use Rattle.rv32_exec.specs.declared.spaces.Width.{Width}
 use Rattle.rv32_exec.specs.declared.spaces.Width.TheVariants.{Byte, Half, Word}
 use Rattle.rv32_exec.specs.Pages.{Page, allows, where_allowed, translation, translates, read_through, number_at, stored_through, stored, touched_at, put_bytes, put_in_frame, mark, mark_page, size_of}
-use Rattle.flat_state.specs.Translation.{wants}
-use Rattle.flat_state.proofs.Finding.{find-passes}
+use Rattle.flat_rules.specs.flat_state.specs.Translation.{wants}
+use Rattle.flat_rules.specs.flat_state.proofs.Finding.{find-passes}
 use Rattle.page_views.specs.Views.{View, page_of, pages_of_views, Copied, copied, copies_of, has_message, is_of_page, can_fill, put_in_view, mark_view, mark_view_of, where_flagged, view_through, table_of, dated, Dated, HaveOneViewAFrame, HaveOneViewAPage, IsReached, IsTable, Table}
 
 pub pages_mapped : (f : View → View) (g : Page → Page) → ((v : View) → page_of (f v) ≡ g (page_of v)) → (vs : List View) → pages_of_views (map f vs) ≡ map g (pages_of_views vs)

@@ -3,7 +3,7 @@ use Rattle.std.specs.Prelude.{◌≡◌, ℕ, ◌%◌, ◌<◌, Bool, true, if�
 use Rattle.rv32_exec.specs.declared.statuses.Access.{Access}
 use Rattle.rv32_exec.specs.declared.statuses.Access.TheVariants.{Fetch, Read, Write}
 use Rattle.rv32_exec.specs.Pages.{is_write}
-use Rattle.flat_state.specs.Translation.{wants}
+use Rattle.flat_rules.specs.flat_state.specs.Translation.{wants}
 use Rattle.page_views.specs.declared.spots.Spot.{Spot}
 use Rattle.page_views.specs.declared.spots.Spots.{Spots}
 use Rattle.page_views.specs.declared.spots.Marked.{Marked}

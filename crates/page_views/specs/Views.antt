@@ -9,7 +9,7 @@ use Rattle.phys_groups.specs.declared.rows.Flags.{Flags}
 use Rattle.rv32_exec.specs.declared.statuses.Access.{Access}
 use Rattle.rv32_exec.specs.declared.statuses.Access.TheVariants.{Fetch, Read, Write}
 use Rattle.rv32_exec.specs.Pages.{Page, put_bytes}
-use Rattle.flat_state.specs.Translation.{wants}
+use Rattle.flat_rules.specs.flat_state.specs.Translation.{wants}
 
 -- A copied page: its number, the frame that it was copied from, what may be done with it, the row that it was copied
 -- through, its bytes as they were copied and as they are now, and whether an access and whether a store went through it. And

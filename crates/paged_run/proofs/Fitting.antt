@@ -4,35 +4,35 @@ use Rattle.std.specs.Prelude.{unwrap_or, IsSome}
 use Rattle.std.specs.Option.{option_map}
 use Rattle.cache_ident.specs.declared.names.SpaceNo.{SpaceNo}
 use Rattle.cache_ident.specs.declared.names.ThreadNo.{ThreadNo}
-use Rattle.flat_state.specs.declared.events.Event.TheVariants.{Step}
-use Rattle.flat_state.specs.declared.records.FlatThread.{FlatThread}
-use Rattle.flat_state.specs.State.{FlatState}
-use Rattle.flat_state.specs.Events.{after_event, applied}
-use Rattle.flat_state.specs.Signals.{is_runnable}
-use Rattle.flat_state.specs.Step.{after_step, step_if, step_of}
-use Rattle.flat_state.specs.WellFormed.{IsWellFormed}
-use Rattle.flat_state.specs.Call.{after_completion, complete_if, completion_for, is_completable}
-use Rattle.memory_laws.specs.Apart.{over}
-use Rattle.memory_laws.proofs.Apart.{completion_apart}
-use Rattle.page_views.specs.Views.{View}
+use Rattle.flat_rules.specs.flat_state.specs.declared.events.Event.TheVariants.{Step}
+use Rattle.flat_rules.specs.flat_state.specs.declared.records.FlatThread.{FlatThread}
+use Rattle.flat_rules.specs.flat_state.specs.State.{FlatState}
+use Rattle.flat_rules.specs.flat_state.specs.Events.{after_event, applied}
+use Rattle.flat_rules.specs.flat_state.specs.Signals.{is_runnable}
+use Rattle.flat_rules.specs.flat_state.specs.Step.{after_step, step_if, step_of}
+use Rattle.flat_rules.specs.flat_state.specs.WellFormed.{IsWellFormed}
+use Rattle.flat_rules.specs.flat_state.specs.Call.{after_completion, complete_if, completion_for, is_completable}
+use Rattle.paged_steps.specs.memory_laws.specs.Apart.{over}
+use Rattle.paged_steps.specs.memory_laws.proofs.Apart.{completion_apart}
+use Rattle.quantum.specs.page_views.specs.Views.{View}
 use Rattle.quantum.specs.Ahead.{Ahead}
 use Rattle.quantum.specs.LocalRun.{committed, state_after, CouldRun, GoesThrough, IsLocalRun}
 use Rattle.run_journal.specs.declared.entries.Entry.{Entry}
 use Rattle.run_journal.specs.declared.entries.Entry.TheVariants.{Ran, Ended, Completed}
 use Rattle.paged_run.specs.Runs.{Extends}
-use Rattle.ahead_laws.specs.Signalled.{signalled_by}
-use Rattle.ahead_laws.proofs.Signals.{signal_step}
-use Rattle.flat_state.specs.declared.records.Signal.{Signal}
-use Rattle.flat_state.specs.Signals.{full_among, receivers_of}
+use Rattle.paged_steps.specs.ahead_laws.specs.Signalled.{signalled_by}
+use Rattle.paged_steps.specs.ahead_laws.proofs.Signals.{signal_step}
+use Rattle.flat_rules.specs.flat_state.specs.declared.records.Signal.{Signal}
+use Rattle.flat_rules.specs.flat_state.specs.Signals.{full_among, receivers_of}
 use Rattle.quantum.specs.Ahead.{signal_store}
 use Rattle.quantum.specs.declared.paused.SignalStore.{SignalStore}
-use Rattle.rv32_exec.specs.declared.statuses.Status.TheVariants.{Ready}
+use Rattle.flat_machine.specs.rv32_exec.specs.declared.statuses.Status.TheVariants.{Ready}
 use Rattle.paged_steps.specs.Aheads.{AreCopies, IsAheadOf, IsFresh, IsSentBy}
-use Rattle.rv32_exec.specs.declared.statuses.Access.{Access}
-use Rattle.rv32_exec.specs.declared.statuses.FaultKind.{FaultKind}
-use Rattle.rv32_exec.specs.declared.statuses.Reason.TheVariants.{Fault}
-use Rattle.rv32_exec.specs.declared.statuses.Status.TheVariants as Status
-use Rattle.flat_state.specs.State.{with_thread}
+use Rattle.flat_machine.specs.rv32_exec.specs.declared.statuses.Access.{Access}
+use Rattle.flat_machine.specs.rv32_exec.specs.declared.statuses.FaultKind.{FaultKind}
+use Rattle.flat_machine.specs.rv32_exec.specs.declared.statuses.Reason.TheVariants.{Fault}
+use Rattle.flat_machine.specs.rv32_exec.specs.declared.statuses.Status.TheVariants as Status
+use Rattle.flat_rules.specs.flat_state.specs.State.{with_thread}
 use Rattle.paged_steps.specs.Aheads.{StandsSo}
 use Rattle.paged_steps.specs.declared.ahead.Stands.TheVariants.{Faults}
 use Rattle.paged_steps.proofs.Held.{ends_so, goes_runs}

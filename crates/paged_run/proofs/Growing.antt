@@ -1,9 +1,9 @@
 -- How the machine of a run with few frames goes on, from turn to turn.
 use Rattle.std.proofs.Common.{ℕ, ◌+◌, ◌-◌, List, Option, sym, ap₂, ◌∙◌, subst, arith}
-use Rattle.flat_state.specs.declared.records.Settled.{Settled}
-use Rattle.flat_state.specs.State.{FlatState}
-use Rattle.flat_state.specs.Settling.{settled_of}
-use Rattle.memory_laws.specs.Apart.{over}
+use Rattle.flat_rules.specs.flat_state.specs.declared.records.Settled.{Settled}
+use Rattle.flat_rules.specs.flat_state.specs.State.{FlatState}
+use Rattle.flat_rules.specs.flat_state.specs.Settling.{settled_of}
+use Rattle.paged_steps.specs.memory_laws.specs.Apart.{over}
 use Rattle.run_journal.specs.declared.entries.Entry.{Entry}
 use Rattle.paged_run.specs.declared.pager.Pager.{Pager}
 use Rattle.paged_run.specs.Runs.{Extends}

@@ -4,12 +4,12 @@ use Rattle.std.specs.Prelude.{count_by, IsSome}
 use Rattle.std.proofs.lemmas.List.{append-nil}
 use Rattle.std.proofs.lemmas.List.Sums.{sum_by-append}
 use Rattle.cache_ident.specs.declared.names.ThreadNo.{ThreadNo}
-use Rattle.flat_state.specs.declared.events.Event.{Event}
-use Rattle.flat_state.specs.declared.events.Event.TheVariants.{Step}
-use Rattle.flat_state.specs.State.{FlatState}
-use Rattle.flat_state.specs.Declaration.{declared}
-use Rattle.flat_state.specs.Events.{after_event, applied, after_events}
-use Rattle.flat_state.proofs.Places.{count_by-cons}
+use Rattle.flat_rules.specs.flat_state.specs.declared.events.Event.{Event}
+use Rattle.flat_rules.specs.flat_state.specs.declared.events.Event.TheVariants.{Step}
+use Rattle.flat_rules.specs.flat_state.specs.State.{FlatState}
+use Rattle.flat_rules.specs.flat_state.specs.Declaration.{declared}
+use Rattle.flat_rules.specs.flat_state.specs.Events.{after_event, applied, after_events}
+use Rattle.flat_rules.specs.flat_state.proofs.Places.{count_by-cons}
 use Rattle.run_journal.specs.declared.entries.Entry.{Entry}
 use Rattle.run_journal.specs.Entries.{events_of, erase, is_step, steps_in}
 use Rattle.paged_run.specs.Runs.{AreOwn, EventsFit, Extends, IsOwn}

@@ -4,17 +4,17 @@ use Rattle.std.specs.Prelude.{unwrap_or, IsSome}
 use Rattle.std.proofs.lemmas.List.{append-nil, length-drop, length-replicate, take_all}
 use Rattle.cache_ident.specs.declared.names.Frame.{Frame}
 use Rattle.phys_groups.specs.Memory.{word_bytes, written}
-use Rattle.flat_state.specs.declared.events.Decl.{Decl}
-use Rattle.flat_state.specs.declared.events.Decl.TheVariants as decls
-use Rattle.flat_state.specs.declared.events.Event.TheVariants.{Declare}
-use Rattle.flat_state.specs.declared.events.Machine.{Machine}
-use Rattle.flat_state.specs.State.{nothing_declared, FlatState}
-use Rattle.flat_state.specs.Declaration.{broken_rule, declared, rule_by_machine, rule_of_machine}
-use Rattle.flat_state.specs.Events.{after_declarations, applied, declared_unless, AllFit}
-use Rattle.flat_state.specs.WellFormed.{IsWellFormed}
-use Rattle.flat_state.proofs.FormedParts.{word_formed}
-use Rattle.memory_laws.specs.Apart.{is_apart, over}
-use Rattle.memory_laws.proofs.Apart.{declared_apart, rule_apart}
+use Rattle.flat_rules.specs.flat_state.specs.declared.events.Decl.{Decl}
+use Rattle.flat_rules.specs.flat_state.specs.declared.events.Decl.TheVariants as decls
+use Rattle.flat_rules.specs.flat_state.specs.declared.events.Event.TheVariants.{Declare}
+use Rattle.flat_rules.specs.flat_state.specs.declared.events.Machine.{Machine}
+use Rattle.flat_rules.specs.flat_state.specs.State.{nothing_declared, FlatState}
+use Rattle.flat_rules.specs.flat_state.specs.Declaration.{broken_rule, declared, rule_by_machine, rule_of_machine}
+use Rattle.flat_rules.specs.flat_state.specs.Events.{after_declarations, applied, declared_unless, AllFit}
+use Rattle.flat_rules.specs.flat_state.specs.WellFormed.{IsWellFormed}
+use Rattle.flat_rules.specs.flat_state.proofs.FormedParts.{word_formed}
+use Rattle.paged_steps.specs.memory_laws.specs.Apart.{is_apart, over}
+use Rattle.paged_steps.specs.memory_laws.proofs.Apart.{declared_apart, rule_apart}
 use Rattle.page_store.specs.Kept.{Kept, Means}
 use Rattle.paged_steps.specs.Pages.{HasFrames}
 use Rattle.paged_steps.proofs.Taking.{over_formed}

@@ -5,17 +5,17 @@ use Rattle.std.specs.List.{list_any, list_all}
 use Rattle.std.proofs.lemmas.Bool.{eq-eqb}
 use Rattle.std.proofs.lemmas.List.Folds.{list_all_at, list_all_more}
 use Rattle.std.proofs.lemmas.Option.{get_or_from_slice_get, slice_get_cases}
-use Rattle.rv32_exec.specs.declared.statuses.Status.{Status}
-use Rattle.rv32_exec.specs.declared.statuses.Status.TheVariants.{Ready, Trapped, Ended}
-use Rattle.flat_state.specs.declared.records.FlatThread.{FlatThread}
-use Rattle.flat_state.specs.declared.records.Settled.{Settled}
-use Rattle.flat_state.specs.declared.records.Settled.TheVariants.{Done, Stalled, Spent, Running}
-use Rattle.flat_state.specs.State.{FlatState, is_ready, is_ended, is_trapped}
-use Rattle.flat_state.specs.Signals.{ended_by, full_receiver, is_held, is_runnable}
-use Rattle.flat_state.specs.Call.{has_nothing_to_take, is_completable}
-use Rattle.flat_state.specs.Settling.{is_stuck, settled_of}
+use Rattle.flat_machine.specs.rv32_exec.specs.declared.statuses.Status.{Status}
+use Rattle.flat_machine.specs.rv32_exec.specs.declared.statuses.Status.TheVariants.{Ready, Trapped, Ended}
+use Rattle.flat_rules.specs.flat_state.specs.declared.records.FlatThread.{FlatThread}
+use Rattle.flat_rules.specs.flat_state.specs.declared.records.Settled.{Settled}
+use Rattle.flat_rules.specs.flat_state.specs.declared.records.Settled.TheVariants.{Done, Stalled, Spent, Running}
+use Rattle.flat_rules.specs.flat_state.specs.State.{FlatState, is_ready, is_ended, is_trapped}
+use Rattle.flat_rules.specs.flat_state.specs.Signals.{ended_by, full_receiver, is_held, is_runnable}
+use Rattle.flat_rules.specs.flat_state.specs.Call.{has_nothing_to_take, is_completable}
+use Rattle.flat_rules.specs.flat_state.specs.Settling.{is_stuck, settled_of}
 use Rattle.flat_rules.specs.Readings.{OfThread}
-use Rattle.memory_laws.specs.Apart.{over}
+use Rattle.paged_steps.specs.memory_laws.specs.Apart.{over}
 use Rattle.page_store.specs.Kept.{Kept, Means}
 use Rattle.paged_run.specs.Pagers.{stuck_as}
 

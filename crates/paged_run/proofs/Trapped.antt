@@ -8,18 +8,18 @@ use Rattle.std.proofs.lemmas.Option.{slice_get_within, get_or_from_slice_get, sl
 use Rattle.std.proofs.Math.ListN.{get_or-append}
 use Rattle.cache_ident.specs.declared.names.ThreadNo.{ThreadNo}
 use Rattle.cache_ident.specs.declared.names.Vpn.{Vpn}
-use Rattle.fault_forward.specs.declared.effects.Effect.{Effect}
-use Rattle.fault_forward.specs.declared.effects.Effect.TheVariants as effects
-use Rattle.fault_forward.specs.Calls.{Completion, completion_of}
-use Rattle.flat_state.specs.declared.events.Decl.{Decl}
-use Rattle.flat_state.specs.declared.events.Decl.TheVariants as decls
-use Rattle.flat_state.specs.declared.records.FlatThread.{FlatThread}
-use Rattle.flat_state.specs.State.{FlatState, is_ended, is_trapped}
-use Rattle.flat_state.specs.Declaration.{declared, new_thread}
-use Rattle.flat_state.specs.Signals.{with_address, sent_to, sent}
-use Rattle.flat_state.specs.Call.{waits, is_completable, answered, refusal, made, granting, rule_of_granting, is_first, completed_so, completion_for, after_completion}
+use Rattle.run_journal.specs.fault_forward.specs.declared.effects.Effect.{Effect}
+use Rattle.run_journal.specs.fault_forward.specs.declared.effects.Effect.TheVariants as effects
+use Rattle.run_journal.specs.fault_forward.specs.Calls.{Completion, completion_of}
+use Rattle.flat_rules.specs.flat_state.specs.declared.events.Decl.{Decl}
+use Rattle.flat_rules.specs.flat_state.specs.declared.events.Decl.TheVariants as decls
+use Rattle.flat_rules.specs.flat_state.specs.declared.records.FlatThread.{FlatThread}
+use Rattle.flat_rules.specs.flat_state.specs.State.{FlatState, is_ended, is_trapped}
+use Rattle.flat_rules.specs.flat_state.specs.Declaration.{declared, new_thread}
+use Rattle.flat_rules.specs.flat_state.specs.Signals.{with_address, sent_to, sent}
+use Rattle.flat_rules.specs.flat_state.specs.Call.{waits, is_completable, answered, refusal, made, granting, rule_of_granting, is_first, completed_so, completion_for, after_completion}
 use Rattle.phys_groups.specs.Translation.{row_of}
-use Rattle.signal_pages.specs.Signals.{address_of}
+use Rattle.flat_machine.specs.signal_pages.specs.Signals.{address_of}
 use Rattle.paged_run.specs.Runs.{trapped_count}
 
 abbrev in_call : FlatThread → Bool

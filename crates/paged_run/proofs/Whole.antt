@@ -1,16 +1,16 @@
 -- Why a run that was opened and went on to its end is one of the machine with unlimited tables.
 use Rattle.std.proofs.Common.{◌≡◌, ◌≢◌, ℕ, ◌+◌, List, [], ◌∷◌, ◌++◌, Option, Some, refl, sym, ap, ap₂, ◌∙◌, subst, arith}
-use Rattle.flat_state.specs.declared.events.Decl.{Decl}
-use Rattle.flat_state.specs.declared.events.Event.{Event}
-use Rattle.flat_state.specs.declared.events.Event.TheVariants.{Declare}
-use Rattle.flat_state.specs.declared.records.Settled.{Settled}
-use Rattle.flat_state.specs.declared.records.Settled.TheVariants.{Running}
-use Rattle.flat_state.specs.State.{nothing_declared, FlatState}
-use Rattle.flat_state.specs.Declaration.{declared}
-use Rattle.flat_state.specs.Events.{after_declarations, after_events, flat, AllFit}
-use Rattle.flat_state.specs.Settling.{settled_of}
-use Rattle.flat_state.proofs.Places.{count_by-cons}
-use Rattle.report_text.specs.Reports.{report}
+use Rattle.flat_rules.specs.flat_state.specs.declared.events.Decl.{Decl}
+use Rattle.flat_rules.specs.flat_state.specs.declared.events.Event.{Event}
+use Rattle.flat_rules.specs.flat_state.specs.declared.events.Event.TheVariants.{Declare}
+use Rattle.flat_rules.specs.flat_state.specs.declared.records.Settled.{Settled}
+use Rattle.flat_rules.specs.flat_state.specs.declared.records.Settled.TheVariants.{Running}
+use Rattle.flat_rules.specs.flat_state.specs.State.{nothing_declared, FlatState}
+use Rattle.flat_rules.specs.flat_state.specs.Declaration.{declared}
+use Rattle.flat_rules.specs.flat_state.specs.Events.{after_declarations, after_events, flat, AllFit}
+use Rattle.flat_rules.specs.flat_state.specs.Settling.{settled_of}
+use Rattle.flat_rules.specs.flat_state.proofs.Places.{count_by-cons}
+use Rattle.flat_report.specs.report_text.specs.Reports.{report}
 use Rattle.run_journal.specs.declared.entries.Entry.{Entry}
 use Rattle.run_journal.specs.Entries.{erase, is_step, steps_in}
 use Rattle.run_journal.specs.Points.{opening}

@@ -1,12 +1,12 @@
 -- What declarations make of the machine of a run with few frames.
 use Rattle.std.specs.Prelude.{◌≡◌, ℕ, ◌+◌, ◌*◌, ◌≤◌, List, [], ◌∷◌, ◌++◌, length, map, replicate, Option, Some}
-use Rattle.flat_state.specs.declared.events.Decl.{Decl}
-use Rattle.flat_state.specs.declared.events.Decl.TheVariants as declaration
-use Rattle.flat_state.specs.declared.events.Machine.{Machine}
-use Rattle.flat_state.specs.Declaration.{declared}
-use Rattle.flat_state.specs.Events.{after_declarations}
-use Rattle.flat_state.specs.State.{nothing_declared, FlatState}
-use Rattle.memory_laws.specs.Apart.{over}
+use Rattle.flat_rules.specs.flat_state.specs.declared.events.Decl.{Decl}
+use Rattle.flat_rules.specs.flat_state.specs.declared.events.Decl.TheVariants as declaration
+use Rattle.flat_rules.specs.flat_state.specs.declared.events.Machine.{Machine}
+use Rattle.flat_rules.specs.flat_state.specs.Declaration.{declared}
+use Rattle.flat_rules.specs.flat_state.specs.Events.{after_declarations}
+use Rattle.flat_rules.specs.flat_state.specs.State.{nothing_declared, FlatState}
+use Rattle.paged_steps.specs.memory_laws.specs.Apart.{over}
 use Rattle.page_store.specs.Kept.{nothing_kept, Kept, Means}
 use Rattle.paged_steps.specs.Pages.{HasFrames}
 use Rattle.run_journal.specs.declared.entries.Entry.{Entry}

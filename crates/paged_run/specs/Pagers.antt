@@ -1,12 +1,12 @@
 -- The machine of a run with few frames, as it goes on.
 use Rattle.std.specs.Prelude.{◌≡◌, ◌≢◌, ℕ, ◌+◌, ◌-◌, ◌*◌, ◌≤◌, if◌then◌else◌, List, Option}
 use Rattle.std.specs.List.{list_all}
-use Rattle.flat_state.specs.declared.records.FlatThread.{FlatThread}
-use Rattle.flat_state.specs.declared.records.Settled.{Settled}
-use Rattle.flat_state.specs.declared.records.Settled.TheVariants.{Done, Stalled, Running}
-use Rattle.flat_state.specs.State.{is_ended}
-use Rattle.flat_state.specs.Settling.{settled_of}
-use Rattle.memory_laws.specs.Apart.{over}
+use Rattle.flat_rules.specs.flat_state.specs.declared.records.FlatThread.{FlatThread}
+use Rattle.flat_rules.specs.flat_state.specs.declared.records.Settled.{Settled}
+use Rattle.flat_rules.specs.flat_state.specs.declared.records.Settled.TheVariants.{Done, Stalled, Running}
+use Rattle.flat_rules.specs.flat_state.specs.State.{is_ended}
+use Rattle.flat_rules.specs.flat_state.specs.Settling.{settled_of}
+use Rattle.paged_steps.specs.memory_laws.specs.Apart.{over}
 use Rattle.page_store.specs.Kept.{Means}
 use Rattle.paged_steps.specs.Pages.{HasFrames}
 use Rattle.paged_run.specs.declared.pager.Pager.{Pager}

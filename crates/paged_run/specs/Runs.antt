@@ -1,15 +1,15 @@
 -- What a run with few frames does to the machine and to the journal.
 use Rattle.std.specs.Prelude.{◌≡◌, ◌≢◌, ◌<◌, ℕ, List, [], ◌∷◌, ◌++◌, Option, Some, IsSome, count_by}
-use Rattle.flat_state.specs.declared.events.Decl.{Decl}
-use Rattle.flat_state.specs.declared.events.Event.{Event}
-use Rattle.flat_state.specs.declared.records.Settled.{Settled}
-use Rattle.flat_state.specs.declared.records.Settled.TheVariants.{Running}
-use Rattle.flat_state.specs.State.{is_trapped, FlatState}
-use Rattle.flat_state.specs.Events.{after_event, after_events, applied, flat}
-use Rattle.flat_state.specs.Settling.{settled_of}
-use Rattle.memory_laws.specs.Apart.{over}
+use Rattle.flat_rules.specs.flat_state.specs.declared.events.Decl.{Decl}
+use Rattle.flat_rules.specs.flat_state.specs.declared.events.Event.{Event}
+use Rattle.flat_rules.specs.flat_state.specs.declared.records.Settled.{Settled}
+use Rattle.flat_rules.specs.flat_state.specs.declared.records.Settled.TheVariants.{Running}
+use Rattle.flat_rules.specs.flat_state.specs.State.{is_trapped, FlatState}
+use Rattle.flat_rules.specs.flat_state.specs.Events.{after_event, after_events, applied, flat}
+use Rattle.flat_rules.specs.flat_state.specs.Settling.{settled_of}
+use Rattle.paged_steps.specs.memory_laws.specs.Apart.{over}
 use Rattle.page_store.specs.Kept.{Kept, Means}
-use Rattle.report_text.specs.Reports.{report}
+use Rattle.flat_report.specs.report_text.specs.Reports.{report}
 use Rattle.run_journal.specs.declared.entries.Entry.{Entry}
 use Rattle.run_journal.specs.declared.entries.Entry.TheVariants.{Declared, Sealed, Loaded, WrittenBack, Locked, Unlocked, Ran, Ended, Completed}
 use Rattle.run_journal.specs.Entries.{erase, steps_in}

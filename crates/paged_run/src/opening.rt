@@ -2,13 +2,13 @@
 
 ghost use Rattle.std.specs.Prelude.{◌≡◌, ◌<◌, ◌≤◌, ◌∷◌, [], List, ℕ, None, Some, IfOk, IsSome, OnOk, IsErrOf, drop};
 ghost use Rattle.byte_ports.specs.Faults.{HasRisen};
-ghost use Rattle.flat_state.specs.declared.events.Decl.{Decl};
-ghost use Rattle.flat_state.specs.declared.events.Decl.TheVariants as declaration;
-ghost use Rattle.flat_state.specs.declared.events.Machine.{Machine};
-ghost use Rattle.flat_state.specs.Declaration.{broken_rule, rule_of_machine};
-ghost use Rattle.flat_state.specs.Events.{after_declarations, AllFit};
-ghost use Rattle.flat_state.specs.State.{nothing_declared};
-ghost use Rattle.memory_laws.specs.Apart.{over};
+ghost use Rattle.flat_rules.specs.flat_state.specs.declared.events.Decl.{Decl};
+ghost use Rattle.flat_rules.specs.flat_state.specs.declared.events.Decl.TheVariants as declaration;
+ghost use Rattle.flat_rules.specs.flat_state.specs.declared.events.Machine.{Machine};
+ghost use Rattle.flat_rules.specs.flat_state.specs.Declaration.{broken_rule, rule_of_machine};
+ghost use Rattle.flat_rules.specs.flat_state.specs.Events.{after_declarations, AllFit};
+ghost use Rattle.flat_rules.specs.flat_state.specs.State.{nothing_declared};
+ghost use Rattle.paged_steps.specs.memory_laws.specs.Apart.{over};
 ghost use Rattle.page_store.specs.Kept.{Means};
 ghost use Rattle.paged_steps.specs.Pages.{HasFrames};
 ghost use Rattle.paged_run.specs.Openings.{frames_of, Adds, AddsAll, IsBare, IsOpened, IsZeros, Makes};

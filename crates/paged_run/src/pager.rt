@@ -3,8 +3,8 @@
 ghost use Rattle.std.specs.Prelude.{◌≡◌, ◌<◌, ◌≤◌, List, false, IfOk, IfSome, IfNone, OnOk, IsErrOf};
 ghost use Rattle.std.specs.List.{list_all, list_any};
 ghost use Rattle.byte_ports.specs.Faults.{HasRisen};
-ghost use Rattle.flat_state.specs.Call.{is_completable};
-ghost use Rattle.flat_state.specs.State.{is_ended};
+ghost use Rattle.flat_rules.specs.flat_state.specs.Call.{is_completable};
+ghost use Rattle.flat_rules.specs.flat_state.specs.State.{is_ended};
 ghost use Rattle.paged_run.specs.Pagers.{left, stuck_as, Ends, Grew, IsOver, IsReady};
 ghost use Rattle.paged_run.specs.declared.fault.PagedFault.TheVariants as faults;
 

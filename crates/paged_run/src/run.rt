@@ -2,11 +2,11 @@
 
 ghost use Rattle.std.specs.Prelude.{◌≡◌, ◌∷◌, ◌≤◌, List, ℕ, Some, IfOk, OnOk, IsErrOf};
 ghost use Rattle.byte_ports.specs.Faults.{HasRisen};
-ghost use Rattle.flat_state.specs.declared.events.Decl.{Decl};
-ghost use Rattle.flat_state.specs.declared.events.Decl.TheVariants as declaration;
-ghost use Rattle.flat_state.specs.declared.events.Machine.{Machine};
-ghost use Rattle.flat_state.specs.Events.{AllFit};
-ghost use Rattle.flat_state.specs.State.{nothing_declared};
+ghost use Rattle.flat_rules.specs.flat_state.specs.declared.events.Decl.{Decl};
+ghost use Rattle.flat_rules.specs.flat_state.specs.declared.events.Decl.TheVariants as declaration;
+ghost use Rattle.flat_rules.specs.flat_state.specs.declared.events.Machine.{Machine};
+ghost use Rattle.flat_rules.specs.flat_state.specs.Events.{AllFit};
+ghost use Rattle.flat_rules.specs.flat_state.specs.State.{nothing_declared};
 ghost use Rattle.paged_run.specs.Openings.{frames_of, IsZeros};
 ghost use Rattle.paged_run.specs.Runs.{IsPagedRun};
 ghost use Rattle.paged_run.specs.declared.fault.PagedFault.TheVariants as faults;

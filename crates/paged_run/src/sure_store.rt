@@ -1,11 +1,11 @@
 //! A store that never fails, and a run over it.
 
 ghost use Rattle.std.specs.Prelude.{◌≡◌, ◌*◌, ◌∷◌, ◌≤◌, [], List, Some, IfOk};
-ghost use Rattle.flat_state.specs.declared.events.Decl.{Decl};
-ghost use Rattle.flat_state.specs.declared.events.Decl.TheVariants as declaration;
-ghost use Rattle.flat_state.specs.declared.events.Machine.{Machine};
-ghost use Rattle.flat_state.specs.Events.{flat, AllFit};
-ghost use Rattle.flat_state.specs.State.{nothing_declared};
+ghost use Rattle.flat_rules.specs.flat_state.specs.declared.events.Decl.{Decl};
+ghost use Rattle.flat_rules.specs.flat_state.specs.declared.events.Decl.TheVariants as declaration;
+ghost use Rattle.flat_rules.specs.flat_state.specs.declared.events.Machine.{Machine};
+ghost use Rattle.flat_rules.specs.flat_state.specs.Events.{flat, AllFit};
+ghost use Rattle.flat_rules.specs.flat_state.specs.State.{nothing_declared};
 ghost use Rattle.run_journal.specs.Entries.{erase};
 ghost use Rattle.page_store.specs.MemStores.{new_stock};
 ghost use Rattle.paged_run.specs.Runs.{IsPagedRun};

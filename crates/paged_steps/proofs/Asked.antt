@@ -20,7 +20,7 @@ use Rattle.flat_state.specs.declared.records.FlatThread.{FlatThread}
 use Rattle.flat_state.specs.State.{FlatState}
 use Rattle.flat_state.specs.Signals.{next_action}
 use Rattle.flat_state.specs.Translation.{reached, rights_of, wants}
-use Rattle.page_views.specs.Views.{can_fill, is_of_page, page_of, pages_of_views, view_through, where_flagged, View}
+use Rattle.quantum.specs.page_views.specs.Views.{can_fill, is_of_page, page_of, pages_of_views, view_through, where_flagged, View}
 use Rattle.quantum.specs.declared.paused.Paused.{Paused}
 use Rattle.quantum.specs.Ahead.{more_with, outcome, Ahead, IsRun}
 use Rattle.ahead_laws.specs.Addresses.{address_of}

@@ -18,7 +18,7 @@ use Rattle.flat_state.specs.Step.{after_step, faulted, outcome, step_if, step_of
 use Rattle.flat_state.specs.Translation.{reached, row_through}
 use Rattle.flat_state.specs.WellFormed.{IsWellFormed}
 use Rattle.memory_laws.specs.Apart.{over}
-use Rattle.page_views.specs.Views.{pages_of_views, View}
+use Rattle.quantum.specs.page_views.specs.Views.{pages_of_views, View}
 use Rattle.quantum.specs.declared.paused.SignalStore.{SignalStore}
 use Rattle.quantum.specs.Ahead.{outcome as ahead_outcome, signal_store, Ahead}
 use Rattle.quantum.specs.LocalRun.{GoesThrough, IsLocalRun, Shows}

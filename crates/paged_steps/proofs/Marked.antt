@@ -12,8 +12,8 @@ use Rattle.flat_state.specs.Pages.{is_in}
 use Rattle.flat_state.specs.State.{FlatState}
 use Rattle.flat_state.specs.WellFormed.{IsWellFormed}
 use Rattle.flat_state.proofs.Places.{Contains-from_get}
-use Rattle.flat_laws.proofs.Members.{map-agree, Contains-behind, Contains-here}
-use Rattle.page_views.specs.Views.{View, HaveOneViewAPage}
+use Rattle.quantum.specs.flat_laws.proofs.Members.{map-agree, Contains-behind, Contains-here}
+use Rattle.quantum.specs.page_views.specs.Views.{View, HaveOneViewAPage}
 use Rattle.quantum.specs.Ahead.{Ahead}
 use Rattle.quantum.specs.LocalRun.{with_marks_of, with_view_marks, CouldRun, IsLocalRun}
 use Rattle.paged_steps.specs.Marks.{mark_of, marks_by}

@@ -20,10 +20,10 @@ use Rattle.flat_state.specs.State.{FlatState, with_thread}
 use Rattle.flat_state.specs.WellFormed.{IsWellFormed}
 use Rattle.flat_state.proofs.Finding.{find-contains}
 use Rattle.flat_state.proofs.FormedParts.{memory_formed}
-use Rattle.flat_laws.proofs.Members.{Contains-filter}
+use Rattle.quantum.specs.flat_laws.proofs.Members.{Contains-filter}
 use Rattle.memory_laws.specs.Apart.{over}
 use Rattle.page_store.specs.Kept.{Kept}
-use Rattle.page_views.specs.Views.{View, HaveOneViewAPage}
+use Rattle.quantum.specs.page_views.specs.Views.{View, HaveOneViewAPage}
 use Rattle.quantum.specs.Ahead.{Ahead}
 use Rattle.quantum.specs.LocalRun.{committed, status_by, touched_views, with_views, CouldRun, HaveOneContents, IsLocalRun, Shows}
 use Rattle.paged_steps.specs.Aheads.{AreCopies, IsAheadOf, IsOfRow, IsPutIf}

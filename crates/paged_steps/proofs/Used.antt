@@ -17,10 +17,10 @@ use Rattle.flat_state.specs.WellFormed.{IsWellFormed}
 use Rattle.flat_state.proofs.FormedEvents.{applied_formed}
 use Rattle.flat_state.proofs.FormedParts.{rows_formed, KeepsRow}
 use Rattle.flat_state.proofs.Places.{get_from_Contains, get_from_map, Contains-from_get}
-use Rattle.flat_laws.specs.Marks.{is_through, marked_by}
-use Rattle.flat_laws.proofs.Members.{find-map, Contains-map}
-use Rattle.flat_laws.proofs.RowMarks.{fault_marks_nothing, step_marks}
-use Rattle.page_views.specs.Views.{View}
+use Rattle.quantum.specs.flat_laws.specs.Marks.{is_through, marked_by}
+use Rattle.quantum.specs.flat_laws.proofs.Members.{find-map, Contains-map}
+use Rattle.quantum.specs.flat_laws.proofs.RowMarks.{fault_marks_nothing, step_marks}
+use Rattle.quantum.specs.page_views.specs.Views.{View}
 use Rattle.quantum.specs.Ahead.{Ahead}
 use Rattle.quantum.specs.LocalRun.{committed, state_after, with_marks_of, with_view_marks, CouldRun, IsLocalRun}
 

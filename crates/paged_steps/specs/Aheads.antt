@@ -13,7 +13,7 @@ use Rattle.flat_state.specs.declared.records.Signal.{Signal}
 use Rattle.flat_state.specs.State.{FlatState}
 use Rattle.flat_state.specs.Translation.{fault_kind, is_fit_row, reached, row_through}
 use Rattle.page_store.specs.Kept.{Kept, Means}
-use Rattle.page_views.specs.Views.{filled, View}
+use Rattle.quantum.specs.page_views.specs.Views.{filled, View}
 use Rattle.quantum.specs.Ahead.{more_with, outcome, signal_store, Ahead}
 use Rattle.quantum.specs.declared.paused.SignalStore.{SignalStore}
 use Rattle.signal_pages.specs.Signals.{is_signalling}

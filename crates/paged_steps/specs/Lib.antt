@@ -1,3 +1,5 @@
+pub use Rattle.ahead_laws
+pub use Rattle.memory_laws
 pub mod Pages
 pub mod Aheads
 pub mod Marks

@@ -3,7 +3,7 @@ use Rattle.std.specs.Prelude.{if◌then◌else◌, List, [], ◌∷◌}
 use Rattle.cache_ident.specs.declared.names.SpaceNo.{SpaceNo}
 use Rattle.phys_groups.specs.declared.rows.Row.{Row}
 use Rattle.phys_groups.specs.Rows.{marked}
-use Rattle.page_views.specs.Views.{View}
+use Rattle.quantum.specs.page_views.specs.Views.{View}
 
 -- the row of a touched view has its marks
 abbrev pub mark_of : SpaceNo → View → Row → Row

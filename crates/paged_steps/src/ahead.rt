@@ -1,7 +1,7 @@
 //! Steps ahead of the machine, on copies of pages that are kept.
 
 ghost use Rattle.std.specs.Prelude.{◌≡◌, ◌<◌, ◌≤◌, List, ℕ, IfOk, IfNone, IfSome, OnOk, OnErr, IsTrue, Some, length};
-ghost use Rattle.page_views.specs.Views.{can_fill};
+ghost use Rattle.quantum.specs.page_views.specs.Views.{can_fill};
 ghost use Rattle.page_store.specs.Kept.{Means};
 ghost use Rattle.flat_rules.specs.Readings.{OfThread};
 ghost use Rattle.quantum.specs.Ahead.{signal_store};

@@ -10,7 +10,7 @@ ghost use Rattle.flat_state.specs.State.{with_thread};
 ghost use Rattle.flat_state.specs.Signals.{full_among, receivers_of, sent, HasRoom};
 ghost use Rattle.flat_rules.specs.Readings.{OfThread};
 ghost use Rattle.memory_laws.specs.Apart.{over};
-ghost use Rattle.page_views.specs.Views.{View};
+ghost use Rattle.quantum.specs.page_views.specs.Views.{View};
 ghost use Rattle.page_store.specs.Kept.{Means};
 ghost use Rattle.quantum.specs.LocalRun.{committed, status_by as status_by_def, touched_views, with_views, HaveOneContents};
 ghost use Rattle.ahead_laws.specs.Signalled.{signalled_by};

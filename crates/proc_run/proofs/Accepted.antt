@@ -14,11 +14,11 @@ use Rattle.journal_text.specs.Ranges.{AreInRange, IsDeclInRange}
 use Rattle.scenario_reader.specs.declared.fault.ScenarioFault.{ScenarioFault}
 use Rattle.scenario_reader.specs.Scenarios.{scenario}
 use Rattle.scenario_reader.proofs.Kernels.{answer_kernel}
-use Rattle.scenario_print.specs.Texts.{scenario_text}
-use Rattle.scenario_print.proofs.Again.{scenario_again}
+use Rattle.seed_scenarios.specs.scenario_print.specs.Texts.{scenario_text}
+use Rattle.seed_scenarios.specs.scenario_print.proofs.Again.{scenario_again}
 use Rattle.check_mode.specs.Answers.{HasLegalJournal}
 use Rattle.check_mode.proofs.Printed.{journal_behind, scenario_before}
-use Rattle.board_core.specs.Core.{Recorded}
+use Rattle.board_opening.specs.board_core.specs.Core.{Recorded}
 use Rattle.run_words.specs.declared.options.Mode.{Mode}
 use Rattle.run_words.specs.declared.options.Mode.TheVariants.{Run, Journal, Gen, Check, Page}
 use Rattle.run_words.specs.declared.options.Options.{Options}

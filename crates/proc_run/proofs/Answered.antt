@@ -26,10 +26,10 @@ use Rattle.check_mode.specs.Answers.{HasLegalJournal}
 use Rattle.check_mode.specs.Parts.{scenario_part}
 use Rattle.check_mode.proofs.Answered.{yes_so, never_no, never_bad, never_faulty}
 use Rattle.seed_scenarios.proofs.Seeded.{is_scenario}
-use Rattle.board_core.specs.cached_machine.specs.Cached.{state_of}
-use Rattle.board_core.specs.Core.{Recorded}
-use Rattle.processors.specs.alone_run.specs.cache_board.proofs.PastLaws.{shows_flat}
-use Rattle.processors.specs.alone_run.specs.board_turns.specs.Looks.{settled_on}
+use Rattle.board_opening.specs.cached_machine.specs.Cached.{state_of}
+use Rattle.board_opening.specs.board_core.specs.Core.{Recorded}
+use Rattle.board_opening.specs.cache_board.proofs.PastLaws.{shows_flat}
+use Rattle.processors.specs.board_turns.specs.Looks.{settled_on}
 use Rattle.proc_run.specs.Running.{IsRun}
 use Rattle.proc_run.specs.declared.text.Account.{Account}
 use Rattle.proc_run.specs.declared.text.Account.TheVariants as accounts

@@ -18,13 +18,13 @@ use Rattle.run_journal.specs.declared.entries.Entry.TheVariants.{Declared, Seale
 use Rattle.run_journal.specs.Entries.{erase}
 use Rattle.run_journal.specs.Legal.{first_ident}
 use Rattle.run_journal.specs.Points.{opening}
-use Rattle.board_core.specs.cached_machine.specs.Cached.{state_of}
-use Rattle.board_core.specs.Core.{IsSound, Recorded}
-use Rattle.board_core.specs.Going.{Grew}
-use Rattle.board_calls.specs.Calls.{refusal_of_seal, IsSealing}
+use Rattle.board_opening.specs.cached_machine.specs.Cached.{state_of}
+use Rattle.board_opening.specs.board_core.specs.Core.{IsSound, Recorded}
+use Rattle.board_opening.specs.board_core.specs.Going.{Grew}
+use Rattle.board_opening.specs.board_calls.specs.Calls.{refusal_of_seal, IsSealing}
 use Rattle.board_opening.specs.Openings.{AreDeclared, IsBoardOf}
-use Rattle.processors.specs.alone_run.specs.board_turns.specs.Looks.{settled_on}
-use Rattle.processors.specs.alone_run.specs.cache_board.proofs.PastLaws.{shows_flat}
+use Rattle.processors.specs.board_turns.specs.Looks.{settled_on}
+use Rattle.board_opening.specs.cache_board.proofs.PastLaws.{shows_flat}
 use Rattle.scenario_reader.specs.Scenarios.{scenario}
 use Rattle.scenario_reader.proofs.OpeningLaws.{answer_begins, opening_alike, BeginsWithMachine}
 use Rattle.proc_run.specs.Running.{HasKernel, IsRun}

@@ -19,7 +19,7 @@ use Rattle.proc_run.specs.declared.outcome.Kept.TheVariants as kept
 use Rattle.run_journal.specs.Entries.{erase, steps_in}
 use Rattle.run_journal.specs.Legal.{IsLegal}
 use Rattle.run_journal.specs.Points.{opening}
-use Rattle.board_core.specs.Core.{IsSound, Recorded}
+use Rattle.board_opening.specs.board_core.specs.Core.{IsSound, Recorded}
 use Rattle.check_mode.specs.Parts.{scenario_part, journal_part}
 use Rattle.check_mode.specs.Answers.{IsYesOn, IsNoOn, IsNoJournal}
 use Rattle.scenario_gen.specs.Generated.{text as generated}

@@ -6,8 +6,8 @@ use Rattle.flat_state.specs.declared.records.Settled.{Settled}
 use Rattle.run_journal.specs.declared.entries.Entry.{Entry}
 use Rattle.journal_text.specs.Lines.{journal_text}
 use Rattle.journal_text.specs.Ranges.{AreInRange}
-use Rattle.scenario_print.specs.Texts.{scenario_text}
-use Rattle.board_core.specs.Core.{Recorded}
+use Rattle.seed_scenarios.specs.scenario_print.specs.Texts.{scenario_text}
+use Rattle.board_opening.specs.board_core.specs.Core.{Recorded}
 use Rattle.run_words.specs.declared.options.Mode.TheVariants.{Check}
 use Rattle.run_words.specs.declared.options.Options.{Options}
 use Rattle.run_words.specs.Options.{options}

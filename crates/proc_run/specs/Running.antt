@@ -6,8 +6,8 @@ use Rattle.flat_state.specs.Events.{after_declarations}
 use Rattle.flat_state.specs.State.{nothing_declared}
 use Rattle.run_journal.specs.declared.entries.Entry.{Entry}
 use Rattle.run_journal.specs.Points.{opening}
-use Rattle.board_core.specs.Core.{IsSound, Recorded}
-use Rattle.processors.specs.alone_run.specs.board_turns.specs.Looks.{settled_on}
+use Rattle.board_opening.specs.board_core.specs.Core.{IsSound, Recorded}
+use Rattle.processors.specs.board_turns.specs.Looks.{settled_on}
 
 -- they declare a kernel
 abbrev pub HasKernel : List Decl → Type 0

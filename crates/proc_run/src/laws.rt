@@ -6,7 +6,7 @@ ghost use Rattle.flat_state.specs.declared.records.Settled.{Settled};
 ghost use Rattle.flat_state.specs.Events.{flat};
 ghost use Rattle.flat_state.specs.Settling.{settled_of};
 ghost use Rattle.run_journal.specs.Entries.{erase, steps_in};
-ghost use Rattle.board_core.specs.Core.{Recorded};
+ghost use Rattle.board_opening.specs.board_core.specs.Core.{Recorded};
 ghost use Rattle.check_mode.specs.Answers.{HasLegalJournal};
 ghost use Rattle.run_words.specs.declared.options.Options.{Options};
 ghost use Rattle.proc_run.specs.declared.outcome.Kept.{Kept};

@@ -9,8 +9,8 @@ ghost use Rattle.flat_state.specs.State.{nothing_declared};
 ghost use Rattle.run_journal.specs.declared.entries.Entry.{Entry};
 ghost use Rattle.run_journal.specs.Legal.{first_ident};
 ghost use Rattle.run_journal.specs.Points.{opening};
-ghost use Rattle.board_calls.specs.Calls.{refusal_of_seal, IsSealing};
-ghost use Rattle.processors.specs.alone_run.specs.board_turns.specs.Looks.{settled_on};
+ghost use Rattle.board_opening.specs.board_calls.specs.Calls.{refusal_of_seal, IsSealing};
+ghost use Rattle.processors.specs.board_turns.specs.Looks.{settled_on};
 ghost use Rattle.proc_run.specs.Running.{HasKernel, IsRun};
 
 use board_opening::board_of;

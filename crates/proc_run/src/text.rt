@@ -2,7 +2,7 @@
 
 ghost use Rattle.std.specs.Prelude.{◌≡◌, ◌≢◌, IfOk};
 ghost use Rattle.flat_state.specs.declared.records.Settled.TheVariants.{Running};
-ghost use Rattle.board_core.specs.cached_machine.specs.Cached.{state_of};
+ghost use Rattle.board_opening.specs.cached_machine.specs.Cached.{state_of};
 ghost use Rattle.proc_run.specs.Texts.{summary_of, text_of};
 
 use crate::run::Finished;

@@ -6,13 +6,13 @@ use Rattle.turn_lock.specs.declared.pass.Pass.{Pass}
 use Rattle.turn_lock.specs.declared.turn.Turn.{Turn}
 use Rattle.turn_lock.specs.Lists.{IsContinuedBy}
 use Rattle.turn_lock.specs.Passes.{end_of, first_of, lock_of, pass_lock, seen_of}
-use Rattle.run_journal.specs.declared.entries.Entry.{Entry}
-use Rattle.alone_run.specs.board_turns.specs.board_core.specs.Core.{Recorded}
-use Rattle.alone_run.specs.board_turns.specs.board_core.specs.Going.{IsOneEvent}
-use Rattle.alone_run.specs.board_turns.specs.cache_board.specs.Events.{author_of, past_of}
-use Rattle.alone_run.specs.board_turns.specs.cache_board.specs.Pasts.{entries_of}
-use Rattle.alone_run.specs.board_turns.specs.cache_board.proofs.PastLaws.{begins_further, event_added, found_begins, nothing_added, past_entries}
-use Rattle.alone_run.specs.board_turns.specs.app_kernel.specs.owner_ports.specs.declared.port.Heard.{Heard}
+use Rattle.alone_run.specs.run_journal.specs.declared.entries.Entry.{Entry}
+use Rattle.alone_run.specs.board_core.specs.Core.{Recorded}
+use Rattle.alone_run.specs.board_core.specs.Going.{IsOneEvent}
+use Rattle.alone_run.specs.cache_board.specs.Events.{author_of, past_of}
+use Rattle.alone_run.specs.cache_board.specs.Pasts.{entries_of}
+use Rattle.alone_run.specs.cache_board.proofs.PastLaws.{begins_further, event_added, found_begins, nothing_added, past_entries}
+use Rattle.alone_run.specs.owner_ports.specs.declared.port.Heard.{Heard}
 use Rattle.processors.specs.Sharing.{end_by, first_by, seen_by, SeesMore, Sharer, Stands}
 
 abbrev Past : Type 0

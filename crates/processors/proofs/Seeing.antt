@@ -3,15 +3,15 @@ use Rattle.std.proofs.Common.{◌≡◌, ◌≤◌, ℕ, Bool, Option, List, sym
 use Rattle.std.specs.Prelude.{IfSome}
 use mathlib.Core.List.{IsPrefix}
 use Rattle.cache_ident.specs.declared.idents.Ident.{Ident}
-use Rattle.run_journal.specs.declared.entries.Entry.{Entry}
-use Rattle.run_journal.specs.Entries.{steps_in}
-use Rattle.alone_run.specs.board_turns.specs.board_commits.specs.Tickets.{AreAllAsOf, AreOfTicket}
-use Rattle.alone_run.specs.board_turns.specs.board_core.specs.quantum.specs.Ahead.{Ahead}
-use Rattle.alone_run.specs.board_turns.specs.board_core.specs.Core.{IsSound, Recorded}
-use Rattle.alone_run.specs.board_turns.specs.cache_board.specs.Events.{past_of}
-use Rattle.alone_run.specs.board_turns.specs.cache_board.specs.Pasts.{entries_of}
-use Rattle.alone_run.specs.board_turns.specs.cache_board.proofs.PastLaws.{kept_on, views_on}
-use Rattle.alone_run.specs.board_turns.specs.board_commits.specs.board_threads.specs.declared.tickets.Ticket.{Ticket}
+use Rattle.alone_run.specs.run_journal.specs.declared.entries.Entry.{Entry}
+use Rattle.alone_run.specs.run_journal.specs.Entries.{steps_in}
+use Rattle.alone_run.specs.board_commits.specs.Tickets.{AreAllAsOf, AreOfTicket}
+use Rattle.alone_run.specs.quantum.specs.Ahead.{Ahead}
+use Rattle.alone_run.specs.board_core.specs.Core.{IsSound, Recorded}
+use Rattle.alone_run.specs.cache_board.specs.Events.{past_of}
+use Rattle.alone_run.specs.cache_board.specs.Pasts.{entries_of}
+use Rattle.alone_run.specs.cache_board.proofs.PastLaws.{kept_on, views_on}
+use Rattle.alone_run.specs.board_threads.specs.declared.tickets.Ticket.{Ticket}
 use Rattle.alone_run.specs.board_turns.specs.declared.found.Found.{Found}
 use Rattle.alone_run.specs.board_turns.specs.Looks.{IsFound}
 use Rattle.alone_run.specs.board_turns.proofs.Looking.{so_found}

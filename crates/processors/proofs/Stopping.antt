@@ -1,8 +1,8 @@
 -- Why a processor stopped.
 use Rattle.std.proofs.Common.{ℕ, ◌≤◌, List}
 use Rattle.std.specs.Prelude.{IfSome}
-use Rattle.run_journal.specs.declared.entries.Entry.{Entry}
-use Rattle.run_journal.specs.Entries.{steps_in}
+use Rattle.alone_run.specs.run_journal.specs.declared.entries.Entry.{Entry}
+use Rattle.alone_run.specs.run_journal.specs.Entries.{steps_in}
 use Rattle.alone_run.specs.board_turns.specs.Looks.{IsIdle}
 use Rattle.processors.specs.declared.run.Stop.{Stop}
 use Rattle.processors.specs.declared.run.Stop.TheVariants.{Idle, Spent, NoMemory}

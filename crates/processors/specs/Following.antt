@@ -2,9 +2,9 @@
 use Rattle.std.specs.Prelude.{◌≡◌, refl}
 use Rattle.std.proofs.Common.{◌∙◌, sym}
 use mathlib.Core.List.{IsPrefix}
-use Rattle.alone_run.specs.board_turns.specs.cache_board.specs.Pasts.{entries_of}
-use Rattle.alone_run.specs.board_turns.specs.cache_board.proofs.PastLaws.{begins_further, begins_itself, entries_begin}
-use Rattle.alone_run.specs.board_turns.specs.board_commits.specs.board_threads.specs.declared.tickets.Ticket.{Ticket}
+use Rattle.alone_run.specs.cache_board.specs.Pasts.{entries_of}
+use Rattle.alone_run.specs.cache_board.proofs.PastLaws.{begins_further, begins_itself, entries_begin}
+use Rattle.alone_run.specs.board_threads.specs.declared.tickets.Ticket.{Ticket}
 use Rattle.processors.specs.Sharing.{SeesMore, Sharer}
 
 pub goes_nowhere : (it : Sharer) → SeesMore it it

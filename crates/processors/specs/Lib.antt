@@ -1,5 +1,4 @@
-pub use Rattle.alone_run
-pub use Rattle.turn_lock
+pub use Rattle.alone_run.specs.board_turns
 pub mod Sharing
 pub mod Following
 pub mod Parts

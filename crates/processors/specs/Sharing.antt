@@ -6,10 +6,10 @@ use Rattle.turn_lock.specs.declared.history.History.{Ghosts}
 use Rattle.turn_lock.specs.declared.pass.Pass.{Pass}
 use Rattle.turn_lock.specs.declared.turn.Turn.{Turn}
 use Rattle.turn_lock.specs.Passes.{end_of, first_of, seen_of, IsPassOf}
-use Rattle.run_journal.specs.declared.entries.Entry.{Entry}
-use Rattle.run_journal.specs.Entries.{steps_in}
-use Rattle.alone_run.specs.board_turns.specs.app_kernel.specs.owner_ports.specs.declared.port.Heard.{Heard}
-use Rattle.alone_run.specs.board_turns.specs.board_core.specs.Core.{Recorded}
+use Rattle.alone_run.specs.run_journal.specs.declared.entries.Entry.{Entry}
+use Rattle.alone_run.specs.run_journal.specs.Entries.{steps_in}
+use Rattle.alone_run.specs.owner_ports.specs.declared.port.Heard.{Heard}
+use Rattle.alone_run.specs.board_core.specs.Core.{Recorded}
 use Rattle.alone_run.specs.board_turns.specs.declared.found.Found.{Found}
 use Rattle.alone_run.specs.board_turns.specs.Looks.{IsSoWhere}
 

@@ -3,9 +3,9 @@
 ghost use Rattle.std.specs.Prelude.{◌≡◌, ◌<◌, IfOk, IfSome};
 ghost use mathlib.Core.List.{IsPrefix};
 ghost use Rattle.turn_lock.specs.Passes.{found_by, held_lock, holder_end, holder_first, lock_of, value_of};
-ghost use Rattle.alone_run.specs.board_turns.specs.board_commits.specs.Tickets.{AreOfTicket};
-ghost use Rattle.alone_run.specs.board_turns.specs.board_core.specs.Going.{IsOneEvent};
-ghost use Rattle.alone_run.specs.board_turns.specs.cache_board.specs.Events.{past_of};
+ghost use Rattle.alone_run.specs.board_commits.specs.Tickets.{AreOfTicket};
+ghost use Rattle.alone_run.specs.board_core.specs.Going.{IsOneEvent};
+ghost use Rattle.alone_run.specs.cache_board.specs.Events.{past_of};
 ghost use Rattle.alone_run.specs.board_turns.specs.Holds.{AreFewer};
 ghost use Rattle.alone_run.specs.board_turns.specs.Holds as holds;
 ghost use Rattle.processors.specs.Sharing.{end_by, first_by, seen_by, IsSoOf, IsThere};

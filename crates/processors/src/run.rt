@@ -3,9 +3,9 @@
 ghost use Rattle.std.specs.Prelude.{◌≡◌, ◌<◌, ◌≤◌, IfSome};
 ghost use mathlib.Core.List.{IsPrefix};
 ghost use Rattle.turn_lock.specs.Passes.{first_of, seen_of, HasSameRange, IsPassOf};
-ghost use Rattle.run_journal.specs.Entries.{steps_in};
-ghost use Rattle.alone_run.specs.board_turns.specs.board_commits.specs.Tickets.{AreAllAsOf};
-ghost use Rattle.alone_run.specs.board_turns.specs.cache_board.specs.Pasts.{entries_of};
+ghost use Rattle.alone_run.specs.run_journal.specs.Entries.{steps_in};
+ghost use Rattle.alone_run.specs.board_commits.specs.Tickets.{AreAllAsOf};
+ghost use Rattle.alone_run.specs.cache_board.specs.Pasts.{entries_of};
 ghost use Rattle.alone_run.specs.board_turns.specs.Looks.{IsIdle};
 ghost use Rattle.processors.specs.Stops.{found_at, OnIdle, OnSpent};
 

@@ -2,7 +2,7 @@
 
 ghost use Rattle.std.specs.Prelude.{◌≡◌, ◌<◌, None, refl};
 ghost use Rattle.turn_lock.specs.Passes.{end_of, first_of, lock_of, pass_lock, seen_of, IsPassOf};
-ghost use Rattle.alone_run.specs.board_turns.specs.cache_board.specs.Pasts.{entries_of};
+ghost use Rattle.alone_run.specs.cache_board.specs.Pasts.{entries_of};
 ghost use Rattle.processors.specs.Following.{begins_with_seen, goes_further, goes_nowhere, own_stays};
 ghost use Rattle.processors.specs.Sharing.{IsSoOf, SeesMore};
 

@@ -5,7 +5,7 @@ ghost use Rattle.std.specs.List.{AllZip};
 ghost use Rattle.std.specs.Thread.{IsSync};
 ghost use mathlib.Core.List.{IsPrefix};
 ghost use Rattle.turn_lock.specs.Passes.{first_of, IsPassOf};
-ghost use Rattle.alone_run.specs.board_turns.specs.board_core.specs.Core.{IsSound};
+ghost use Rattle.alone_run.specs.board_core.specs.Core.{IsSound};
 ghost use Rattle.processors.specs.Parts.{HasGoneOn};
 
 use crate::gate::Gate;

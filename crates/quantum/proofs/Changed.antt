@@ -17,12 +17,12 @@ use Rattle.phys_groups.specs.Translation.{Translated, through, no_flag, no_right
 use Rattle.rv32_exec.specs.declared.statuses.Access.{Access}
 use Rattle.rv32_exec.specs.Pages.{Page, put_bytes, translation, is_write}
 use Rattle.rv32_exec.specs.Changes.{Change, Marked, Put}
-use Rattle.flat_state.specs.State.{FlatState}
-use Rattle.flat_state.specs.Translation.{is_fit_row, reached, rights_of, row_through, wants}
-use Rattle.flat_state.specs.Pages.{is_in, page_of as page_of_row, pages_of}
-use Rattle.flat_state.proofs.Finding.{find-contains, find-passes}
-use Rattle.flat_state.proofs.Storing.{length-put_bytes, page_at-put_bytes, page_at-put_bytes_other}
-use Rattle.flat_state.proofs.Translating.{translation-pages}
+use Rattle.flat_laws.specs.flat_state.specs.State.{FlatState}
+use Rattle.flat_laws.specs.flat_state.specs.Translation.{is_fit_row, reached, rights_of, row_through, wants}
+use Rattle.flat_laws.specs.flat_state.specs.Pages.{is_in, page_of as page_of_row, pages_of}
+use Rattle.flat_laws.specs.flat_state.proofs.Finding.{find-contains, find-passes}
+use Rattle.flat_laws.specs.flat_state.proofs.Storing.{length-put_bytes, page_at-put_bytes, page_at-put_bytes_other}
+use Rattle.flat_laws.specs.flat_state.proofs.Translating.{translation-pages}
 use Rattle.flat_laws.proofs.Members.{find-map}
 use Rattle.page_views.specs.Views.{View, page_of, pages_of_views, is_of_page, where_flagged, view_through}
 use Rattle.page_views.proofs.Tables.{translation_is}

@@ -9,11 +9,11 @@ use Rattle.phys_groups.specs.Memory.{HasFrame, page_at, with_page}
 use Rattle.phys_groups.specs.Translation.{is_row_of}
 use Rattle.phys_groups.proofs.Pages.{length-page_at, length-with_page, page_at-with_page, page_at-with_page_other}
 use Rattle.rv32_exec.specs.Changes.{Change}
-use Rattle.flat_state.specs.declared.records.FlatThread.{FlatThread}
-use Rattle.flat_state.specs.State.{FlatState, groups_of, with_thread}
-use Rattle.flat_state.specs.Pages.{is_in}
-use Rattle.flat_state.specs.WellFormed.{IsWellFormed}
-use Rattle.flat_state.proofs.Finding.{find-contains, find-passes}
+use Rattle.flat_laws.specs.flat_state.specs.declared.records.FlatThread.{FlatThread}
+use Rattle.flat_laws.specs.flat_state.specs.State.{FlatState, groups_of, with_thread}
+use Rattle.flat_laws.specs.flat_state.specs.Pages.{is_in}
+use Rattle.flat_laws.specs.flat_state.specs.WellFormed.{IsWellFormed}
+use Rattle.flat_laws.specs.flat_state.proofs.Finding.{find-contains, find-passes}
 use Rattle.flat_laws.proofs.Members.{Contains-cases, Contains-here, Contains-behind, Contains-filter, contains_nothing}
 use Rattle.flat_laws.proofs.PageBytes.{page_byte}
 use Rattle.page_views.specs.Views.{View}

@@ -9,14 +9,14 @@ use Rattle.phys_groups.specs.declared.rows.Row.{Row}
 use Rattle.phys_groups.specs.Memory.{page_at}
 use Rattle.rv32_exec.specs.Pages.{put_bytes}
 use Rattle.rv32_exec.specs.Changes.{Change, Marked, Put, all_changed}
-use Rattle.flat_state.specs.State.{FlatState, groups_of}
-use Rattle.flat_state.specs.Translation.{rights_of}
-use Rattle.flat_state.specs.Pages.{is_in, page_of, pages_in, pages_of}
-use Rattle.flat_state.specs.Rest.{is_mapped, unmarked, unmapped_page}
-use Rattle.flat_state.specs.Step.{written_back}
-use Rattle.flat_state.specs.WellFormed.{IsWellFormed}
-use Rattle.flat_state.proofs.FormedParts.{KeepsRow, rows_formed}
-use Rattle.flat_state.proofs.WritingBack.{written_back-memory, written_back-rows}
+use Rattle.flat_laws.specs.flat_state.specs.State.{FlatState, groups_of}
+use Rattle.flat_laws.specs.flat_state.specs.Translation.{rights_of}
+use Rattle.flat_laws.specs.flat_state.specs.Pages.{is_in, page_of, pages_in, pages_of}
+use Rattle.flat_laws.specs.flat_state.specs.Rest.{is_mapped, unmarked, unmapped_page}
+use Rattle.flat_laws.specs.flat_state.specs.Step.{written_back}
+use Rattle.flat_laws.specs.flat_state.specs.WellFormed.{IsWellFormed}
+use Rattle.flat_laws.specs.flat_state.proofs.FormedParts.{KeepsRow, rows_formed}
+use Rattle.flat_laws.specs.flat_state.proofs.WritingBack.{written_back-memory, written_back-rows}
 use Rattle.page_views.specs.Views.{View}
 use Rattle.quantum.specs.LocalRun.{touched_views}
 use Rattle.quantum.specs.Made.{put_on, has_mark, has_store_mark, AreOf, changed_memory, changed_state}

@@ -12,7 +12,7 @@ use Rattle.cache_ident.specs.declared.names.Name.{Name}
 use Rattle.cache_ident.specs.declared.names.Name.TheVariants.{Mapping}
 use Rattle.cache_ident.specs.declared.names.SpaceNo.{SpaceNo}
 use Rattle.rv32_exec.specs.Changes.{Change, Marked, Put}
-use Rattle.flat_state.specs.State.{FlatState}
+use Rattle.flat_laws.specs.flat_state.specs.State.{FlatState}
 use Rattle.flat_laws.proofs.Members.{Contains-filter}
 use Rattle.page_views.specs.Views.{View, Copied, copied}
 use Rattle.quantum.specs.LocalRun.{touched_views, GoesThrough, IsViewed, Shows}

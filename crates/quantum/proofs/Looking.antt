@@ -16,7 +16,7 @@ use Rattle.rv32_exec.specs.declared.statuses.Access.TheVariants.{Write}
 use Rattle.signal_pages.specs.Signals.{is_signalling}
 use Rattle.page_views.specs.Views.{View, has_message, is_of_page, where_flagged}
 use Rattle.quantum.specs.Ahead.{signals_by, signals_through}
-use Rattle.flat_state.specs.Signals.{next_action}
+use Rattle.flat_laws.specs.flat_state.specs.Signals.{next_action}
 
 pub no_action : (c : Context) (ps : List Page) → fetched ps c.pc ≡ None → next_action c ps ≡ None
 unfolding next_action

@@ -19,17 +19,17 @@ use Rattle.rv32_exec.specs.declared.steps.Stepped.TheVariants as steps
 use Rattle.rv32_exec.specs.Changes.{Change}
 use Rattle.rv32_exec.specs.Steps.{after_step}
 use Rattle.rv32_exec.proofs.StepChanges.{is_step}
-use Rattle.flat_state.specs.declared.events.Event.{Event}
-use Rattle.flat_state.specs.declared.events.Event.TheVariants.{Step}
-use Rattle.flat_state.specs.declared.records.FlatThread.{FlatThread}
-use Rattle.flat_state.specs.State.{FlatState, with_thread}
-use Rattle.flat_state.specs.Events.{applied, after_events}
-use Rattle.flat_state.specs.NextSteps.{is_miss}
-use Rattle.flat_state.specs.WellFormed.{IsWellFormed}
-use Rattle.flat_state.proofs.FormedEvents.{applied_formed}
-use Rattle.flat_state.proofs.Finding.{find-contains, find-passes}
+use Rattle.flat_laws.specs.flat_state.specs.declared.events.Event.{Event}
+use Rattle.flat_laws.specs.flat_state.specs.declared.events.Event.TheVariants.{Step}
+use Rattle.flat_laws.specs.flat_state.specs.declared.records.FlatThread.{FlatThread}
+use Rattle.flat_laws.specs.flat_state.specs.State.{FlatState, with_thread}
+use Rattle.flat_laws.specs.flat_state.specs.Events.{applied, after_events}
+use Rattle.flat_laws.specs.flat_state.specs.NextSteps.{is_miss}
+use Rattle.flat_laws.specs.flat_state.specs.WellFormed.{IsWellFormed}
+use Rattle.flat_laws.specs.flat_state.proofs.FormedEvents.{applied_formed}
+use Rattle.flat_laws.specs.flat_state.proofs.Finding.{find-contains, find-passes}
 use Rattle.std.proofs.lemmas.Option.{same_Some}
-use Rattle.flat_state.proofs.Places.{get-set_same}
+use Rattle.flat_laws.specs.flat_state.proofs.Places.{get-set_same}
 use Rattle.flat_laws.proofs.Members.{Contains-cases, Contains-here, Contains-behind, Contains-filter, Contains-map, Contains-from_map, contains_nothing}
 use Rattle.page_views.specs.Views.{can_fill, filled, is_of_page, is_touched_of, pages_of_views, present_in, refilled, Copied, Dated, Table, View}
 use Rattle.page_views.proofs.Tables.{no_view, one_filled, one_mapped}

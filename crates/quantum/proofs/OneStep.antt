@@ -24,16 +24,16 @@ use Rattle.rv32_exec.specs.declared.steps.Stepped.TheVariants.{Next, Call, Stop,
 use Rattle.rv32_exec.specs.Pages.{Page, size_of, translation}
 use Rattle.rv32_exec.specs.Changes.{Change, Marked, Put, all_changed}
 use Rattle.rv32_exec.specs.Steps.{After, after_step as after_instruction}
-use Rattle.flat_state.specs.declared.records.FlatThread.{FlatThread}
-use Rattle.flat_state.specs.declared.records.Signal.{Signal}
-use Rattle.flat_state.specs.State.{FlatState, is_ready, with_thread}
-use Rattle.flat_state.specs.Translation.{reached, row_through}
-use Rattle.flat_state.specs.Pages.{is_in, pages_of}
-use Rattle.flat_state.specs.Signals.{next_action, next_signal, signal_of, signal_through, receivers_for, full_among, is_runnable, delivered}
-use Rattle.flat_state.specs.Step.{outcome, signalled, went_on, stepped_so, stepped, step_if, step_of, after_step}
-use Rattle.flat_state.specs.NextSteps.{is_miss, row_of_access, row_of_action, next_step, next_step_of, next_step_if}
-use Rattle.flat_state.specs.WellFormed.{IsWellFormed}
-use Rattle.flat_state.proofs.Finding.{any-found, find-passes}
+use Rattle.flat_laws.specs.flat_state.specs.declared.records.FlatThread.{FlatThread}
+use Rattle.flat_laws.specs.flat_state.specs.declared.records.Signal.{Signal}
+use Rattle.flat_laws.specs.flat_state.specs.State.{FlatState, is_ready, with_thread}
+use Rattle.flat_laws.specs.flat_state.specs.Translation.{reached, row_through}
+use Rattle.flat_laws.specs.flat_state.specs.Pages.{is_in, pages_of}
+use Rattle.flat_laws.specs.flat_state.specs.Signals.{next_action, next_signal, signal_of, signal_through, receivers_for, full_among, is_runnable, delivered}
+use Rattle.flat_laws.specs.flat_state.specs.Step.{outcome, signalled, went_on, stepped_so, stepped, step_if, step_of, after_step}
+use Rattle.flat_laws.specs.flat_state.specs.NextSteps.{is_miss, row_of_access, row_of_action, next_step, next_step_of, next_step_if}
+use Rattle.flat_laws.specs.flat_state.specs.WellFormed.{IsWellFormed}
+use Rattle.flat_laws.specs.flat_state.proofs.Finding.{any-found, find-passes}
 use Rattle.flat_laws.proofs.Members.{Contains-cases, Contains-here, Contains-behind, Contains-filter, Contains-map, Contains-from_map, contains_nothing}
 use Rattle.page_views.specs.Views.{View, page_of, pages_of_views, view_through}
 use Rattle.page_views.proofs.Tables.{translation_is}

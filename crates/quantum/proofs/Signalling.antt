@@ -19,7 +19,7 @@ use Rattle.rv32_exec.specs.Actions.{action_of}
 use Rattle.rv32_exec.specs.Pages.{Page, fetched, stored, touched_at, translates}
 use Rattle.rv32_exec.specs.Registers.{next_of}
 use Rattle.rv32_exec.specs.Steps.{After, after_action, after_decoding, after_fetch, after_step}
-use Rattle.flat_state.specs.Signals.{next_action}
+use Rattle.flat_laws.specs.flat_state.specs.Signals.{next_action}
 use Rattle.page_views.specs.Views.{pages_of_views, view_through, View}
 use Rattle.page_views.proofs.Tables.{translates_is}
 use Rattle.quantum.specs.declared.paused.Paused.{Paused}

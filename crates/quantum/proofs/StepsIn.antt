@@ -22,10 +22,10 @@ use Rattle.rv32_exec.specs.Actions.{action_of}
 use Rattle.rv32_exec.specs.declared.steps.Stepped.TheVariants.{Next}
 use Rattle.rv32_exec.specs.Registers.{next_of}
 use Rattle.rv32_exec.specs.Steps.{After, ended, after_jump, advanced, load_found, store_found, write_found, read_found, after_action, after_decoding, after_fetch, after_step}
-use Rattle.flat_state.specs.NextSteps.{is_miss}
-use Rattle.flat_state.specs.Signals.{next_action}
-use Rattle.flat_state.proofs.Finding.{find-contains, find-passes}
-use Rattle.flat_state.proofs.Storing.{fits}
+use Rattle.flat_laws.specs.flat_state.specs.NextSteps.{is_miss}
+use Rattle.flat_laws.specs.flat_state.specs.Signals.{next_action}
+use Rattle.flat_laws.specs.flat_state.proofs.Finding.{find-contains, find-passes}
+use Rattle.flat_laws.specs.flat_state.proofs.Storing.{fits}
 use Rattle.quantum.specs.Made.{has_mark}
 
 -- what an access finds in the few pages it finds in the others: the frame, and the bytes

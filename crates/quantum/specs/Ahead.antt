@@ -16,7 +16,7 @@ use Rattle.rv32_exec.specs.declared.steps.Stepped.TheVariants as steps
 use Rattle.rv32_exec.specs.Pages.{Page, stored, touched_at}
 use Rattle.rv32_exec.specs.Registers.{next_of}
 use Rattle.rv32_exec.specs.Steps.{After, after_step}
-use Rattle.flat_state.specs.Signals.{next_action}
+use Rattle.flat_laws.specs.flat_state.specs.Signals.{next_action}
 use Rattle.page_views.specs.Views.{all_dated, copies_of, filled, nothing_kept, pages_of_views, view_through, Dated, View}
 use Rattle.quantum.specs.declared.paused.Paused.{Paused}
 use Rattle.quantum.specs.declared.paused.SignalStore.{SignalStore}

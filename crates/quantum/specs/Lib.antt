@@ -1,3 +1,9 @@
+pub use Rattle.page_views
+pub use Rattle.flat_laws
+pub use Rattle.flat_laws.specs.flat_state
+pub use Rattle.flat_laws.specs.writeback_order
+pub use Rattle.flat_laws.specs.depend_lists
+pub use Rattle.signal_pages
 pub mod Ahead
 pub mod LocalRun
 pub mod Made

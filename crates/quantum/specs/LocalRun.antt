@@ -8,16 +8,16 @@ use Rattle.phys_groups.specs.Memory.{page_at, with_page}
 use Rattle.phys_groups.specs.Translation.{row_of}
 use Rattle.rv32_exec.specs.declared.statuses.Status.{Status}
 use Rattle.rv32_exec.specs.declared.statuses.Status.TheVariants.{Ready, Trapped, Ended}
-use Rattle.flat_state.specs.declared.events.Event.TheVariants.{Step}
-use Rattle.flat_state.specs.declared.records.FlatThread.{FlatThread}
-use Rattle.flat_state.specs.declared.records.NextStep.{NextStep}
-use Rattle.flat_state.specs.State.{FlatState, with_thread}
-use Rattle.flat_state.specs.Translation.{is_fit_row}
-use Rattle.flat_state.specs.Pages.{is_in}
-use Rattle.flat_state.specs.Signals.{next_signal}
-use Rattle.flat_state.specs.Events.{after_events}
-use Rattle.flat_state.specs.NextSteps.{next_step}
-use Rattle.flat_state.specs.WellFormed.{IsWellFormed}
+use Rattle.flat_laws.specs.flat_state.specs.declared.events.Event.TheVariants.{Step}
+use Rattle.flat_laws.specs.flat_state.specs.declared.records.FlatThread.{FlatThread}
+use Rattle.flat_laws.specs.flat_state.specs.declared.records.NextStep.{NextStep}
+use Rattle.flat_laws.specs.flat_state.specs.State.{FlatState, with_thread}
+use Rattle.flat_laws.specs.flat_state.specs.Translation.{is_fit_row}
+use Rattle.flat_laws.specs.flat_state.specs.Pages.{is_in}
+use Rattle.flat_laws.specs.flat_state.specs.Signals.{next_signal}
+use Rattle.flat_laws.specs.flat_state.specs.Events.{after_events}
+use Rattle.flat_laws.specs.flat_state.specs.NextSteps.{next_step}
+use Rattle.flat_laws.specs.flat_state.specs.WellFormed.{IsWellFormed}
 use Rattle.page_views.specs.Views.{View}
 use Rattle.quantum.specs.declared.paused.Paused.{Paused}
 use Rattle.quantum.specs.declared.paused.Paused.TheVariants.{Limit, Call, Stopped, Miss, Signal}

@@ -5,9 +5,9 @@ use Rattle.phys_groups.specs.declared.rows.Row.{Row}
 use Rattle.phys_groups.specs.Rows.{marked}
 use Rattle.rv32_exec.specs.Pages.{put_bytes, is_write}
 use Rattle.rv32_exec.specs.Changes.{Change, Marked, Put}
-use Rattle.flat_state.specs.declared.records.FlatThread.{FlatThread}
-use Rattle.flat_state.specs.State.{FlatState, with_thread}
-use Rattle.flat_state.specs.WellFormed.{IsWellFormed}
+use Rattle.flat_laws.specs.flat_state.specs.declared.records.FlatThread.{FlatThread}
+use Rattle.flat_laws.specs.flat_state.specs.State.{FlatState, with_thread}
+use Rattle.flat_laws.specs.flat_state.specs.WellFormed.{IsWellFormed}
 use Rattle.page_views.specs.Views.{View, HaveOneViewAPage}
 use Rattle.quantum.specs.Ahead.{Ahead}
 use Rattle.quantum.specs.LocalRun.{touched_views, CouldRun, GoesThrough, state_after, status_by}

@@ -3,7 +3,7 @@
 ghost use Rattle.std.specs.Prelude.{◌≡◌, ◌+◌, ◌%◌, ◌^◌, ◌<◌, ◌≤◌, None, Some, is_some, length, IfOk, IfSome, IsTrue};
 ghost use Rattle.page_views.specs.Views.{can_fill, filled, kept_since, pages_of_views, HaveOneViewAPage};
 ghost use Rattle.rv32_exec.specs.Steps.{after_step, OnMiss};
-ghost use Rattle.flat_state.specs.Signals.{next_action};
+ghost use Rattle.flat_laws.specs.flat_state.specs.Signals.{next_action};
 ghost use Rattle.quantum.specs.Ahead.{advanced, again_with, answer_of, begun, more_with, pause_after as pause_after_def, pause_before, is_signal as is_signal_def, signal_store as signal_store_def, signals_by, standing as standing_def, store_by, unbegun, views_with, HasGone, HasSameCopies, IsRun, IsStoreAhead};
 ghost use Rattle.quantum.specs.LocalRun.{HaveOneContents, IsLocalRun};
 

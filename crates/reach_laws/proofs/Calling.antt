@@ -10,46 +10,46 @@ use Rattle.cache_ident.specs.declared.names.SpaceNo.{SpaceNo}
 use Rattle.cache_ident.specs.declared.names.ThreadNo.{ThreadNo}
 use Rattle.cache_ident.specs.Residents.{Resident, IsResident}
 use Rattle.phys_groups.specs.Rows.{row_name}
-use Rattle.rv32_exec.specs.declared.statuses.Reason.TheVariants.{Fault}
-use Rattle.rv32_exec.specs.declared.statuses.Status.TheVariants.{Ended}
-use Rattle.rv32_exec.specs.declared.steps.Stepped.{Stepped}
-use Rattle.rv32_exec.specs.declared.steps.Stepped.TheVariants.{Next, Call, Stop, Miss}
-use Rattle.rv32_exec.specs.Steps.{After}
-use Rattle.flat_state.specs.declared.events.Event.{Event}
-use Rattle.flat_state.specs.declared.events.Event.TheVariants.{Step}
-use Rattle.flat_state.specs.declared.records.FlatThread.{FlatThread}
-use Rattle.flat_state.specs.declared.records.NextStep.{NextStep}
-use Rattle.flat_state.specs.Call.{is_completable}
-use Rattle.flat_state.specs.Events.{applied}
-use Rattle.flat_state.specs.NextSteps.{faults, fetch_row, is_miss, next_step, next_step_if, next_step_of}
-use Rattle.flat_state.specs.Signals.{is_runnable}
-use Rattle.flat_state.specs.State.{is_ended, is_ready, FlatState}
-use Rattle.flat_state.specs.Step.{after_step, outcome, step_if, step_of, stepped, stepped_so}
-use Rattle.flat_state.specs.Translation.{fault_kind, reached}
-use Rattle.flat_state.proofs.Places.{get-set_same}
-use Rattle.run_journal.specs.declared.entries.Entry.{Entry}
-use Rattle.run_journal.specs.declared.entries.Entry.TheVariants as entry
-use Rattle.run_journal.specs.Entries.{erase, is_step, steps_in}
-use Rattle.run_journal.specs.Legal.{AreLegal, IsRowResident, MayStep}
-use Rattle.run_journal.specs.Told.{nothing_told, told}
-use Rattle.run_journal.proofs.Growth.{erase-append, legal-split, steps-append}
-use Rattle.board_core.specs.desc_stores.specs.Contents.{residents_of}
-use Rattle.board_core.specs.desc_groups.specs.Moves.{gone_as}
-use Rattle.board_core.specs.desc_parents.specs.Seen.{seen}
-use Rattle.board_core.specs.shown_state.specs.Shown.{shown}
-use Rattle.board_core.specs.store_residents.proofs.ResidentLemmas.{one_each}
-use Rattle.board_core.specs.cached_machine.specs.Cached.{state_of}
-use Rattle.board_core.specs.cached_machine.specs.Posts.{mark_of}
-use Rattle.board_core.specs.Core.{contents_of, IsSound, Recorded}
-use Rattle.board_core.proofs.GrowthLaws.{erase_back}
+use Rattle.board_calls.specs.rv32_exec.specs.declared.statuses.Reason.TheVariants.{Fault}
+use Rattle.board_calls.specs.rv32_exec.specs.declared.statuses.Status.TheVariants.{Ended}
+use Rattle.board_calls.specs.rv32_exec.specs.declared.steps.Stepped.{Stepped}
+use Rattle.board_calls.specs.rv32_exec.specs.declared.steps.Stepped.TheVariants.{Next, Call, Stop, Miss}
+use Rattle.board_calls.specs.rv32_exec.specs.Steps.{After}
+use Rattle.board_calls.specs.flat_state.specs.declared.events.Event.{Event}
+use Rattle.board_calls.specs.flat_state.specs.declared.events.Event.TheVariants.{Step}
+use Rattle.board_calls.specs.flat_state.specs.declared.records.FlatThread.{FlatThread}
+use Rattle.board_calls.specs.flat_state.specs.declared.records.NextStep.{NextStep}
+use Rattle.board_calls.specs.flat_state.specs.Call.{is_completable}
+use Rattle.board_calls.specs.flat_state.specs.Events.{applied}
+use Rattle.board_calls.specs.flat_state.specs.NextSteps.{faults, fetch_row, is_miss, next_step, next_step_if, next_step_of}
+use Rattle.board_calls.specs.flat_state.specs.Signals.{is_runnable}
+use Rattle.board_calls.specs.flat_state.specs.State.{is_ended, is_ready, FlatState}
+use Rattle.board_calls.specs.flat_state.specs.Step.{after_step, outcome, step_if, step_of, stepped, stepped_so}
+use Rattle.board_calls.specs.flat_state.specs.Translation.{fault_kind, reached}
+use Rattle.board_calls.specs.flat_state.proofs.Places.{get-set_same}
+use Rattle.board_calls.specs.run_journal.specs.declared.entries.Entry.{Entry}
+use Rattle.board_calls.specs.run_journal.specs.declared.entries.Entry.TheVariants as entry
+use Rattle.board_calls.specs.run_journal.specs.Entries.{erase, is_step, steps_in}
+use Rattle.board_calls.specs.run_journal.specs.Legal.{AreLegal, IsRowResident, MayStep}
+use Rattle.board_calls.specs.run_journal.specs.Told.{nothing_told, told}
+use Rattle.board_calls.specs.run_journal.proofs.Growth.{erase-append, legal-split, steps-append}
+use Rattle.board_calls.specs.desc_stores.specs.Contents.{residents_of}
+use Rattle.board_calls.specs.desc_groups.specs.Moves.{gone_as}
+use Rattle.board_calls.specs.desc_parents.specs.Seen.{seen}
+use Rattle.board_calls.specs.shown_state.specs.Shown.{shown}
+use Rattle.board_calls.specs.store_residents.proofs.ResidentLemmas.{one_each}
+use Rattle.board_calls.specs.cached_machine.specs.Cached.{state_of}
+use Rattle.board_calls.specs.cached_machine.specs.Posts.{mark_of}
+use Rattle.board_calls.specs.board_core.specs.Core.{contents_of, IsSound, Recorded}
+use Rattle.board_calls.specs.board_core.proofs.GrowthLaws.{erase_back}
 use Rattle.board_calls.specs.Calls.{IsCompletion}
 use Rattle.board_calls.specs.Departures.{LeaveInTurn, LeavesIfThere}
-use Rattle.board_checks.specs.Refusals.{refusal_of_complete}
-use Rattle.board_threads.specs.Faults.{HasEnded}
-use Rattle.board_threads.specs.Refusals.{refusal_of_fault}
-use Rattle.answer_laws.proofs.CallAnswers.{call_right, fault_right}
-use Rattle.owners.specs.Known.{Known}
-use Rattle.owners.specs.Owning.{IsThreadOf}
+use Rattle.board_calls.specs.board_checks.specs.Refusals.{refusal_of_complete}
+use Rattle.owner_laws.specs.board_threads.specs.Faults.{HasEnded}
+use Rattle.owner_laws.specs.board_threads.specs.Refusals.{refusal_of_fault}
+use Rattle.owner_laws.specs.answer_laws.proofs.CallAnswers.{call_right, fault_right}
+use Rattle.owner_laws.specs.owners.specs.Known.{Known}
+use Rattle.owner_laws.specs.owners.specs.Owning.{IsThreadOf}
 use Rattle.reach_laws.specs.Reaching.{IsOwned, IsReached}
 
 -- ---- calls for a thread of a space that is reached

@@ -12,22 +12,22 @@ use Rattle.cache_ident.specs.declared.names.Vpn.{Vpn}
 use Rattle.cache_ident.specs.Residents.{Resident, IsNameResident, IsResident}
 use Rattle.phys_groups.specs.declared.rows.Row.{Row}
 use Rattle.phys_groups.specs.Translation.{row_of}
-use Rattle.flat_state.specs.State.{FlatState}
-use Rattle.flat_state.specs.Translation.{is_fit_row}
-use Rattle.board_core.specs.desc_stores.specs.Contents.{residents_of}
-use Rattle.board_core.specs.board_ops.specs.declared.refusals.Refused.{Refused}
-use Rattle.board_core.specs.board_ops.specs.declared.refusals.Refused.TheVariants as why
-use Rattle.board_core.specs.cached_machine.specs.Cached.{state_of}
-use Rattle.board_core.specs.Answers.{IsRefused}
-use Rattle.board_core.specs.Core.{contents_of, IsSound, Recorded}
-use Rattle.board_core.specs.Growth.{IsRoomMade}
-use Rattle.board_core.proofs.RoomLaws.{same_residents}
-use Rattle.board_checks.specs.Identifiers.{space_as}
-use Rattle.board_checks.specs.Refusals.{refusal_of_load_mapping}
-use Rattle.board_loads.specs.Loads.{IsLoadedAs}
-use Rattle.board_loads.proofs.GoneLaws.{new_cases}
-use Rattle.answer_laws.specs.Given.{IsGiven}
-use Rattle.owners.specs.Known.{ident_of, Known}
+use Rattle.board_calls.specs.flat_state.specs.State.{FlatState}
+use Rattle.board_calls.specs.flat_state.specs.Translation.{is_fit_row}
+use Rattle.board_calls.specs.desc_stores.specs.Contents.{residents_of}
+use Rattle.board_calls.specs.board_ops.specs.declared.refusals.Refused.{Refused}
+use Rattle.board_calls.specs.board_ops.specs.declared.refusals.Refused.TheVariants as why
+use Rattle.board_calls.specs.cached_machine.specs.Cached.{state_of}
+use Rattle.board_calls.specs.board_core.specs.Answers.{IsRefused}
+use Rattle.board_calls.specs.board_core.specs.Core.{contents_of, IsSound, Recorded}
+use Rattle.board_calls.specs.board_core.specs.Growth.{IsRoomMade}
+use Rattle.board_calls.specs.board_core.proofs.RoomLaws.{same_residents}
+use Rattle.board_calls.specs.board_checks.specs.Identifiers.{space_as}
+use Rattle.board_calls.specs.board_checks.specs.Refusals.{refusal_of_load_mapping}
+use Rattle.board_calls.specs.board_loads.specs.Loads.{IsLoadedAs}
+use Rattle.board_calls.specs.board_loads.proofs.GoneLaws.{new_cases}
+use Rattle.owner_laws.specs.answer_laws.specs.Given.{IsGiven}
+use Rattle.owner_laws.specs.owners.specs.Known.{ident_of, Known}
 use Rattle.reach_laws.specs.Filling.{HasUnfitRow, IsElse, IsFillable, IsNothingToLoad, IsUnfillable}
 use Rattle.reach_laws.specs.Reaching.{IsGot, IsLoadAnswer, IsOwned, IsPlainLoaded, IsReached}
 use Rattle.reach_laws.proofs.Keeping.{was_absent}

@@ -15,30 +15,30 @@ use Rattle.cache_ident.specs.Residents.{Resident, IsNameResident, IsResident}
 use Rattle.phys_groups.specs.declared.rows.Row.{Row}
 use Rattle.phys_groups.specs.Rows.{row_name}
 use Rattle.phys_groups.specs.Translation.{is_row_of, row_of}
-use Rattle.flat_laws.proofs.Members.{Contains-here}
-use Rattle.flat_state.specs.Dependence.{directly, further, parents, parents_of_found, signal_rows_of, Depends, DependsFar}
-use Rattle.flat_state.specs.State.{FlatState}
-use Rattle.flat_state.proofs.Finding.{find-passes}
-use Rattle.run_journal.specs.declared.entries.Entry.{Entry}
-use Rattle.run_journal.specs.declared.entries.Entry.TheVariants.{Loaded}
-use Rattle.run_journal.specs.Entries.{is_step, steps_in}
-use Rattle.flat_state.specs.declared.events.Event.{Event}
-use Rattle.run_journal.proofs.Growth.{steps-append}
-use Rattle.board_core.specs.desc_stores.specs.Contents.{residents_of}
-use Rattle.board_core.specs.desc_parents.specs.Seen.{seen}
-use Rattle.board_core.specs.shown_state.specs.Shown.{shown}
-use Rattle.board_core.specs.store_residents.proofs.ContentLemmas.{shelved_iff}
-use Rattle.board_core.specs.board_laws.specs.Moves.{written_back}
-use Rattle.board_core.specs.board_ops.specs.declared.refusals.Refused.{Refused}
-use Rattle.board_core.specs.cached_machine.specs.Cached.{state_of}
-use Rattle.board_core.specs.Core.{contents_of, IsSound, Recorded}
-use Rattle.board_core.specs.Growth.{IsRoomMade}
-use Rattle.board_core.proofs.RoomLaws.{same_residents}
-use Rattle.board_loads.specs.Loads.{IsLoadedAs}
-use Rattle.board_loads.proofs.GoneLaws.{erase_load}
-use Rattle.answer_laws.proofs.KeptParents.{all_kept}
-use Rattle.owners.specs.Known.{Known}
-use Rattle.owners.specs.Owning.{IsThreadOf}
+use Rattle.board_calls.specs.flat_laws.proofs.Members.{Contains-here}
+use Rattle.board_calls.specs.flat_state.specs.Dependence.{directly, further, parents, parents_of_found, signal_rows_of, Depends, DependsFar}
+use Rattle.board_calls.specs.flat_state.specs.State.{FlatState}
+use Rattle.board_calls.specs.flat_state.proofs.Finding.{find-passes}
+use Rattle.board_calls.specs.run_journal.specs.declared.entries.Entry.{Entry}
+use Rattle.board_calls.specs.run_journal.specs.declared.entries.Entry.TheVariants.{Loaded}
+use Rattle.board_calls.specs.run_journal.specs.Entries.{is_step, steps_in}
+use Rattle.board_calls.specs.flat_state.specs.declared.events.Event.{Event}
+use Rattle.board_calls.specs.run_journal.proofs.Growth.{steps-append}
+use Rattle.board_calls.specs.desc_stores.specs.Contents.{residents_of}
+use Rattle.board_calls.specs.desc_parents.specs.Seen.{seen}
+use Rattle.board_calls.specs.shown_state.specs.Shown.{shown}
+use Rattle.board_calls.specs.store_residents.proofs.ContentLemmas.{shelved_iff}
+use Rattle.board_calls.specs.board_laws.specs.Moves.{written_back}
+use Rattle.board_calls.specs.board_ops.specs.declared.refusals.Refused.{Refused}
+use Rattle.board_calls.specs.cached_machine.specs.Cached.{state_of}
+use Rattle.board_calls.specs.board_core.specs.Core.{contents_of, IsSound, Recorded}
+use Rattle.board_calls.specs.board_core.specs.Growth.{IsRoomMade}
+use Rattle.board_calls.specs.board_core.proofs.RoomLaws.{same_residents}
+use Rattle.board_calls.specs.board_loads.specs.Loads.{IsLoadedAs}
+use Rattle.board_calls.specs.board_loads.proofs.GoneLaws.{erase_load}
+use Rattle.owner_laws.specs.answer_laws.proofs.KeptParents.{all_kept}
+use Rattle.owner_laws.specs.owners.specs.Known.{Known}
+use Rattle.owner_laws.specs.owners.specs.Owning.{IsThreadOf}
 use Rattle.reach_laws.specs.Reaching.{IsLoadAnswer, IsReached}
 use Rattle.reach_laws.proofs.Showing.{space_depends, thread_depends}
 

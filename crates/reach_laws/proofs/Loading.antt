@@ -15,28 +15,28 @@ use Rattle.cache_ident.specs.declared.names.Vpn.{Vpn}
 use Rattle.cache_ident.specs.Residents.{Resident, IsNameResident, IsResident}
 use Rattle.phys_groups.specs.declared.rows.Row.{Row}
 use Rattle.phys_groups.specs.Translation.{row_of}
-use Rattle.flat_state.specs.declared.records.FlatKernel.{FlatKernel}
-use Rattle.flat_state.specs.Names.{is_fit_found, is_fit_name}
-use Rattle.flat_state.specs.State.{FlatState}
-use Rattle.flat_state.specs.Translation.{is_fit_row}
-use Rattle.run_journal.specs.Legal.{first_ident}
-use Rattle.board_core.specs.desc_stores.specs.Contents.{residents_of}
-use Rattle.board_core.specs.desc_stores.specs.Sound.{IsExactlyOne}
-use Rattle.board_core.specs.desc_parents.specs.Seen.{seen}
-use Rattle.board_core.specs.shown_state.specs.Shown.{shown}
-use Rattle.board_core.specs.board_ops.specs.declared.refusals.Refused.{Refused}
-use Rattle.board_core.specs.board_ops.specs.declared.refusals.Refused.TheVariants as why
-use Rattle.board_core.specs.cached_machine.specs.Cached.{state_of}
-use Rattle.board_core.specs.Answers.{IsRefused}
-use Rattle.board_core.specs.Core.{contents_of, Recorded}
-use Rattle.board_core.proofs.RoomLaws.{same_residents}
-use Rattle.board_checks.specs.Refusals.{already_loaded, beyond_rights, not_owner, receivers_absent, refusal_of_load_kernel, refusal_of_load_mapping, refusal_of_load_space, refusal_of_load_thread, wrong_parent}
-use Rattle.board_checks.proofs.LoadLemmas.{absent_tested}
-use Rattle.answer_laws.specs.Given.{IsGiven}
-use Rattle.answer_laws.proofs.LoadAnswers.{absent, kernel_right, no_row_answers, plain_passes, row_answers, row_right, space_right, thread_answers, thread_right, told, unfit_told, fit_passes}
-use Rattle.answer_laws.proofs.Passing.{owns_itself, skip}
-use Rattle.owners.specs.Known.{home_of, Known}
-use Rattle.owners.specs.Owning.{IsThreadOf}
+use Rattle.board_calls.specs.flat_state.specs.declared.records.FlatKernel.{FlatKernel}
+use Rattle.board_calls.specs.flat_state.specs.Names.{is_fit_found, is_fit_name}
+use Rattle.board_calls.specs.flat_state.specs.State.{FlatState}
+use Rattle.board_calls.specs.flat_state.specs.Translation.{is_fit_row}
+use Rattle.board_calls.specs.run_journal.specs.Legal.{first_ident}
+use Rattle.board_calls.specs.desc_stores.specs.Contents.{residents_of}
+use Rattle.board_calls.specs.desc_stores.specs.Sound.{IsExactlyOne}
+use Rattle.board_calls.specs.desc_parents.specs.Seen.{seen}
+use Rattle.board_calls.specs.shown_state.specs.Shown.{shown}
+use Rattle.board_calls.specs.board_ops.specs.declared.refusals.Refused.{Refused}
+use Rattle.board_calls.specs.board_ops.specs.declared.refusals.Refused.TheVariants as why
+use Rattle.board_calls.specs.cached_machine.specs.Cached.{state_of}
+use Rattle.board_calls.specs.board_core.specs.Answers.{IsRefused}
+use Rattle.board_calls.specs.board_core.specs.Core.{contents_of, Recorded}
+use Rattle.board_calls.specs.board_core.proofs.RoomLaws.{same_residents}
+use Rattle.board_calls.specs.board_checks.specs.Refusals.{already_loaded, beyond_rights, not_owner, receivers_absent, refusal_of_load_kernel, refusal_of_load_mapping, refusal_of_load_space, refusal_of_load_thread, wrong_parent}
+use Rattle.board_calls.specs.board_checks.proofs.LoadLemmas.{absent_tested}
+use Rattle.owner_laws.specs.answer_laws.specs.Given.{IsGiven}
+use Rattle.owner_laws.specs.answer_laws.proofs.LoadAnswers.{absent, kernel_right, no_row_answers, plain_passes, row_answers, row_right, space_right, thread_answers, thread_right, told, unfit_told, fit_passes}
+use Rattle.owner_laws.specs.answer_laws.proofs.Passing.{owns_itself, skip}
+use Rattle.owner_laws.specs.owners.specs.Known.{home_of, Known}
+use Rattle.owner_laws.specs.owners.specs.Owning.{IsThreadOf}
 use Rattle.reach_laws.specs.Reaching.{loaded_as, IsGot, IsLoadAnswer, IsOwned, IsReached}
 use Rattle.reach_laws.specs.Searching.{space_told, IsNearer}
 use Rattle.reach_laws.proofs.Keeping.{live_after, reached_after, row_far, row_further, space_far, thread_far, thread_further}

@@ -12,18 +12,18 @@ use Rattle.cache_ident.specs.declared.names.ThreadNo.{ThreadNo}
 use Rattle.cache_ident.specs.declared.names.Vpn.{Vpn}
 use Rattle.cache_ident.specs.Names.{first_name}
 use Rattle.cache_ident.specs.Residents.{Resident, IsResident}
-use Rattle.flat_state.specs.State.{FlatState}
-use Rattle.kind_store.proofs.ContentLemmas.{cases_name}
-use Rattle.run_journal.specs.Legal.{first_ident}
-use Rattle.board_core.specs.desc_stores.specs.Contents.{residents_of}
-use Rattle.board_core.specs.board_laws.proofs.First.{first, first_there}
-use Rattle.board_core.specs.cached_machine.specs.Cached.{state_of}
-use Rattle.board_core.specs.Core.{contents_of, IsSound, Recorded}
-use Rattle.board_core.specs.Going.{Grew}
-use Rattle.owners.specs.Keys.{is_name}
-use Rattle.owners.specs.Known.{ident_of, receiver_of, space_of, IsNoted, IsReceiverLearnt, IsSpaceLearnt, Known}
-use Rattle.owners.specs.Owning.{IsThreadOf}
-use Rattle.owners.proofs.Learning.{noted_so, receiver_so, space_so}
+use Rattle.board_calls.specs.flat_state.specs.State.{FlatState}
+use Rattle.board_calls.specs.kind_store.proofs.ContentLemmas.{cases_name}
+use Rattle.board_calls.specs.run_journal.specs.Legal.{first_ident}
+use Rattle.board_calls.specs.desc_stores.specs.Contents.{residents_of}
+use Rattle.board_calls.specs.board_laws.proofs.First.{first, first_there}
+use Rattle.board_calls.specs.cached_machine.specs.Cached.{state_of}
+use Rattle.board_calls.specs.board_core.specs.Core.{contents_of, IsSound, Recorded}
+use Rattle.board_calls.specs.board_core.specs.Going.{Grew}
+use Rattle.owner_laws.specs.owners.specs.Keys.{is_name}
+use Rattle.owner_laws.specs.owners.specs.Known.{ident_of, receiver_of, space_of, IsNoted, IsReceiverLearnt, IsSpaceLearnt, Known}
+use Rattle.owner_laws.specs.owners.specs.Owning.{IsThreadOf}
+use Rattle.owner_laws.specs.owners.proofs.Learning.{noted_so, receiver_so, space_so}
 use Rattle.owner_laws.proofs.Naming.{owners_stay, was_loaded}
 use Rattle.reach_laws.specs.Reaching.{IsOwned, IsReached}
 use Rattle.reach_laws.proofs.Showing.{shows}

@@ -15,25 +15,25 @@ use Rattle.cache_ident.specs.Residents.{Resident, IsNameResident, IsResident}
 use Rattle.phys_groups.specs.declared.rows.Row.{Row}
 use Rattle.phys_groups.specs.Rows.{row_name}
 use Rattle.phys_groups.specs.Translation.{row_of}
-use Rattle.signal_pages.specs.Signals.{is_signal_row_of}
-use Rattle.flat_laws.proofs.Members.{Contains-behind, Contains-cases, Contains-here, contains_nothing}
-use Rattle.flat_state.specs.Dependence.{parents, parents_of_found, signal_rows_of, Depends}
-use Rattle.flat_state.specs.State.{FlatState}
-use Rattle.flat_state.specs.Translation.{is_fit_row}
-use Rattle.board_core.specs.desc_stores.specs.Contents.{residents_of}
-use Rattle.board_core.specs.desc_stores.specs.Sound.{IsExactlyOne}
-use Rattle.board_core.specs.desc_parents.specs.Seen.{seen}
-use Rattle.board_core.specs.desc_tables.proofs.Remaining.{KeepsParentsOfKept}
-use Rattle.board_core.specs.shown_state.specs.Shown.{shown}
-use Rattle.board_core.specs.store_residents.proofs.ResidentLemmas.{one_each, resident_kind}
-use Rattle.board_core.specs.board_laws.specs.Moves.{IsLoad}
-use Rattle.board_core.specs.board_ops.specs.declared.refusals.Refused.{Refused}
-use Rattle.board_core.specs.cached_machine.specs.Cached.{state_of}
-use Rattle.board_core.specs.Core.{contents_of, IsSound, Recorded}
-use Rattle.board_core.specs.Growth.{IsRoomMade}
-use Rattle.board_loads.specs.Loads.{IsLoadedAs}
-use Rattle.board_loads.proofs.GoneLaws.{kept_is_there}
-use Rattle.owners.specs.Owning.{IsThreadOf}
+use Rattle.board_calls.specs.signal_pages.specs.Signals.{is_signal_row_of}
+use Rattle.board_calls.specs.flat_laws.proofs.Members.{Contains-behind, Contains-cases, Contains-here, contains_nothing}
+use Rattle.board_calls.specs.flat_state.specs.Dependence.{parents, parents_of_found, signal_rows_of, Depends}
+use Rattle.board_calls.specs.flat_state.specs.State.{FlatState}
+use Rattle.board_calls.specs.flat_state.specs.Translation.{is_fit_row}
+use Rattle.board_calls.specs.desc_stores.specs.Contents.{residents_of}
+use Rattle.board_calls.specs.desc_stores.specs.Sound.{IsExactlyOne}
+use Rattle.board_calls.specs.desc_parents.specs.Seen.{seen}
+use Rattle.board_calls.specs.desc_tables.proofs.Remaining.{KeepsParentsOfKept}
+use Rattle.board_calls.specs.shown_state.specs.Shown.{shown}
+use Rattle.board_calls.specs.store_residents.proofs.ResidentLemmas.{one_each, resident_kind}
+use Rattle.board_calls.specs.board_laws.specs.Moves.{IsLoad}
+use Rattle.board_calls.specs.board_ops.specs.declared.refusals.Refused.{Refused}
+use Rattle.board_calls.specs.cached_machine.specs.Cached.{state_of}
+use Rattle.board_calls.specs.board_core.specs.Core.{contents_of, IsSound, Recorded}
+use Rattle.board_calls.specs.board_core.specs.Growth.{IsRoomMade}
+use Rattle.board_calls.specs.board_loads.specs.Loads.{IsLoadedAs}
+use Rattle.board_calls.specs.board_loads.proofs.GoneLaws.{kept_is_there}
+use Rattle.owner_laws.specs.owners.specs.Owning.{IsThreadOf}
 use Rattle.reach_laws.specs.Reaching.{IsLoadAnswer, IsPlainLoaded}
 use Rattle.reach_laws.proofs.Keeping.{live_still, row_near, row_space, thread_near, was_absent}
 use Rattle.reach_laws.proofs.Showing.{space_depends}

@@ -7,19 +7,19 @@ use Rattle.cache_ident.specs.declared.names.KernelNo.{KernelNo}
 use Rattle.cache_ident.specs.declared.names.Name.TheVariants as name
 use Rattle.cache_ident.specs.declared.names.SpaceNo.{SpaceNo}
 use Rattle.cache_ident.specs.declared.names.ThreadNo.{ThreadNo}
-use Rattle.flat_laws.proofs.Members.{Contains-here}
-use Rattle.flat_state.specs.declared.records.FlatKernel.{FlatKernel}
-use Rattle.flat_state.specs.declared.records.FlatThread.{FlatThread}
-use Rattle.flat_state.specs.Dependence.{parents, Depends}
-use Rattle.flat_state.specs.Events.{flat}
-use Rattle.flat_state.specs.State.{FlatState}
-use Rattle.flat_state.specs.WellFormed.{IsWellFormed}
-use Rattle.flat_state.proofs.FormedEvents.{flat_formed}
-use Rattle.run_journal.specs.Entries.{erase}
-use Rattle.run_journal.proofs.LegalGrowth.{state_told}
-use Rattle.board_core.specs.cached_machine.specs.Cached.{state_of}
-use Rattle.board_core.specs.Core.{IsSound, Recorded}
-use Rattle.owners.specs.Owning.{IsThreadOf}
+use Rattle.board_calls.specs.flat_laws.proofs.Members.{Contains-here}
+use Rattle.board_calls.specs.flat_state.specs.declared.records.FlatKernel.{FlatKernel}
+use Rattle.board_calls.specs.flat_state.specs.declared.records.FlatThread.{FlatThread}
+use Rattle.board_calls.specs.flat_state.specs.Dependence.{parents, Depends}
+use Rattle.board_calls.specs.flat_state.specs.Events.{flat}
+use Rattle.board_calls.specs.flat_state.specs.State.{FlatState}
+use Rattle.board_calls.specs.flat_state.specs.WellFormed.{IsWellFormed}
+use Rattle.board_calls.specs.flat_state.proofs.FormedEvents.{flat_formed}
+use Rattle.board_calls.specs.run_journal.specs.Entries.{erase}
+use Rattle.board_calls.specs.run_journal.proofs.LegalGrowth.{state_told}
+use Rattle.board_calls.specs.cached_machine.specs.Cached.{state_of}
+use Rattle.board_calls.specs.board_core.specs.Core.{IsSound, Recorded}
+use Rattle.owner_laws.specs.owners.specs.Owning.{IsThreadOf}
 
 -- the machine that it shows is that which its journal makes
 pub shows : (b : Recorded) → IsSound b → flat (erase b.journal.entries) ≡ state_of b.machine

@@ -19,35 +19,35 @@ use Rattle.cache_ident.specs.Residents.{IsResident}
 use Rattle.cache_ident.specs.Rolls.{standing_in}
 use Rattle.phys_groups.specs.declared.rows.Row.{Row}
 use Rattle.phys_groups.specs.Translation.{row_of}
-use Rattle.flat_state.specs.declared.records.FlatThread.{FlatThread}
-use Rattle.flat_state.specs.declared.records.NextStep.{NextStep}
-use Rattle.flat_state.specs.Dependence.{owner, signal_rows_of}
-use Rattle.flat_state.specs.Names.{is_fit_found, is_fit_name, stands}
-use Rattle.flat_state.specs.NextSteps.{faults, next_step_if, next_step_of}
-use Rattle.flat_state.specs.State.{is_ready}
-use Rattle.flat_state.specs.Translation.{is_fit_row}
-use Rattle.run_journal.specs.Legal.{is_kind}
-use Rattle.board_core.specs.desc_stores.specs.declared.items.Item.{Item}
-use Rattle.board_core.specs.desc_stores.specs.declared.items.Item.TheVariants as item
-use Rattle.board_core.specs.desc_stores.specs.Contents.{item_as, residents_of, Contents}
-use Rattle.board_core.specs.desc_parents.specs.Idents.{ident_of as ident_among}
-use Rattle.board_core.specs.desc_parents.specs.Seen.{seen}
-use Rattle.board_core.specs.shown_state.specs.Shown.{shown}
-use Rattle.board_core.specs.store_residents.proofs.ResidentLemmas.{live_iff}
-use Rattle.board_core.specs.board_ops.specs.declared.refusals.Refused.{Refused}
-use Rattle.board_core.specs.board_ops.specs.declared.refusals.Refused.TheVariants as why
-use Rattle.board_core.specs.cached_machine.specs.Cached.{is_loaded, state_of}
-use Rattle.board_core.specs.cached_machine.specs.Posts.{mark_of}
-use Rattle.board_core.specs.Core.{contents_of, Recorded}
-use Rattle.board_core.specs.Refusals.{not_ready, not_waiting, over}
-use Rattle.board_checks.specs.Identifiers.{gone_by, kernel_as, name_as, not_a, not_a_receiver, not_live, receiver_as, space_as, space_number, thread_as, wrong_kind}
-use Rattle.board_checks.specs.Refusals.{already_loaded, beyond_rights, is_absent, not_declared, not_owned, not_owned_as, not_owner, receivers_absent, refusal_in_space, refusal_of_load_mapping, refusal_of_row, refusal_of_thread, wrong_receiver}
-use Rattle.board_checks.proofs.IdentifierLemmas.{item_resident, thread_is}
-use Rattle.board_loads.specs.Loads.{IsLoadedAs}
-use Rattle.board_threads.specs.Refusals.{mapped_by, not_faulting, refusal_of_ending, refusal_of_fault, refusal_of_next, row_absent}
-use Rattle.answer_laws.proofs.CallAnswers.{found}
-use Rattle.answer_laws.proofs.LoadAnswers.{plain_passes, told}
-use Rattle.owners.specs.Known.{ident_of, Known}
+use Rattle.board_calls.specs.flat_state.specs.declared.records.FlatThread.{FlatThread}
+use Rattle.board_calls.specs.flat_state.specs.declared.records.NextStep.{NextStep}
+use Rattle.board_calls.specs.flat_state.specs.Dependence.{owner, signal_rows_of}
+use Rattle.board_calls.specs.flat_state.specs.Names.{is_fit_found, is_fit_name, stands}
+use Rattle.board_calls.specs.flat_state.specs.NextSteps.{faults, next_step_if, next_step_of}
+use Rattle.board_calls.specs.flat_state.specs.State.{is_ready}
+use Rattle.board_calls.specs.flat_state.specs.Translation.{is_fit_row}
+use Rattle.board_calls.specs.run_journal.specs.Legal.{is_kind}
+use Rattle.board_calls.specs.desc_stores.specs.declared.items.Item.{Item}
+use Rattle.board_calls.specs.desc_stores.specs.declared.items.Item.TheVariants as item
+use Rattle.board_calls.specs.desc_stores.specs.Contents.{item_as, residents_of, Contents}
+use Rattle.board_calls.specs.desc_parents.specs.Idents.{ident_of as ident_among}
+use Rattle.board_calls.specs.desc_parents.specs.Seen.{seen}
+use Rattle.board_calls.specs.shown_state.specs.Shown.{shown}
+use Rattle.board_calls.specs.store_residents.proofs.ResidentLemmas.{live_iff}
+use Rattle.board_calls.specs.board_ops.specs.declared.refusals.Refused.{Refused}
+use Rattle.board_calls.specs.board_ops.specs.declared.refusals.Refused.TheVariants as why
+use Rattle.board_calls.specs.cached_machine.specs.Cached.{is_loaded, state_of}
+use Rattle.board_calls.specs.cached_machine.specs.Posts.{mark_of}
+use Rattle.board_calls.specs.board_core.specs.Core.{contents_of, Recorded}
+use Rattle.board_calls.specs.board_core.specs.Refusals.{not_ready, not_waiting, over}
+use Rattle.board_calls.specs.board_checks.specs.Identifiers.{gone_by, kernel_as, name_as, not_a, not_a_receiver, not_live, receiver_as, space_as, space_number, thread_as, wrong_kind}
+use Rattle.board_calls.specs.board_checks.specs.Refusals.{already_loaded, beyond_rights, is_absent, not_declared, not_owned, not_owned_as, not_owner, receivers_absent, refusal_in_space, refusal_of_load_mapping, refusal_of_row, refusal_of_thread, wrong_receiver}
+use Rattle.board_calls.specs.board_checks.proofs.IdentifierLemmas.{item_resident, thread_is}
+use Rattle.board_calls.specs.board_loads.specs.Loads.{IsLoadedAs}
+use Rattle.owner_laws.specs.board_threads.specs.Refusals.{mapped_by, not_faulting, refusal_of_ending, refusal_of_fault, refusal_of_next, row_absent}
+use Rattle.owner_laws.specs.answer_laws.proofs.CallAnswers.{found}
+use Rattle.owner_laws.specs.answer_laws.proofs.LoadAnswers.{plain_passes, told}
+use Rattle.owner_laws.specs.owners.specs.Known.{ident_of, Known}
 use Rattle.owner_laws.proofs.Naming.{names_it}
 use Rattle.owner_laws.proofs.Receivers.{map_never}
 use Rattle.owner_laws.proofs.Spaces.{live_of, stands_for}

@@ -6,13 +6,13 @@ use Rattle.cache_ident.specs.declared.names.Vpn.{Vpn}
 use Rattle.cache_ident.specs.Residents.{IsNameResident}
 use Rattle.phys_groups.specs.declared.rows.Row.{Row}
 use Rattle.phys_groups.specs.Translation.{row_of}
-use Rattle.flat_state.specs.State.{FlatState}
-use Rattle.flat_state.specs.Translation.{is_fit_row}
-use Rattle.board_core.specs.desc_stores.specs.Contents.{residents_of}
-use Rattle.board_core.specs.board_ops.specs.declared.refusals.Refused.{Refused}
-use Rattle.board_core.specs.board_ops.specs.declared.refusals.Refused.TheVariants.{AlreadyLoaded, NotDeclared, ReceiversAbsent, Rights}
-use Rattle.board_core.specs.cached_machine.specs.Cached.{state_of}
-use Rattle.board_core.specs.Core.{contents_of, Recorded}
+use Rattle.board_calls.specs.flat_state.specs.State.{FlatState}
+use Rattle.board_calls.specs.flat_state.specs.Translation.{is_fit_row}
+use Rattle.board_calls.specs.desc_stores.specs.Contents.{residents_of}
+use Rattle.board_calls.specs.board_ops.specs.declared.refusals.Refused.{Refused}
+use Rattle.board_calls.specs.board_ops.specs.declared.refusals.Refused.TheVariants.{AlreadyLoaded, NotDeclared, ReceiversAbsent, Rights}
+use Rattle.board_calls.specs.cached_machine.specs.Cached.{state_of}
+use Rattle.board_calls.specs.board_core.specs.Core.{contents_of, Recorded}
 use Rattle.reach_laws.specs.Reaching.{IsPlainLoaded}
 
 -- the row of the page is fit and no message row, and isn't loaded

@@ -9,16 +9,16 @@ use Rattle.cache_ident.specs.declared.names.Vpn.{Vpn}
 use Rattle.cache_ident.specs.Residents.{IsResident}
 use Rattle.phys_groups.specs.declared.rows.Row.{Row}
 use Rattle.phys_groups.specs.Translation.{row_of}
-use Rattle.run_journal.specs.Legal.{first_ident}
-use Rattle.board_core.specs.desc_stores.specs.Contents.{residents_of}
-use Rattle.board_core.specs.board_ops.specs.declared.refusals.Refused.{Refused}
-use Rattle.board_core.specs.board_ops.specs.declared.refusals.Refused.TheVariants.{AlreadyLoaded, NoMemory}
-use Rattle.board_core.specs.cached_machine.specs.Cached.{state_of}
-use Rattle.board_core.specs.Answers.{IsRefused}
-use Rattle.board_core.specs.Core.{contents_of, IsSound, Recorded}
-use Rattle.board_loads.specs.Loads.{IsLoadedAs}
-use Rattle.owners.specs.Known.{ident_of, Known}
-use Rattle.owners.specs.Owning.{AreOwnersOf}
+use Rattle.board_calls.specs.run_journal.specs.Legal.{first_ident}
+use Rattle.board_calls.specs.desc_stores.specs.Contents.{residents_of}
+use Rattle.board_calls.specs.board_ops.specs.declared.refusals.Refused.{Refused}
+use Rattle.board_calls.specs.board_ops.specs.declared.refusals.Refused.TheVariants.{AlreadyLoaded, NoMemory}
+use Rattle.board_calls.specs.cached_machine.specs.Cached.{state_of}
+use Rattle.board_calls.specs.board_core.specs.Answers.{IsRefused}
+use Rattle.board_calls.specs.board_core.specs.Core.{contents_of, IsSound, Recorded}
+use Rattle.board_calls.specs.board_loads.specs.Loads.{IsLoadedAs}
+use Rattle.owner_laws.specs.owners.specs.Known.{ident_of, Known}
+use Rattle.owner_laws.specs.owners.specs.Owning.{AreOwnersOf}
 
 -- the board is sound and sealed, and owners are owners of it
 pub record IsOwned (b : Recorded) (o : Known) : Type 0 where

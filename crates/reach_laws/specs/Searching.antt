@@ -2,9 +2,9 @@
 use Rattle.std.specs.Prelude.{◌≡◌, Option, Some, None, slice_get}
 use Rattle.cache_ident.specs.declared.names.Name.TheVariants.{Space}
 use Rattle.cache_ident.specs.declared.names.SpaceNo.{SpaceNo}
-use Rattle.board_core.specs.board_ops.specs.declared.refusals.Refused.{Refused}
-use Rattle.board_core.specs.board_ops.specs.declared.refusals.Refused.TheVariants.{NotOwner, WrongParent}
-use Rattle.owners.specs.Known.{home_of, Known}
+use Rattle.board_calls.specs.board_ops.specs.declared.refusals.Refused.{Refused}
+use Rattle.board_calls.specs.board_ops.specs.declared.refusals.Refused.TheVariants.{NotOwner, WrongParent}
+use Rattle.owner_laws.specs.owners.specs.Known.{home_of, Known}
 
 -- the space that a refusal tells, or one of the kernel that it tells
 abbrev pub space_told : Known → Refused → Option SpaceNo

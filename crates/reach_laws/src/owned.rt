@@ -9,15 +9,15 @@ ghost use Rattle.cache_ident.specs.declared.names.ThreadNo.{ThreadNo};
 ghost use Rattle.cache_ident.specs.declared.names.Vpn.{Vpn};
 ghost use Rattle.cache_ident.specs.Names.{first_name};
 ghost use Rattle.cache_ident.specs.Residents.{IsResident};
-ghost use Rattle.flat_state.specs.declared.records.FlatKernel.{FlatKernel};
-ghost use Rattle.run_journal.specs.Legal.{first_ident};
-ghost use Rattle.board_core.specs.desc_stores.specs.Contents.{residents_of};
-ghost use Rattle.board_core.specs.cached_machine.specs.Cached.{state_of};
-ghost use Rattle.board_core.specs.Core.{contents_of, IsSound, Recorded};
-ghost use Rattle.board_core.specs.Going.{Grew};
-ghost use Rattle.board_core.specs.Growth.{IsRoomMade};
-ghost use Rattle.owners.specs.Known.{receiver_of, space_of, IsNoted, IsReceiverLearnt, IsSpaceLearnt, Known};
-ghost use Rattle.owners.specs.Owning.{IsThreadOf};
+ghost use Rattle.board_calls.specs.flat_state.specs.declared.records.FlatKernel.{FlatKernel};
+ghost use Rattle.board_calls.specs.run_journal.specs.Legal.{first_ident};
+ghost use Rattle.board_calls.specs.desc_stores.specs.Contents.{residents_of};
+ghost use Rattle.board_calls.specs.cached_machine.specs.Cached.{state_of};
+ghost use Rattle.board_calls.specs.board_core.specs.Core.{contents_of, IsSound, Recorded};
+ghost use Rattle.board_calls.specs.board_core.specs.Going.{Grew};
+ghost use Rattle.board_calls.specs.board_core.specs.Growth.{IsRoomMade};
+ghost use Rattle.owner_laws.specs.owners.specs.Known.{receiver_of, space_of, IsNoted, IsReceiverLearnt, IsSpaceLearnt, Known};
+ghost use Rattle.owner_laws.specs.owners.specs.Owning.{IsThreadOf};
 ghost use Rattle.reach_laws.specs.Reaching.{IsOwned, IsReached};
 
 /// What owners of a board believe is so of the machine that it shows, and the first kernel is loaded. The kernel of each space

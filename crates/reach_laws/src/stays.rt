@@ -10,13 +10,13 @@ ghost use Rattle.cache_ident.specs.declared.names.Vpn.{Vpn};
 ghost use Rattle.cache_ident.specs.Residents.{IsResident};
 ghost use Rattle.phys_groups.specs.declared.rows.Row.{Row};
 ghost use Rattle.phys_groups.specs.Translation.{row_of};
-ghost use Rattle.flat_state.specs.Dependence.{DependsFar};
-ghost use Rattle.board_core.specs.desc_stores.specs.Contents.{residents_of};
-ghost use Rattle.board_core.specs.desc_parents.specs.Seen.{seen};
-ghost use Rattle.board_core.specs.cached_machine.specs.Cached.{state_of};
-ghost use Rattle.board_core.specs.Core.{contents_of, IsSound, Recorded};
-ghost use Rattle.board_loads.specs.Loads.{IsLoadedAs};
-ghost use Rattle.owners.specs.Owning.{IsThreadOf};
+ghost use Rattle.board_calls.specs.flat_state.specs.Dependence.{DependsFar};
+ghost use Rattle.board_calls.specs.desc_stores.specs.Contents.{residents_of};
+ghost use Rattle.board_calls.specs.desc_parents.specs.Seen.{seen};
+ghost use Rattle.board_calls.specs.cached_machine.specs.Cached.{state_of};
+ghost use Rattle.board_calls.specs.board_core.specs.Core.{contents_of, IsSound, Recorded};
+ghost use Rattle.board_calls.specs.board_loads.specs.Loads.{IsLoadedAs};
+ghost use Rattle.owner_laws.specs.owners.specs.Owning.{IsThreadOf};
 
 /// What a name depends on, over any number of steps, stays loaded with its identifier as the name is loaded. No step is taken.
 pub fn a_load_keeps_what_is_reached()

@@ -16,11 +16,11 @@ use Rattle.sorted_list.proofs.ListLemmas.{Contains-insert_cases}
 use Rattle.depend_lists.specs.declared.nodes.Node.{Node}
 use Rattle.depend_lists.specs.Pairs.{IsChild, IsWithin}
 use Rattle.depend_lists.proofs.RoomyLemmas.{HasParents, parents_more}
-use Rattle.flat_state.specs.State.{FlatState}
-use Rattle.flat_state.specs.Dependence.{Depends}
-use Rattle.flat_laws.proofs.Members.{Contains-cases, Contains-here, Contains-behind}
-use Rattle.run_journal.specs.Groups.{node_of, ArePairsOf, NothingDependsOn}
-use Rattle.run_journal.proofs.Others.{differ}
+use Rattle.journal_laws.specs.flat_state.specs.State.{FlatState}
+use Rattle.journal_laws.specs.flat_state.specs.Dependence.{Depends}
+use Rattle.journal_laws.specs.flat_laws.proofs.Members.{Contains-cases, Contains-here, Contains-behind}
+use Rattle.journal_laws.specs.run_journal.specs.Groups.{node_of, ArePairsOf, NothingDependsOn}
+use Rattle.journal_laws.specs.run_journal.proofs.Others.{differ}
 use Rattle.resident_pairs.specs.Among.{AreParents, HasAlso, HasRoomFor}
 
 module _ (s : FlatState) (rs : List Resident) (old new : List (Ident × Node)) (child : Node) (name : Name) (parents : List Ident) where

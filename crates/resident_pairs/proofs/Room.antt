@@ -11,11 +11,11 @@ use Rattle.cache_ident.specs.declared.names.Name.{Name}
 use Rattle.cache_ident.specs.Residents.{Resident, with_loaded}
 use Rattle.depend_lists.specs.declared.nodes.Node.{Node}
 use Rattle.depend_lists.specs.Pairs.{IsChild}
-use Rattle.flat_state.specs.State.{FlatState}
-use Rattle.flat_laws.proofs.Members.{Contains-cases, Contains-map}
-use Rattle.run_journal.specs.Groups.{ArePairsOf}
-use Rattle.run_journal.specs.Legal.{is_kind}
-use Rattle.run_journal.proofs.Others.{Contains-from_filter}
+use Rattle.journal_laws.specs.flat_state.specs.State.{FlatState}
+use Rattle.journal_laws.specs.flat_laws.proofs.Members.{Contains-cases, Contains-map}
+use Rattle.journal_laws.specs.run_journal.specs.Groups.{ArePairsOf}
+use Rattle.journal_laws.specs.run_journal.specs.Legal.{is_kind}
+use Rattle.journal_laws.specs.run_journal.proofs.Others.{Contains-from_filter}
 use Rattle.resident_pairs.specs.Among.{AreFew, HasRoomFor, HasNoIdent}
 
 kind_itself : (k : Kind) → is_kind k k ≡ true

@@ -10,12 +10,12 @@ use Rattle.cache_ident.proofs.RollLemmas.{is_same-refl}
 use Rattle.depend_lists.specs.declared.nodes.Node.{Node}
 use Rattle.depend_lists.specs.Pairs.{IsChild}
 use Rattle.depend_lists.specs.Pairs.{without as pairs_without}
-use Rattle.flat_state.specs.State.{FlatState}
-use Rattle.flat_state.specs.Dependence.{parents, Depends}
-use Rattle.flat_state.specs.Names.{class_of}
-use Rattle.flat_laws.proofs.Members.{Contains-filter, Contains-map, Contains-from_map}
-use Rattle.run_journal.specs.Groups.{node_of, ArePairsOf, NothingDependsOn}
-use Rattle.run_journal.proofs.Others.{Contains-from_filter, without_cases, stays_without, locked_keeps, differ}
+use Rattle.journal_laws.specs.flat_state.specs.State.{FlatState}
+use Rattle.journal_laws.specs.flat_state.specs.Dependence.{parents, Depends}
+use Rattle.journal_laws.specs.flat_state.specs.Names.{class_of}
+use Rattle.journal_laws.specs.flat_laws.proofs.Members.{Contains-filter, Contains-map, Contains-from_map}
+use Rattle.journal_laws.specs.run_journal.specs.Groups.{node_of, ArePairsOf, NothingDependsOn}
+use Rattle.journal_laws.specs.run_journal.proofs.Others.{Contains-from_filter, without_cases, stays_without, locked_keeps, differ}
 use Rattle.journal_laws.specs.Leaving.{HaveOneEach}
 
 -- ---- another state

@@ -8,9 +8,9 @@ use Rattle.cache_ident.specs.Names.{amount_of}
 use Rattle.cache_ident.specs.Residents.{Resident}
 use Rattle.depend_lists.specs.declared.nodes.Node.{Node}
 use Rattle.depend_lists.specs.Pairs.{IsWithin}
-use Rattle.flat_state.specs.State.{FlatState}
-use Rattle.flat_state.specs.Dependence.{Depends}
-use Rattle.run_journal.specs.Legal.{count_of}
+use Rattle.journal_laws.specs.flat_state.specs.State.{FlatState}
+use Rattle.journal_laws.specs.flat_state.specs.Dependence.{Depends}
+use Rattle.journal_laws.specs.run_journal.specs.Legal.{count_of}
 
 -- what a contract sees: the capacities, the pairs of a parent and a child, and the last order of leaving
 pub record Among : Type 0 where

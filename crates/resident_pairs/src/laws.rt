@@ -7,10 +7,10 @@ ghost use Rattle.cache_ident.specs.declared.names.Caps.{Caps};
 ghost use Rattle.cache_ident.specs.declared.names.Name.{Name};
 ghost use Rattle.depend_lists.specs.declared.nodes.Node.{Node};
 ghost use Rattle.depend_lists.specs.Pairs.{IsChild};
-ghost use Rattle.flat_state.specs.State.{FlatState};
-ghost use Rattle.flat_state.specs.Dependence.{parents};
-ghost use Rattle.flat_state.specs.Names.{class_of};
-ghost use Rattle.run_journal.specs.Groups.{ArePairsOf};
+ghost use Rattle.journal_laws.specs.flat_state.specs.State.{FlatState};
+ghost use Rattle.journal_laws.specs.flat_state.specs.Dependence.{parents};
+ghost use Rattle.journal_laws.specs.flat_state.specs.Names.{class_of};
+ghost use Rattle.journal_laws.specs.run_journal.specs.Groups.{ArePairsOf};
 ghost use Rattle.resident_pairs.specs.Among.{AreFew, HasRoomFor, HasNoIdent};
 
 /// What is resident keeps its pairs where each depends on what it depended on, and has the class that it had.

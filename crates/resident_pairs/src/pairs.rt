@@ -6,8 +6,8 @@ ghost use Rattle.cache_ident.specs.declared.names.Name.{Name};
 ghost use Rattle.depend_lists.specs.Pairs.{without, IsChild};
 ghost use Rattle.depend_lists.specs.declared.nodes.TheConstants.{MOST_PARENTS};
 ghost use Rattle.writeback_order.specs.Order.{IsOrder};
-ghost use Rattle.flat_state.specs.State.{FlatState};
-ghost use Rattle.run_journal.specs.Groups.{ArePairsOf, IsGroup, NothingDependsOn, node_of};
+ghost use Rattle.journal_laws.specs.flat_state.specs.State.{FlatState};
+ghost use Rattle.journal_laws.specs.run_journal.specs.Groups.{ArePairsOf, IsGroup, NothingDependsOn, node_of};
 ghost use Rattle.journal_laws.specs.Leaving.{HaveOneEach};
 ghost use Rattle.resident_pairs.specs.Among.{AreParents, HasAlso, HasRoomFor};
 

@@ -12,7 +12,7 @@ use Rattle.cache_ident.specs.declared.names.Name.{Name}
 use Rattle.cache_ident.specs.Rolls.{is_same}
 use Rattle.cache_ident.proofs.RollLemmas.{is_same-refl, same_ident}
 use Rattle.cache_ident.specs.Residents.{Resident, IsNameResident, with_loaded, without, locked_if, with_lock}
-use Rattle.flat_laws.proofs.Members.{Contains-map, Contains-from_map}
+use Rattle.run_journal.specs.flat_laws.proofs.Members.{Contains-map, Contains-from_map}
 use Rattle.run_journal.proofs.Others.{without_cases, stays_without, locked_keeps}
 use Rattle.residents.specs.declared.list.Held.{Held}
 use Rattle.residents.specs.declared.list.Residents.{Residents}

@@ -1,3 +1,8 @@
+pub use Rattle.run_journal
+pub use Rattle.run_journal.specs.flat_laws
+pub use Rattle.run_journal.specs.flat_state
+pub use Rattle.run_journal.specs.writeback_order
+pub use Rattle.run_journal.specs.depend_lists
 pub mod Tables
 pub mod Freed
 pub mod Slots

@@ -12,9 +12,9 @@ use Rattle.slot_cache.specs.declared.loaded.Loaded.{Loaded}
 use Rattle.slot_cache.specs.Cells.{cell_at, filled, just_loaded, IsContent, IsLoaded}
 use Rattle.slot_cache.proofs.SlotLemmas.{all_none, here, not_none, some_same}
 use Rattle.slot_cache.specs.Rows.{row_name}
-use Rattle.owner_shelf.specs.declared.shelved.Shelved.{Shelved}
-use Rattle.owner_shelf.specs.Rows.{content_under, row_under}
-use Rattle.owner_shelf.proofs.NameLemmas.{eq_apart, eq_itself}
+use Rattle.kind_store.specs.owner_shelf.specs.declared.shelved.Shelved.{Shelved}
+use Rattle.kind_store.specs.owner_shelf.specs.Rows.{content_under, row_under}
+use Rattle.kind_store.specs.owner_shelf.proofs.NameLemmas.{eq_apart, eq_itself}
 use Rattle.kind_store.specs.Kept.{content_of, loaded_under, IsExactlyOne, Kept}
 use Rattle.kind_store.specs.Changes.{HasContent, HasNoContent, KeepsContents}
 use Rattle.kind_store.proofs.CellLemmas.{found, found-absent, found-there}

@@ -12,7 +12,7 @@ use Rattle.slot_cache.specs.declared.loaded.Loaded.{Loaded}
 use Rattle.slot_cache.specs.Cells.{cell_at, with_value}
 use Rattle.slot_cache.specs.Rows.{row_name}
 use Rattle.slot_cache.proofs.SlotLemmas.{some_same}
-use Rattle.owner_shelf.proofs.NameLemmas.{same_by_eq}
+use Rattle.kind_store.specs.owner_shelf.proofs.NameLemmas.{same_by_eq}
 use Rattle.kind_store.specs.Changes.{cells_with, loaded_with}
 use Rattle.kind_store.specs.Kept.{content_of, is_called, Kept}
 use Rattle.kind_store.proofs.NamedLemmas.{cell-with, content_at, count-with, ident-with}

@@ -23,7 +23,7 @@ use Rattle.sorted_list.proofs.ListLemmas.{Contains-cons_cases, Contains-filter, 
 use Rattle.sorted_list.proofs.RisingLemmas.{by_parts_total}
 use Rattle.sorted_list.proofs.UnderLemmas.{entry_of_value, value_of_entry}
 use Rattle.slot_cache.specs.Rows.{row_name}
-use Rattle.owner_shelf.proofs.NameLemmas.{eq_apart, eq_same}
+use Rattle.kind_store.specs.owner_shelf.proofs.NameLemmas.{eq_apart, eq_same}
 use Rattle.kind_store.specs.Kept.{content_of, Kept}
 use Rattle.kind_store.specs.Changes.{HasContent, HasNoContent}
 use Rattle.kind_store.proofs.ContentLemmas.{cases_name}

@@ -15,7 +15,7 @@ ghost use Rattle.sorted_list.specs.Sorted.{IsAdded};
 ghost use Rattle.slot_cache.specs.Cells.{changed, just_loaded, loaded_in, with_lock, with_value, HasExactlyLoaded, HasNoName, IsContent, IsFoundAs, IsFull, IsInOrderOfSlot, IsLoaded, IsLowestFree, IsVictim, LockIs, NameIs, NoneMayGo};
 ghost use Rattle.slot_cache.specs.Rows.{row_name};
 ghost use Rattle.row_store.specs.Frames.{rows_of, FlagsAre, FrameIs, IsRowOf};
-ghost use Rattle.owner_shelf.specs.Rows.{content_under, row_under, rows_without, LeavesName};
+ghost use Rattle.kind_store.specs.owner_shelf.specs.Rows.{content_under, row_under, rows_without, LeavesName};
 ghost use Rattle.kind_store.specs.Kept.{content_of, AreOwned, IsExactlyOne};
 ghost use Rattle.kind_store.specs.Rolls.{all_but, in_order, AreEnrolled, ChangesOne, StaysEnrolled};
 ghost use Rattle.kind_store.specs.Changes.{is_name, HasContent, HasNoContent, IsLeaving, IsLoading, IsUpdatingNamed, KeepsContents};

@@ -14,8 +14,8 @@ use Rattle.cache_ident.specs.declared.idents.Cause.TheVariants as causes
 use Rattle.cache_ident.specs.contracts.idents.IdentOrd.TheImpl as ident_order
 use Rattle.cache_ident.specs.contracts.idents.IdentOrd.TheImpl.Laws as ident_laws
 use Rattle.cache_ident.specs.Residents.{Resident, without}
-use Rattle.depend_lists.specs.declared.nodes.Node.{Node}
-use Rattle.writeback_order.specs.Order.{DependsOn, directly, further, leaving_cmp, rank_of, IsClosure, IsOrder}
+use Rattle.flat_laws.specs.depend_lists.specs.declared.nodes.Node.{Node}
+use Rattle.flat_laws.specs.writeback_order.specs.Order.{DependsOn, directly, further, leaving_cmp, rank_of, IsClosure, IsOrder}
 use Rattle.flat_state.specs.State.{FlatState}
 use Rattle.flat_state.specs.Dependence.{Depends}
 use Rattle.flat_state.specs.WellFormed.{IsWellFormed}

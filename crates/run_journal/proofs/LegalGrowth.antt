@@ -9,8 +9,8 @@ use Rattle.cache_ident.specs.declared.idents.Ident.{Ident}
 use Rattle.cache_ident.specs.declared.names.Name.{Name}
 use Rattle.cache_ident.specs.Names.{first_name}
 use Rattle.cache_ident.specs.Residents.{Resident}
-use Rattle.depend_lists.specs.declared.nodes.Node.{Node}
-use Rattle.writeback_order.specs.Order.{IsOrder}
+use Rattle.flat_laws.specs.depend_lists.specs.declared.nodes.Node.{Node}
+use Rattle.flat_laws.specs.writeback_order.specs.Order.{IsOrder}
 use Rattle.flat_state.specs.State.{FlatState, nothing_declared}
 use Rattle.flat_state.specs.Events.{after_events, flat}
 use Rattle.flat_state.specs.WellFormed.{IsWellFormed}

@@ -5,8 +5,8 @@ use Rattle.cache_ident.specs.declared.idents.Cause.TheVariants.{Dependent}
 use Rattle.cache_ident.specs.declared.idents.Ident.{Ident}
 use Rattle.cache_ident.specs.declared.names.Name.{Name}
 use Rattle.cache_ident.specs.Residents.{Resident, IsNameResident}
-use Rattle.depend_lists.specs.declared.nodes.Node.{Node}
-use Rattle.writeback_order.specs.Order.{IsOrder}
+use Rattle.flat_laws.specs.depend_lists.specs.declared.nodes.Node.{Node}
+use Rattle.flat_laws.specs.writeback_order.specs.Order.{IsOrder}
 use Rattle.flat_state.specs.State.{FlatState}
 use Rattle.flat_state.specs.Dependence.{Depends}
 use Rattle.flat_state.specs.Names.{class_of}

@@ -1,3 +1,10 @@
+pub use Rattle.flat_laws
+pub use Rattle.flat_state
+pub use Rattle.flat_laws.specs.writeback_order
+pub use Rattle.flat_laws.specs.depend_lists
+pub use Rattle.flat_state.specs.signal_pages
+pub use Rattle.flat_state.specs.fault_forward
+pub use Rattle.flat_state.specs.rv32_exec
 pub mod Entries
 pub mod Told
 pub mod Standing

@@ -14,18 +14,18 @@ use Rattle.flat_state.specs.declared.events.Decl.TheVariants as decls
 use Rattle.flat_state.specs.State.{FlatState, nothing_declared}
 use Rattle.flat_state.specs.Declaration.{broken_rule, rule_by_machine, rule_of_machine, has_no_flag, declared}
 use Rattle.flat_state.specs.Events.{AllFit, after_declarations}
-use Rattle.code_blocks.specs.Blocks.{no_lines}
+use Rattle.scenario_reader.specs.code_blocks.specs.Blocks.{no_lines}
 use Rattle.text_fields.specs.Lines.{lines, pieces}
 use Rattle.text_fields.specs.Lines as text_lines
 use Rattle.text_fields.specs.Numbers.{word_text}
 use Rattle.journal_text.specs.Lines.{rights_text, flags_text}
 use Rattle.journal_text.specs.Ranges.{IsSmall, AreCapsInRange, IsReceiverInRange, IsDeclInRange}
 use Rattle.text_fields.proofs.Words.{word_eight}
-use Rattle.scenario_lines.specs.Forms.{Line}
-use Rattle.scenario_lines.specs.Forms as forms
-use Rattle.scenario_lines.specs.Shapes as shapes
-use Rattle.scenario_lines.specs.Lines.{by_word, line_of}
-use Rattle.image_decls.proofs.Sized.{unbroken}
+use Rattle.scenario_reader.specs.scenario_lines.specs.Forms.{Line}
+use Rattle.scenario_reader.specs.scenario_lines.specs.Forms as forms
+use Rattle.scenario_reader.specs.scenario_lines.specs.Shapes as shapes
+use Rattle.scenario_reader.specs.scenario_lines.specs.Lines.{by_word, line_of}
+use Rattle.scenario_reader.specs.image_decls.proofs.Sized.{unbroken}
 use Rattle.scenario_reader.specs.Readings.{Memory, Body, Reading, start, declare, declare_all, word_decls, in_place}
 use Rattle.scenario_reader.specs.Scenarios.{in_body, behind_memory, at_start, at_end, numbered, step, finish, reads, scenario}
 use Rattle.scenario_print.specs.Texts.{spaced, numbers, amounts, signal_text, decl_text, scenario_text}

@@ -18,9 +18,9 @@ use Rattle.text_fields.specs.Lines as lines
 use Rattle.text_fields.specs.Numbers.{word_text}
 use Rattle.journal_text.specs.Lines.{rights_text, flags_text}
 use Rattle.journal_text.specs.Ranges.{IsSmall, AreCapsInRange, IsReceiverInRange}
-use Rattle.scenario_lines.specs.Shapes.{next, no_more, single, pair, triple, quadruple, option, locks, thread_fields, row_fields, word_fields}
-use Rattle.scenario_lines.specs.Forms.{Memory, Capacities, Declares, Words, memory_line, amounts, capacities_line, limits, kernel_line, right_line, space_line, thread_line, receiver, row_line, words, word_line}
-use Rattle.scenario_lines.specs.Lines.{by_word, line_of}
+use Rattle.scenario_reader.specs.scenario_lines.specs.Shapes.{next, no_more, single, pair, triple, quadruple, option, locks, thread_fields, row_fields, word_fields}
+use Rattle.scenario_reader.specs.scenario_lines.specs.Forms.{Memory, Capacities, Declares, Words, memory_line, amounts, capacities_line, limits, kernel_line, right_line, space_line, thread_line, receiver, row_line, words, word_line}
+use Rattle.scenario_reader.specs.scenario_lines.specs.Lines.{by_word, line_of}
 use Rattle.scenario_print.specs.Texts.{spaced}
 use Rattle.scenario_print.specs.Texts as texts
 use Rattle.scenario_print.proofs.Lines.{IsInk, AreFields, line_clean, all_fields, no_comment, plain}

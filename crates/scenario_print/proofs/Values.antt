@@ -11,7 +11,7 @@ use Rattle.text_fields.proofs.Words.{AreGlyphs, word_glyphs}
 use Rattle.text_fields.proofs.Decimals.{IsDigits, decimal_digits, number_reads}
 use Rattle.journal_text.specs.Lines.{flag_text, rights_text, flags_text}
 use Rattle.journal_text.specs.Ranges.{IsSmall}
-use Rattle.scenario_lines.specs.Values.{value, value_or, rights, flags}
+use Rattle.scenario_reader.specs.scenario_lines.specs.Values.{value, value_or, rights, flags}
 use Rattle.scenario_print.proofs.Lines.{IsInk, no_ink, ink_append, ink_from}
 
 -- ---- numbers

@@ -6,11 +6,11 @@ use Rattle.std.proofs.lemmas.Option.{none-some, same_Some}
 use Rattle.std.specs.Option.{MatchOption, IfSome}
 use denote.Ref.{Bor}
 use Rattle.cache_ident.specs.declared.names.Frame.{Frame}
-use Rattle.flat_state.specs.declared.events.Machine.{Machine}
-use Rattle.flat_state.specs.declared.events.Decl.{Decl}
-use Rattle.flat_state.specs.declared.events.Decl.TheVariants as decls
-use Rattle.flat_state.specs.State.{FlatState}
-use Rattle.flat_state.specs.Declaration.{broken_rule, rule_by_machine, has_frame}
+use Rattle.flat_machine.specs.flat_state.specs.declared.events.Machine.{Machine}
+use Rattle.flat_machine.specs.flat_state.specs.declared.events.Decl.{Decl}
+use Rattle.flat_machine.specs.flat_state.specs.declared.events.Decl.TheVariants as decls
+use Rattle.flat_machine.specs.flat_state.specs.State.{FlatState}
+use Rattle.flat_machine.specs.flat_state.specs.Declaration.{broken_rule, rule_by_machine, has_frame}
 use Rattle.text_fields.specs.Reading.{first_of}
 use Rattle.text_fields.specs.Lines.{lines}
 use Rattle.scenario_lines.specs.Forms.{word_value}

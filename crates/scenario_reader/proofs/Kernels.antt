@@ -4,13 +4,13 @@ use Rattle.std.specs.Prelude.{◌==◌, IfOk}
 use Rattle.cache_ident.specs.declared.names.SpaceNo.{SpaceNo}
 use Rattle.cache_ident.specs.declared.names.ThreadNo.{ThreadNo}
 use Rattle.cache_ident.specs.declared.names.Frame.{Frame}
-use Rattle.flat_state.specs.declared.events.TheConstants.{GREATEST_CAPS}
-use Rattle.flat_state.specs.declared.events.Decl.{Decl}
-use Rattle.flat_state.specs.declared.events.Decl.TheVariants as decls
-use Rattle.flat_state.specs.State.{FlatState, nothing_declared}
-use Rattle.flat_state.specs.Declaration.{broken_rule, declared}
-use Rattle.flat_state.specs.Events.{after_declarations}
-use Rattle.elf_image.specs.Elf.{executable, broken_rule as broken_image}
+use Rattle.flat_machine.specs.flat_state.specs.declared.events.TheConstants.{GREATEST_CAPS}
+use Rattle.flat_machine.specs.flat_state.specs.declared.events.Decl.{Decl}
+use Rattle.flat_machine.specs.flat_state.specs.declared.events.Decl.TheVariants as decls
+use Rattle.flat_machine.specs.flat_state.specs.State.{FlatState, nothing_declared}
+use Rattle.flat_machine.specs.flat_state.specs.Declaration.{broken_rule, declared}
+use Rattle.flat_machine.specs.flat_state.specs.Events.{after_declarations}
+use Rattle.image_decls.specs.elf_image.specs.Elf.{executable, broken_rule as broken_image}
 use Rattle.text_fields.specs.Lines.{lines}
 use Rattle.scenario_lines.specs.Forms.{Line}
 use Rattle.scenario_lines.specs.Forms as forms

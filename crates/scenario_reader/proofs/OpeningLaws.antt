@@ -2,13 +2,13 @@
 use Rattle.std.proofs.Common.{◌≡◌, ℕ, ◌+◌, Bool, true, false, cond, List, [], ◌∷◌, length, Some, None, Result, Ok, Err, refl, sym, ap, subst, ◌∙◌, arith, inl, inr, ◌⊎◌}
 use Rattle.std.specs.Prelude.{◌==◌, IfOk}
 use Rattle.std.proofs.lemmas.Option.{none-some}
-use Rattle.flat_state.specs.declared.events.TheConstants.{GREATEST_CAPS}
-use Rattle.flat_state.specs.declared.events.Decl.{Decl}
-use Rattle.flat_state.specs.declared.events.Decl.TheVariants as decls
-use Rattle.flat_state.specs.declared.events.Machine.{Machine}
-use Rattle.flat_state.specs.State.{nothing_declared}
-use Rattle.flat_state.specs.Declaration.{broken_rule, rule_of_early}
-use Rattle.flat_state.specs.Events.{AllFit}
+use Rattle.flat_machine.specs.flat_state.specs.declared.events.TheConstants.{GREATEST_CAPS}
+use Rattle.flat_machine.specs.flat_state.specs.declared.events.Decl.{Decl}
+use Rattle.flat_machine.specs.flat_state.specs.declared.events.Decl.TheVariants as decls
+use Rattle.flat_machine.specs.flat_state.specs.declared.events.Machine.{Machine}
+use Rattle.flat_machine.specs.flat_state.specs.State.{nothing_declared}
+use Rattle.flat_machine.specs.flat_state.specs.Declaration.{broken_rule, rule_of_early}
+use Rattle.flat_machine.specs.flat_state.specs.Events.{AllFit}
 use Rattle.text_fields.specs.Lines.{lines}
 use Rattle.scenario_lines.specs.Forms.{Line}
 use Rattle.scenario_lines.specs.Forms as forms

@@ -3,10 +3,10 @@ use Rattle.std.specs.Prelude.{◌≡◌, ℕ, ◌+◌, ◌==◌, nat_le, not, Li
 use Rattle.cache_ident.specs.declared.names.SpaceNo.{SpaceNo}
 use Rattle.cache_ident.specs.declared.names.ThreadNo.{ThreadNo}
 use Rattle.cache_ident.specs.declared.names.Frame.{Frame}
-use Rattle.flat_state.specs.declared.events.Decl.{Decl}
-use Rattle.flat_state.specs.declared.events.Decl.TheVariants as decls
-use Rattle.flat_state.specs.State.{FlatState, nothing_declared}
-use Rattle.flat_state.specs.Declaration.{breaks, broken_rule, declared}
+use Rattle.flat_machine.specs.flat_state.specs.declared.events.Decl.{Decl}
+use Rattle.flat_machine.specs.flat_state.specs.declared.events.Decl.TheVariants as decls
+use Rattle.flat_machine.specs.flat_state.specs.State.{FlatState, nothing_declared}
+use Rattle.flat_machine.specs.flat_state.specs.Declaration.{breaks, broken_rule, declared}
 use Rattle.code_blocks.specs.Blocks.{Block, no_lines}
 use Rattle.scenario_reader.specs.declared.fault.ScenarioFault.{ScenarioFault}
 use Rattle.scenario_reader.specs.declared.fault.ScenarioFault.TheVariants.{NoMemory, Bad}

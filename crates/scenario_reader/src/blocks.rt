@@ -5,7 +5,7 @@ ghost use Rattle.scenario_lines.specs.Lines.{code_line_of, image_line_of};
 ghost use Rattle.code_blocks.specs.Blocks.{block_words, with_line, with_unread};
 ghost use Rattle.scenario_reader.specs.Readings.{Takes};
 ghost use Rattle.scenario_reader.specs.Scenarios.{room, of_code, assembled, in_code, digit_bytes, loaded, in_image};
-ghost use Rattle.elf_image.specs.Elf.{broken_rule as broken_image};
+ghost use Rattle.image_decls.specs.elf_image.specs.Elf.{broken_rule as broken_image};
 ghost use Rattle.scenario_reader.specs.declared.fault.ScenarioFault.TheVariants.{NoMemory};
 ghost use Rattle.scenario_reader.specs.Views.{reader_view};
 

@@ -1,11 +1,11 @@
 //! The reading of a scenario that needn't have a kernel.
 
 ghost use Rattle.std.specs.Prelude.{◌≡◌, ◌∷◌, List, Err, IfOk, Ok};
-ghost use Rattle.flat_state.specs.declared.events.Decl.{Decl};
-ghost use Rattle.flat_state.specs.declared.events.Decl.TheVariants as decls;
-ghost use Rattle.flat_state.specs.declared.events.Machine.{Machine};
-ghost use Rattle.flat_state.specs.Events.{AllFit};
-ghost use Rattle.flat_state.specs.State.{nothing_declared};
+ghost use Rattle.flat_machine.specs.flat_state.specs.declared.events.Decl.{Decl};
+ghost use Rattle.flat_machine.specs.flat_state.specs.declared.events.Decl.TheVariants as decls;
+ghost use Rattle.flat_machine.specs.flat_state.specs.declared.events.Machine.{Machine};
+ghost use Rattle.flat_machine.specs.flat_state.specs.Events.{AllFit};
+ghost use Rattle.flat_machine.specs.flat_state.specs.State.{nothing_declared};
 ghost use Rattle.scenario_lines.specs.Lines.{line_of};
 ghost use Rattle.scenario_reader.specs.Readings.{Answers, Takes};
 ghost use Rattle.scenario_reader.specs.Scenarios.{scenario};

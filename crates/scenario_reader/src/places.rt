@@ -1,9 +1,9 @@
 //! What a line outside of blocks makes of a reading, by the place at which it stands.
 
 ghost use Rattle.std.specs.Prelude.{◌≡◌, ◌<◌, Some, None, MatchResult, OnOk};
-ghost use Rattle.flat_state.specs.declared.events.TheConstants.{GREATEST_CAPS as GREATEST_CAPS_LEM};
-ghost use Rattle.flat_state.specs.declared.events.Decl.TheVariants as decls;
-ghost use Rattle.flat_state.specs.Declaration.{broken_rule};
+ghost use Rattle.flat_machine.specs.flat_state.specs.declared.events.TheConstants.{GREATEST_CAPS as GREATEST_CAPS_LEM};
+ghost use Rattle.flat_machine.specs.flat_state.specs.declared.events.Decl.TheVariants as decls;
+ghost use Rattle.flat_machine.specs.flat_state.specs.Declaration.{broken_rule};
 ghost use Rattle.scenario_lines.specs.Forms.{line_view};
 ghost use Rattle.scenario_reader.specs.Readings.{Body, Memory, declare, in_place, unless, rule_of_code, rule_of_image, Takes};
 ghost use Rattle.scenario_reader.specs.Scenarios.{ends, in_body, behind_memory, behind_machine, at_start, at_end, code_begins, image_begins};

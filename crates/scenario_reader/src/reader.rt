@@ -1,7 +1,7 @@
 //! The reading of a scenario: where its lines stand, and what they declared so far.
 
 ghost use Rattle.std.specs.Prelude.{◌≡◌, ◌<◌, ◌+◌, ◌⊎◌, map, MatchResult, Ok, Err};
-ghost use Rattle.flat_state.specs.declared.events.Decl.TheVariants as decls;
+ghost use Rattle.flat_machine.specs.flat_state.specs.declared.events.Decl.TheVariants as decls;
 ghost use Rattle.scenario_reader.specs.declared.fault.ScenarioFault.TheVariants.{NoMemory, Bad};
 ghost use Rattle.text_fields.specs.Lines.{fields};
 ghost use Rattle.scenario_lines.specs.Forms.{word_value};

@@ -1,8 +1,8 @@
 //! A scenario, and the reading of one.
 
 ghost use Rattle.std.specs.Prelude.{◌≡◌, ◌<◌, IfOk, length};
-ghost use Rattle.flat_state.specs.State.{nothing_declared};
-ghost use Rattle.flat_state.specs.Events.{AllFit, after_declarations};
+ghost use Rattle.flat_machine.specs.flat_state.specs.State.{nothing_declared};
+ghost use Rattle.flat_machine.specs.flat_state.specs.Events.{AllFit, after_declarations};
 ghost use Rattle.scenario_reader.specs.Readings.{Takes, Answers};
 ghost use Rattle.scenario_reader.specs.Scenarios.{step, finish, scenario};
 ghost use Rattle.scenario_reader.specs.Views.{reader_view};
@@ -25,7 +25,7 @@ pub struct Scenario {
 
 impl Model for Scenario {
     ghost use Rattle.std.specs.Prelude.{List};
-    ghost use Rattle.flat_state.specs.declared.events.Decl.{Decl};
+    ghost use Rattle.flat_machine.specs.flat_state.specs.declared.events.Decl.{Decl};
 
     ghost Value = { List Decl };
 

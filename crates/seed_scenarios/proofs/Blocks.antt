@@ -5,14 +5,14 @@ use Rattle.std.specs.Str.{bytes_eq}
 use Rattle.std.proofs.lemmas.Bool.{and_parts}
 use Rattle.std.proofs.lemmas.Slice.Eq.{bytes_eq-Decides}
 use Rattle.cache_ident.specs.declared.names.Frame.{Frame}
-use Rattle.flat_state.specs.declared.events.Decl.{Decl}
-use Rattle.flat_state.specs.State.{FlatState}
+use Rattle.scenario_print.specs.flat_state.specs.declared.events.Decl.{Decl}
+use Rattle.scenario_print.specs.flat_state.specs.State.{FlatState}
 use Rattle.text_fields.specs.Lines.{lines, pieces, without_return, without_comment, fields, one}
-use Rattle.scenario_lines.specs.Lines.{CodeLine, NoCode, LastCode, code_line_of}
-use Rattle.scenario_lines.specs.Lines as block_lines
-use Rattle.code_blocks.specs.Blocks.{Block, no_lines, with_line}
-use Rattle.scenario_reader.specs.Readings.{Code, Reading}
-use Rattle.scenario_reader.specs.Scenarios.{in_code, step, reads}
+use Rattle.scenario_print.specs.scenario_lines.specs.Lines.{CodeLine, NoCode, LastCode, code_line_of}
+use Rattle.scenario_print.specs.scenario_lines.specs.Lines as block_lines
+use Rattle.scenario_print.specs.code_blocks.specs.Blocks.{Block, no_lines, with_line}
+use Rattle.scenario_print.specs.scenario_reader.specs.Readings.{Code, Reading}
+use Rattle.scenario_print.specs.scenario_reader.specs.Scenarios.{in_code, step, reads}
 use Rattle.scenario_gen.specs.Generated.{sender, middle, last, worker, stages, ending, programs}
 use Rattle.scenario_print.proofs.Again.{goes}
 

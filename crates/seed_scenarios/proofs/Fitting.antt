@@ -3,22 +3,22 @@ use Rattle.std.proofs.Common.{◌≡◌, ℕ, zero, suc, ◌+◌, ◌*◌, ◌^�
 use Rattle.std.specs.Prelude.{◌&&◌, ◌==◌, if◌then◌else◌, nat_lt}
 use Rattle.std.specs.List.{AllByRecursion}
 use Rattle.std.proofs.lemmas.Bool.{and_parts, ltb-true}
-use Rattle.flat_state.specs.declared.events.Decl.{Decl}
-use Rattle.flat_state.specs.declared.events.Decl.TheVariants as decls
-use Rattle.flat_state.specs.State.{FlatState, nothing_declared}
-use Rattle.flat_state.specs.Declaration.{broken_rule, declared}
-use Rattle.flat_state.specs.Events.{AllFit, after_declarations}
-use Rattle.journal_text.specs.Ranges.{IsSmall, IsDeclInRange}
-use Rattle.rv32_asm.specs.declared.fault.AsmFault.{AsmFault}
-use Rattle.rv32_asm.specs.Block.{block, lines, first_mark, words_from}
-use Rattle.rv32_asm.specs.Aims.{reaching}
-use Rattle.rv32_asm.specs.Fields.{cut, trim_front, immediate, immediate_in, short_number, lettered, numbered, register, bracketed, is_name}
-use Rattle.rv32_asm.specs.Forms.{upper, load, store, immediate_form, shift, fence, register_form, product, atomic, branch, ordering, atomic_named, of_two, with_immediate, of_three}
-use Rattle.rv32_asm.specs.Line.{target_at, of_one, pair, triple, operation, name_and_rest, code_of, label_of}
+use Rattle.scenario_print.specs.flat_state.specs.declared.events.Decl.{Decl}
+use Rattle.scenario_print.specs.flat_state.specs.declared.events.Decl.TheVariants as decls
+use Rattle.scenario_print.specs.flat_state.specs.State.{FlatState, nothing_declared}
+use Rattle.scenario_print.specs.flat_state.specs.Declaration.{broken_rule, declared}
+use Rattle.scenario_print.specs.flat_state.specs.Events.{AllFit, after_declarations}
+use Rattle.scenario_print.specs.journal_text.specs.Ranges.{IsSmall, IsDeclInRange}
+use Rattle.scenario_print.specs.rv32_asm.specs.declared.fault.AsmFault.{AsmFault}
+use Rattle.scenario_print.specs.rv32_asm.specs.Block.{block, lines, first_mark, words_from}
+use Rattle.scenario_print.specs.rv32_asm.specs.Aims.{reaching}
+use Rattle.scenario_print.specs.rv32_asm.specs.Fields.{cut, trim_front, immediate, immediate_in, short_number, lettered, numbered, register, bracketed, is_name}
+use Rattle.scenario_print.specs.rv32_asm.specs.Forms.{upper, load, store, immediate_form, shift, fence, register_form, product, atomic, branch, ordering, atomic_named, of_two, with_immediate, of_three}
+use Rattle.scenario_print.specs.rv32_asm.specs.Line.{target_at, of_one, pair, triple, operation, name_and_rest, code_of, label_of}
 use Rattle.rv32_isa.specs.Table.{word_of}
 use Rattle.text_fields.specs.Numbers.{digit, digits_from, digits, number}
 use Rattle.text_fields.specs.Reading.{after}
-use Rattle.scenario_reader.specs.Readings.{word_decls}
+use Rattle.scenario_print.specs.scenario_reader.specs.Readings.{word_decls}
 use Rattle.scenario_gen.specs.Generated.{stage_of, pipeline_of, program_of, operand_of, first_number, sender, middle, last, worker, stages}
 use Rattle.seed_scenarios.specs.Seeds.{decls_for, rights, space, thread, threads, rows, behind_kernels, before_code}
 

@@ -5,23 +5,23 @@ use Rattle.std.specs.List.{flat_map, list_all}
 use Rattle.std.proofs.lemmas.Bool.{and_parts, leb-true, eq-eqb}
 use Rattle.std.proofs.lemmas.List.{append-nil}
 use Rattle.cache_ident.specs.declared.names.Frame.{Frame}
-use Rattle.flat_state.specs.declared.events.Decl.{Decl}
-use Rattle.flat_state.specs.declared.events.Decl.TheVariants as decls
-use Rattle.flat_state.specs.State.{FlatState, nothing_declared}
-use Rattle.flat_state.specs.Declaration.{broken_rule, declared}
-use Rattle.flat_state.specs.Events.{AllFit, after_declarations}
-use Rattle.rv32_asm.specs.Block.{block}
+use Rattle.scenario_print.specs.flat_state.specs.declared.events.Decl.{Decl}
+use Rattle.scenario_print.specs.flat_state.specs.declared.events.Decl.TheVariants as decls
+use Rattle.scenario_print.specs.flat_state.specs.State.{FlatState, nothing_declared}
+use Rattle.scenario_print.specs.flat_state.specs.Declaration.{broken_rule, declared}
+use Rattle.scenario_print.specs.flat_state.specs.Events.{AllFit, after_declarations}
+use Rattle.scenario_print.specs.rv32_asm.specs.Block.{block}
 use Rattle.text_fields.specs.Numbers as numbers
 use Rattle.text_fields.specs.Reading.{after}
 use Rattle.text_fields.specs.Lines.{lines, pieces, without_comment, fields}
 use Rattle.text_fields.specs.Lines as text_lines
-use Rattle.scenario_lines.specs.Forms as forms
-use Rattle.scenario_lines.specs.Shapes as shapes
-use Rattle.scenario_lines.specs.Values as values
-use Rattle.scenario_lines.specs.Lines.{by_word, line_of, LastCode, code_line_of}
-use Rattle.code_blocks.specs.Blocks.{Block, no_lines, block_words}
-use Rattle.scenario_reader.specs.Readings.{Body, Reading, start, declare, declare_all, word_decls}
-use Rattle.scenario_reader.specs.Scenarios.{in_body, in_code, at_end, step, finish, reads, scenario}
+use Rattle.scenario_print.specs.scenario_lines.specs.Forms as forms
+use Rattle.scenario_print.specs.scenario_lines.specs.Shapes as shapes
+use Rattle.scenario_print.specs.scenario_lines.specs.Values as values
+use Rattle.scenario_print.specs.scenario_lines.specs.Lines.{by_word, line_of, LastCode, code_line_of}
+use Rattle.scenario_print.specs.code_blocks.specs.Blocks.{Block, no_lines, block_words}
+use Rattle.scenario_print.specs.scenario_reader.specs.Readings.{Body, Reading, start, declare, declare_all, word_decls}
+use Rattle.scenario_print.specs.scenario_reader.specs.Scenarios.{in_body, in_code, at_end, step, finish, reads, scenario}
 use Rattle.scenario_gen.specs.Generated.{text, programs}
 use Rattle.scenario_print.specs.Texts.{decl_text}
 use Rattle.scenario_print.proofs.Lines.{IsClean, first_line}

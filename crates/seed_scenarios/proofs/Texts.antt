@@ -8,9 +8,9 @@ use Rattle.std.proofs.lemmas.Fmt.{decimal_digit, decimal_step}
 use Rattle.std.proofs.lemmas.Grind.{flat_map-append}
 use Rattle.cache_ident.specs.declared.names.ThreadNo.{ThreadNo}
 use Rattle.phys_groups.specs.declared.rows.Flags.{Flags}
-use Rattle.flat_state.specs.declared.events.Decl.{Decl}
-use Rattle.flat_state.specs.declared.events.Decl.TheVariants as decls
-use Rattle.journal_text.specs.Lines.{flags_text}
+use Rattle.scenario_print.specs.flat_state.specs.declared.events.Decl.{Decl}
+use Rattle.scenario_print.specs.flat_state.specs.declared.events.Decl.TheVariants as decls
+use Rattle.scenario_print.specs.journal_text.specs.Lines.{flags_text}
 use Rattle.scenario_gen.specs.Generated.{for_each, right_line, space_line, registers, thread_line, map_line, heading, programs, text, stage_of, pipeline_of, messages, rounds, program_of, operand_of}
 use Rattle.scenario_gen.specs.Generated as lines
 use Rattle.scenario_print.specs.Texts.{spaced, numbers, signal_text, decl_text}

@@ -1,1 +1,2 @@
+pub use Rattle.scenario_print
 pub mod Seeds

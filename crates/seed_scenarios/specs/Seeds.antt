@@ -3,11 +3,11 @@ use Rattle.std.specs.Prelude.{◌≡◌, ℕ, zero, suc, ◌+◌, ◌*◌, ◌==
 use Rattle.cache_ident.specs.declared.names.Caps.{Caps}
 use Rattle.cache_ident.specs.declared.names.ThreadNo.{ThreadNo}
 use Rattle.phys_groups.specs.declared.rows.Flags.{Flags}
-use Rattle.flat_state.specs.declared.events.Decl.{Decl}
-use Rattle.flat_state.specs.declared.events.Machine.{Machine}
-use Rattle.flat_state.specs.declared.events.Decl.TheVariants as decls
-use Rattle.rv32_asm.specs.Block.{block}
-use Rattle.scenario_reader.specs.Readings.{word_decls}
+use Rattle.scenario_print.specs.flat_state.specs.declared.events.Decl.{Decl}
+use Rattle.scenario_print.specs.flat_state.specs.declared.events.Machine.{Machine}
+use Rattle.scenario_print.specs.flat_state.specs.declared.events.Decl.TheVariants as decls
+use Rattle.scenario_print.specs.rv32_asm.specs.Block.{block}
+use Rattle.scenario_print.specs.scenario_reader.specs.Readings.{word_decls}
 use Rattle.scenario_gen.specs.Generated.{messages, rounds, stage_of, pipeline_of, program_of, operand_of, stages, worker}
 
 -- those for 0, 1 and so on below n

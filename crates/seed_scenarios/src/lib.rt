@@ -2,8 +2,8 @@
 #![tactic(auto)]
 
 ghost use Rattle.std.specs.Prelude.{◌≡◌, ℕ, List, Ok};
-ghost use Rattle.flat_state.specs.declared.events.Decl.{Decl};
-ghost use Rattle.scenario_reader.specs.Scenarios.{scenario};
+ghost use Rattle.scenario_print.specs.flat_state.specs.declared.events.Decl.{Decl};
+ghost use Rattle.scenario_print.specs.scenario_reader.specs.Scenarios.{scenario};
 ghost use Rattle.scenario_gen.specs.Generated.{text};
 ghost use Rattle.seed_scenarios.specs.Seeds.{AreOf};
 

@@ -13,18 +13,18 @@ use Rattle.phys_groups.specs.declared.rows.Row.{Row}
 use Rattle.phys_groups.specs.Rows.{marked, row_name}
 use Rattle.phys_groups.specs.Translation.{is_row_of}
 use Rattle.std.proofs.lemmas.List.Elements.{All-weaker}
-use Rattle.kernel_cache.specs.declared.KernelRec.{KernelRec}
-use Rattle.kernel_cache.specs.Kernels as kernel_rec
-use Rattle.space_cache.specs.declared.SpaceRec.{SpaceRec}
-use Rattle.space_cache.specs.Spaces as space_rec
-use Rattle.thread_cache.specs.declared.ThreadRec.{ThreadRec}
-use Rattle.thread_cache.specs.Threads as thread_rec
+use Rattle.desc_stores.specs.kernel_cache.specs.declared.KernelRec.{KernelRec}
+use Rattle.desc_stores.specs.kernel_cache.specs.Kernels as kernel_rec
+use Rattle.desc_stores.specs.space_cache.specs.declared.SpaceRec.{SpaceRec}
+use Rattle.desc_stores.specs.space_cache.specs.Spaces as space_rec
+use Rattle.desc_stores.specs.thread_cache.specs.declared.ThreadRec.{ThreadRec}
+use Rattle.desc_stores.specs.thread_cache.specs.Threads as thread_rec
 use Rattle.flat_state.specs.declared.events.Machine.{Machine}
 use Rattle.flat_state.specs.declared.records.FlatKernel.{FlatKernel}
 use Rattle.flat_state.specs.declared.records.FlatThread.{FlatThread}
-use Rattle.owner_shelf.proofs.NameLemmas.{eq_apart, eq_itself}
-use Rattle.kind_store.specs.Kept as stored
-use Rattle.kind_store.proofs.ContentLemmas.{cases_name}
+use Rattle.desc_stores.specs.owner_shelf.proofs.NameLemmas.{eq_apart, eq_itself}
+use Rattle.desc_stores.specs.kind_store.specs.Kept as stored
+use Rattle.desc_stores.specs.kind_store.proofs.ContentLemmas.{cases_name}
 use Rattle.desc_stores.specs.declared.items.Item.{Item}
 use Rattle.desc_stores.specs.declared.items.Item.TheVariants as item
 use Rattle.desc_stores.specs.Items.{name_of}

@@ -10,21 +10,21 @@ use Rattle.cache_ident.specs.declared.names.Vpn.{Vpn}
 use Rattle.phys_groups.specs.declared.rows.Row.{Row}
 use Rattle.phys_groups.specs.Rows.{row_name}
 use Rattle.phys_groups.specs.Translation.{is_row_of}
-use Rattle.slot_cache.specs.declared.loaded.Loaded.{Loaded}
-use Rattle.slot_cache.specs.Cells.{loaded_in}
-use Rattle.kernel_cache.specs.declared.KernelRec.{KernelRec}
-use Rattle.kernel_cache.specs.Kernels as kernel_rec
-use Rattle.space_cache.specs.declared.SpaceRec.{SpaceRec}
-use Rattle.space_cache.specs.Spaces as space_rec
-use Rattle.thread_cache.specs.declared.ThreadRec.{ThreadRec}
-use Rattle.thread_cache.specs.Threads as thread_rec
+use Rattle.desc_stores.specs.slot_cache.specs.declared.loaded.Loaded.{Loaded}
+use Rattle.desc_stores.specs.slot_cache.specs.Cells.{loaded_in}
+use Rattle.desc_stores.specs.kernel_cache.specs.declared.KernelRec.{KernelRec}
+use Rattle.desc_stores.specs.kernel_cache.specs.Kernels as kernel_rec
+use Rattle.desc_stores.specs.space_cache.specs.declared.SpaceRec.{SpaceRec}
+use Rattle.desc_stores.specs.space_cache.specs.Spaces as space_rec
+use Rattle.desc_stores.specs.thread_cache.specs.declared.ThreadRec.{ThreadRec}
+use Rattle.desc_stores.specs.thread_cache.specs.Threads as thread_rec
 use Rattle.flat_state.proofs.Finding.{find-passes}
-use Rattle.owner_shelf.specs.Rows.{content_under}
-use Rattle.owner_shelf.proofs.NameLemmas.{eq_same, same_by_eq}
-use Rattle.kind_store.specs.Kept as stored
-use Rattle.kind_store.specs.Changes.{is_name}
-use Rattle.kind_store.proofs.CellLemmas.{found}
-use Rattle.kind_store.proofs.ContentLemmas.{content_named}
+use Rattle.desc_stores.specs.owner_shelf.specs.Rows.{content_under}
+use Rattle.desc_stores.specs.owner_shelf.proofs.NameLemmas.{eq_same, same_by_eq}
+use Rattle.desc_stores.specs.kind_store.specs.Kept as stored
+use Rattle.desc_stores.specs.kind_store.specs.Changes.{is_name}
+use Rattle.desc_stores.specs.kind_store.proofs.CellLemmas.{found}
+use Rattle.desc_stores.specs.kind_store.proofs.ContentLemmas.{content_named}
 use Rattle.desc_stores.specs.declared.items.Item.{Item}
 use Rattle.desc_stores.specs.declared.items.Item.TheVariants as item
 use Rattle.desc_stores.specs.Items.{name_of}

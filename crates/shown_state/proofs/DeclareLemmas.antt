@@ -12,17 +12,17 @@ use Rattle.cache_ident.specs.declared.names.Vpn.{Vpn}
 use Rattle.phys_groups.specs.declared.rows.Row.{Row}
 use Rattle.phys_groups.specs.Rows.{row_name}
 use Rattle.phys_groups.specs.Translation.{is_row_of, without}
-use Rattle.kernel_cache.specs.declared.KernelRec.{KernelRec}
-use Rattle.space_cache.specs.declared.SpaceRec.{SpaceRec}
-use Rattle.thread_cache.specs.declared.ThreadRec.{ThreadRec}
+use Rattle.desc_stores.specs.kernel_cache.specs.declared.KernelRec.{KernelRec}
+use Rattle.desc_stores.specs.space_cache.specs.declared.SpaceRec.{SpaceRec}
+use Rattle.desc_stores.specs.thread_cache.specs.declared.ThreadRec.{ThreadRec}
 use Rattle.flat_state.specs.declared.events.Machine.{Machine}
 use Rattle.flat_state.specs.declared.records.FlatKernel.{FlatKernel}
 use Rattle.flat_state.specs.declared.records.FlatThread.{FlatThread}
 use Rattle.flat_state.specs.State.{nothing_declared}
-use Rattle.owner_shelf.proofs.NameLemmas.{eq_apart, eq_same}
-use Rattle.kind_store.specs.Changes.{is_name}
-use Rattle.kind_store.proofs.ContentLemmas.{cases_name}
-use Rattle.row_store.specs.Kept.{KeptRows}
+use Rattle.desc_stores.specs.owner_shelf.proofs.NameLemmas.{eq_apart, eq_same}
+use Rattle.desc_stores.specs.kind_store.specs.Changes.{is_name}
+use Rattle.desc_stores.specs.kind_store.proofs.ContentLemmas.{cases_name}
+use Rattle.desc_stores.specs.row_store.specs.Kept.{KeptRows}
 use Rattle.desc_stores.specs.declared.items.Item.{Item}
 use Rattle.desc_stores.specs.declared.items.Item.TheVariants as item
 use Rattle.desc_stores.specs.Items.{name_of}

@@ -13,18 +13,18 @@ use Rattle.cache_ident.specs.declared.names.Vpn.{Vpn}
 use Rattle.phys_groups.specs.declared.rows.Row.{Row}
 use Rattle.phys_groups.specs.Rows.{row_name, HasOneRowAPage}
 use Rattle.phys_groups.specs.Translation.{is_row_of, row_of}
-use Rattle.signal_pages.specs.Signals.{is_signal_row_of}
-use Rattle.kernel_cache.specs.declared.KernelRec.{KernelRec}
-use Rattle.kernel_cache.specs.Kernels as kernel_rec
-use Rattle.space_cache.specs.declared.SpaceRec.{SpaceRec}
-use Rattle.space_cache.specs.Spaces as space_rec
-use Rattle.thread_cache.specs.declared.ThreadRec.{ThreadRec}
-use Rattle.thread_cache.specs.Threads as thread_rec
+use Rattle.flat_state.specs.signal_pages.specs.Signals.{is_signal_row_of}
+use Rattle.desc_stores.specs.kernel_cache.specs.declared.KernelRec.{KernelRec}
+use Rattle.desc_stores.specs.kernel_cache.specs.Kernels as kernel_rec
+use Rattle.desc_stores.specs.space_cache.specs.declared.SpaceRec.{SpaceRec}
+use Rattle.desc_stores.specs.space_cache.specs.Spaces as space_rec
+use Rattle.desc_stores.specs.thread_cache.specs.declared.ThreadRec.{ThreadRec}
+use Rattle.desc_stores.specs.thread_cache.specs.Threads as thread_rec
 use Rattle.flat_state.specs.declared.events.Machine.{Machine}
 use Rattle.flat_state.specs.declared.records.FlatThread.{FlatThread}
 use Rattle.flat_state.specs.Names.{stands}
-use Rattle.kind_store.specs.Kept as stored
-use Rattle.row_store.specs.Kept.{is_signal, is_signal_of, signal_names}
+use Rattle.desc_stores.specs.kind_store.specs.Kept as stored
+use Rattle.desc_stores.specs.row_store.specs.Kept.{is_signal, is_signal_of, signal_names}
 use Rattle.desc_stores.specs.declared.items.Item.TheVariants as item
 use Rattle.desc_stores.specs.Contents.{content_of, Contents}
 use Rattle.desc_stores.specs.Sound.{kernel_named, space_named, thread_named, IsExactlyOne}

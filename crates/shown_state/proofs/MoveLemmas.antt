@@ -6,7 +6,7 @@ use Rattle.cache_ident.specs.declared.idents.Kind.TheVariants as kind
 use Rattle.cache_ident.specs.declared.names.KernelNo.{KernelNo}
 use Rattle.cache_ident.specs.declared.names.Name.{Name}
 use Rattle.cache_ident.specs.declared.names.Name.TheVariants as name
-use Rattle.kind_store.specs.Kept as stored
+use Rattle.desc_stores.specs.kind_store.specs.Kept as stored
 use Rattle.desc_stores.specs.declared.items.Item.{Item}
 use Rattle.desc_stores.specs.declared.items.Item.TheVariants as item
 use Rattle.desc_stores.specs.Changes.{relocked, relocked_in, with_item, IsLeavingIn, IsLeavingOf, IsLoadingOf, KeepsContents, OnlyMakesRoom}

@@ -15,20 +15,20 @@ use Rattle.cache_ident.specs.declared.names.Vpn.{Vpn}
 use Rattle.phys_groups.specs.declared.rows.Row.{Row}
 use Rattle.phys_groups.specs.Rows.{marked, row_name}
 use Rattle.phys_groups.specs.Translation.{is_row_of, row_of}
-use Rattle.kernel_cache.specs.declared.KernelRec.{KernelRec}
-use Rattle.kernel_cache.specs.Kernels as kernel_rec
-use Rattle.space_cache.specs.Spaces as space_rec
-use Rattle.thread_cache.specs.declared.ThreadRec.{ThreadRec}
-use Rattle.thread_cache.specs.Threads as thread_rec
+use Rattle.desc_stores.specs.kernel_cache.specs.declared.KernelRec.{KernelRec}
+use Rattle.desc_stores.specs.kernel_cache.specs.Kernels as kernel_rec
+use Rattle.desc_stores.specs.space_cache.specs.Spaces as space_rec
+use Rattle.desc_stores.specs.thread_cache.specs.declared.ThreadRec.{ThreadRec}
+use Rattle.desc_stores.specs.thread_cache.specs.Threads as thread_rec
 use Rattle.flat_state.specs.declared.events.Machine.{Machine}
 use Rattle.flat_state.specs.declared.records.FlatThread.{FlatThread}
 use Rattle.flat_state.specs.Dependence.{owner, owner_of_row, owner_of_thread}
 use Rattle.flat_state.specs.State.{FlatState}
 use Rattle.flat_state.proofs.Places.{fails_if_not_found, get-append, get-set_other, get-set_same}
-use Rattle.owner_shelf.specs.declared.shelved.Shelved.{Shelved}
-use Rattle.owner_shelf.specs.Rows.{content_under, is_named, row_under}
-use Rattle.owner_shelf.proofs.NameLemmas.{eq_itself}
-use Rattle.kind_store.specs.Kept as stored
+use Rattle.desc_stores.specs.owner_shelf.specs.declared.shelved.Shelved.{Shelved}
+use Rattle.desc_stores.specs.owner_shelf.specs.Rows.{content_under, is_named, row_under}
+use Rattle.desc_stores.specs.owner_shelf.proofs.NameLemmas.{eq_itself}
+use Rattle.desc_stores.specs.kind_store.specs.Kept as stored
 use Rattle.desc_stores.specs.declared.items.Item.{Item}
 use Rattle.desc_stores.specs.declared.items.Item.TheVariants as item
 use Rattle.desc_stores.specs.Contents.{content_of, Contents}

@@ -11,14 +11,14 @@ use Rattle.cache_ident.specs.declared.names.Name.TheVariants as name
 use Rattle.cache_ident.specs.declared.names.SpaceNo.{SpaceNo}
 use Rattle.cache_ident.specs.declared.names.ThreadNo.{ThreadNo}
 use Rattle.phys_groups.specs.Rows.{row_name}
-use Rattle.slot_cache.specs.declared.loaded.Loaded.{Loaded}
-use Rattle.kernel_cache.specs.Kernels as kernel_rec
-use Rattle.space_cache.specs.Spaces as space_rec
-use Rattle.thread_cache.specs.Threads as thread_rec
-use Rattle.kind_store.specs.Kept as stored
-use Rattle.kind_store.specs.Rolls.{loaded_as}
-use Rattle.kind_store.proofs.CellLemmas.{found-there}
-use Rattle.kind_store.proofs.ContentLemmas.{content-loaded}
+use Rattle.desc_stores.specs.slot_cache.specs.declared.loaded.Loaded.{Loaded}
+use Rattle.desc_stores.specs.kernel_cache.specs.Kernels as kernel_rec
+use Rattle.desc_stores.specs.space_cache.specs.Spaces as space_rec
+use Rattle.desc_stores.specs.thread_cache.specs.Threads as thread_rec
+use Rattle.desc_stores.specs.kind_store.specs.Kept as stored
+use Rattle.desc_stores.specs.kind_store.specs.Rolls.{loaded_as}
+use Rattle.desc_stores.specs.kind_store.proofs.CellLemmas.{found-there}
+use Rattle.desc_stores.specs.kind_store.proofs.ContentLemmas.{content-loaded}
 use Rattle.desc_stores.specs.declared.items.Item.{Item}
 use Rattle.desc_stores.specs.declared.items.Item.TheVariants as item
 use Rattle.desc_stores.specs.Items.{name_of, Agrees}

@@ -7,7 +7,7 @@ use Rattle.phys_groups.specs.declared.rows.Row.{Row}
 use Rattle.phys_groups.specs.Rows.{marked}
 use Rattle.phys_groups.specs.Translation.{is_row_of, without}
 use Rattle.flat_state.specs.State.{with_thread, FlatState}
-use Rattle.kind_store.specs.Changes.{is_name}
+use Rattle.desc_stores.specs.kind_store.specs.Changes.{is_name}
 use Rattle.desc_stores.specs.declared.items.Item.{Item}
 use Rattle.desc_stores.specs.declared.items.Item.TheVariants as item
 use Rattle.desc_stores.specs.Items.{name_of}

@@ -1,3 +1,11 @@
+pub use Rattle.flat_state
+pub use Rattle.desc_stores.specs.row_store
+pub use Rattle.desc_stores.specs.kind_store
+pub use Rattle.desc_stores.specs.owner_shelf
+pub use Rattle.desc_stores.specs.thread_cache
+pub use Rattle.desc_stores.specs.space_cache
+pub use Rattle.desc_stores.specs.kernel_cache
+pub use Rattle.desc_stores.specs.slot_cache
 pub mod Shown
 pub mod Found
 pub mod Edits

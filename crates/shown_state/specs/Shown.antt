@@ -4,8 +4,8 @@ use Rattle.cache_ident.specs.declared.idents.Kind.TheVariants as kind
 use Rattle.cache_ident.specs.declared.names.KernelNo.{KernelNo}
 use Rattle.cache_ident.specs.declared.names.Name.{Name}
 use Rattle.phys_groups.specs.declared.rows.Row.{Row}
-use Rattle.kernel_cache.specs.declared.KernelRec.{KernelRec}
-use Rattle.thread_cache.specs.declared.ThreadRec.{ThreadRec}
+use Rattle.desc_stores.specs.kernel_cache.specs.declared.KernelRec.{KernelRec}
+use Rattle.desc_stores.specs.thread_cache.specs.declared.ThreadRec.{ThreadRec}
 use Rattle.flat_state.specs.declared.events.Machine.{Machine}
 use Rattle.flat_state.specs.declared.records.FlatKernel.{FlatKernel}
 use Rattle.flat_state.specs.declared.records.FlatThread.{FlatThread}

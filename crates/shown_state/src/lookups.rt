@@ -3,9 +3,9 @@
 ghost use Rattle.std.specs.Prelude.{◌≡◌, ℕ, List, Option, filter, filter_map, map};
 ghost use Rattle.cache_ident.specs.declared.names.Frame.{Frame};
 ghost use Rattle.phys_groups.specs.Rows.{row_name, HasOneRowAPage};
-ghost use Rattle.signal_pages.specs.Signals.{is_signal_row_of};
+ghost use Rattle.flat_state.specs.signal_pages.specs.Signals.{is_signal_row_of};
 ghost use Rattle.flat_state.specs.declared.events.Machine.{Machine};
-ghost use Rattle.row_store.specs.Kept.{signal_names};
+ghost use Rattle.desc_stores.specs.row_store.specs.Kept.{signal_names};
 ghost use Rattle.desc_stores.specs.Contents.{content_of, Contents};
 ghost use Rattle.desc_stores.specs.Sound.{IsExactlyOne};
 ghost use Rattle.shown_state.specs.Shown.{row_of_item, shown};

@@ -6,11 +6,11 @@ use Rattle.cache_ident.specs.declared.idents.Kind.{Kind}
 use Rattle.cache_ident.specs.declared.names.Name.{Name}
 use Rattle.cache_ident.specs.Names.{kind_of}
 use Rattle.cache_ident.specs.Residents.{Resident}
-use Rattle.slot_cache.specs.declared.loaded.Loaded.{Loaded}
-use Rattle.slot_cache.specs.Cells.{cell_at}
-use Rattle.slot_cache.specs.Table.{IsPlaced}
-use Rattle.slot_cache.proofs.SlotLemmas.{cell_within}
-use Rattle.kind_store.specs.Rolls.{loaded_as}
+use Rattle.desc_stores.specs.slot_cache.specs.declared.loaded.Loaded.{Loaded}
+use Rattle.desc_stores.specs.slot_cache.specs.Cells.{cell_at}
+use Rattle.desc_stores.specs.slot_cache.specs.Table.{IsPlaced}
+use Rattle.desc_stores.specs.slot_cache.proofs.SlotLemmas.{cell_within}
+use Rattle.desc_stores.specs.kind_store.specs.Rolls.{loaded_as}
 use Rattle.desc_stores.specs.Contents.{resident_of}
 use Rattle.desc_stores.proofs.CellLemmas.{as_loaded}
 use Rattle.desc_stores.proofs.KindLemmas.{resident_back}

@@ -10,20 +10,20 @@ use Rattle.cache_ident.specs.declared.names.Name.TheVariants as name
 use Rattle.cache_ident.specs.Names.{kind_of}
 use Rattle.cache_ident.specs.Residents.{Resident, IsNameResident}
 use Rattle.sorted_list.proofs.ListLemmas.{Contains-cons_cases, Contains-map}
-use Rattle.flat_laws.proofs.Members.{contains_nothing}
-use Rattle.slot_cache.specs.declared.loaded.Loaded.{Loaded}
-use Rattle.slot_cache.specs.Cells.{cell_at, loaded_in, HasNoName}
-use Rattle.slot_cache.specs.Rows.{row_name}
-use Rattle.slot_cache.proofs.IterLemmas.{lists_exactly}
-use Rattle.owner_shelf.specs.declared.shelved.Shelved.{Shelved}
-use Rattle.owner_shelf.specs.Rows.{content_under}
-use Rattle.owner_shelf.proofs.SoundLemmas.{some_is}
-use Rattle.kernel_cache.specs.Kernels as kernel_rec
-use Rattle.space_cache.specs.Spaces as space_rec
-use Rattle.thread_cache.specs.Threads as thread_rec
-use Rattle.kind_store.specs.Kept as stored
-use Rattle.kind_store.specs.Rolls.{loaded_as}
-use Rattle.kind_store.proofs.ContentLemmas.{not_absent}
+use Rattle.resident_pairs.specs.flat_laws.proofs.Members.{contains_nothing}
+use Rattle.desc_stores.specs.slot_cache.specs.declared.loaded.Loaded.{Loaded}
+use Rattle.desc_stores.specs.slot_cache.specs.Cells.{cell_at, loaded_in, HasNoName}
+use Rattle.desc_stores.specs.slot_cache.specs.Rows.{row_name}
+use Rattle.desc_stores.specs.slot_cache.proofs.IterLemmas.{lists_exactly}
+use Rattle.desc_stores.specs.owner_shelf.specs.declared.shelved.Shelved.{Shelved}
+use Rattle.desc_stores.specs.owner_shelf.specs.Rows.{content_under}
+use Rattle.desc_stores.specs.owner_shelf.proofs.SoundLemmas.{some_is}
+use Rattle.desc_stores.specs.kernel_cache.specs.Kernels as kernel_rec
+use Rattle.desc_stores.specs.space_cache.specs.Spaces as space_rec
+use Rattle.desc_stores.specs.thread_cache.specs.Threads as thread_rec
+use Rattle.desc_stores.specs.kind_store.specs.Kept as stored
+use Rattle.desc_stores.specs.kind_store.specs.Rolls.{loaded_as}
+use Rattle.desc_stores.specs.kind_store.proofs.ContentLemmas.{not_absent}
 use Rattle.desc_stores.specs.declared.items.Item.{Item}
 use Rattle.desc_stores.specs.declared.items.Item.TheVariants as item
 use Rattle.desc_stores.specs.Contents.{content_of, item_as, item_in, resident_as, resident_in, resident_of, residents_of, Contents, IsShelved}

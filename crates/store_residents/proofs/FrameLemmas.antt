@@ -6,12 +6,12 @@ use Rattle.cache_ident.specs.declared.idents.Kind.{Kind}
 use Rattle.cache_ident.specs.declared.idents.Kind.TheVariants as kind
 use Rattle.cache_ident.specs.declared.names.Frame.{Frame}
 use Rattle.phys_groups.specs.declared.rows.Row.{Row}
-use Rattle.slot_cache.specs.Rows.{row_name}
-use Rattle.slot_cache.proofs.SlotLemmas.{some_same}
-use Rattle.kernel_cache.specs.Kernels as kernel_rec
-use Rattle.row_store.specs.Frames.{IsRowOf}
-use Rattle.space_cache.specs.Spaces as space_rec
-use Rattle.thread_cache.specs.Threads as thread_rec
+use Rattle.desc_stores.specs.slot_cache.specs.Rows.{row_name}
+use Rattle.desc_stores.specs.slot_cache.proofs.SlotLemmas.{some_same}
+use Rattle.desc_stores.specs.kernel_cache.specs.Kernels as kernel_rec
+use Rattle.desc_stores.specs.row_store.specs.Frames.{IsRowOf}
+use Rattle.desc_stores.specs.space_cache.specs.Spaces as space_rec
+use Rattle.desc_stores.specs.thread_cache.specs.Threads as thread_rec
 use Rattle.desc_stores.specs.declared.items.Item.{Item}
 use Rattle.desc_stores.specs.declared.items.Item.TheVariants as item
 use Rattle.desc_stores.specs.Contents.{resident_in, resident_of, Contents}

@@ -8,14 +8,14 @@ use Rattle.cache_ident.specs.declared.idents.Standing.TheVariants.{Live}
 use Rattle.cache_ident.specs.declared.names.Name.{Name}
 use Rattle.cache_ident.specs.Residents.{Resident}
 use Rattle.cache_ident.specs.Rolls.{standing_in}
-use Rattle.slot_cache.specs.declared.loaded.Loaded.{Loaded}
-use Rattle.slot_cache.specs.Cells.{cell_at}
-use Rattle.slot_cache.specs.Rows.{row_name}
-use Rattle.kernel_cache.specs.Kernels as kernel_rec
-use Rattle.space_cache.specs.Spaces as space_rec
-use Rattle.thread_cache.specs.Threads as thread_rec
-use Rattle.kind_store.specs.Kept as stored
-use Rattle.kind_store.specs.Rolls.{loaded_as}
+use Rattle.desc_stores.specs.slot_cache.specs.declared.loaded.Loaded.{Loaded}
+use Rattle.desc_stores.specs.slot_cache.specs.Cells.{cell_at}
+use Rattle.desc_stores.specs.slot_cache.specs.Rows.{row_name}
+use Rattle.desc_stores.specs.kernel_cache.specs.Kernels as kernel_rec
+use Rattle.desc_stores.specs.space_cache.specs.Spaces as space_rec
+use Rattle.desc_stores.specs.thread_cache.specs.Threads as thread_rec
+use Rattle.desc_stores.specs.kind_store.specs.Kept as stored
+use Rattle.desc_stores.specs.kind_store.specs.Rolls.{loaded_as}
 use Rattle.desc_stores.specs.Contents.{resident_as, resident_in, resident_of, Contents}
 use Rattle.desc_stores.specs.Sound.{AreSound, IsExactlyOne, IsListed}
 use Rattle.desc_stores.proofs.CellLemmas.{as_loaded}

@@ -9,9 +9,9 @@ use Rattle.cache_ident.specs.Names.{kind_of}
 use Rattle.cache_ident.specs.Residents.{Resident, IsIdentResident, IsNameResident, IsResident}
 use Rattle.cache_ident.specs.Rolls.{standing_in}
 use Rattle.cache_ident.proofs.RollLemmas.{live_within}
-use Rattle.flat_laws.proofs.Members.{Contains-filter_map, Contains-from_filter_map}
-use Rattle.slot_cache.proofs.SlotLemmas.{some_same}
-use Rattle.journal_laws.specs.Leaving.{HaveOneEach}
+use Rattle.resident_pairs.specs.flat_laws.proofs.Members.{Contains-filter_map, Contains-from_filter_map}
+use Rattle.desc_stores.specs.slot_cache.proofs.SlotLemmas.{some_same}
+use Rattle.resident_pairs.specs.journal_laws.specs.Leaving.{HaveOneEach}
 use Rattle.desc_stores.specs.Contents.{resident_as, residents_of, Contents, HasNoResident, IsResidentAs, LockIs}
 use Rattle.desc_stores.specs.Sound.{AreSound, IsExactlyOne}
 use Rattle.desc_stores.proofs.KindLemmas.{own_ident}

@@ -9,7 +9,7 @@ use Rattle.cache_ident.specs.declared.rolls.Issued.{Issued}
 use Rattle.cache_ident.specs.Residents.{Resident}
 use Rattle.cache_ident.specs.Rolls.{is_same, standing_in, standing_since, IsNumberedFrom}
 use Rattle.cache_ident.proofs.RollLemmas.{same_ident}
-use Rattle.flat_laws.proofs.Members.{Contains-behind, Contains-here}
+use Rattle.resident_pairs.specs.flat_laws.proofs.Members.{Contains-behind, Contains-here}
 
 -- what is live was issued
 pub live_entry : (issued : List Issued) (i : Ident) → standing_in issued i ≡ Live → (e : Issued) × Contains issued e × (e.ident ≡ i)

@@ -6,14 +6,14 @@ use Rattle.cache_ident.specs.declared.idents.Kind.TheVariants as kind
 use Rattle.cache_ident.specs.declared.names.Caps.{Caps}
 use Rattle.cache_ident.specs.declared.names.Name.{Name}
 use Rattle.cache_ident.specs.Residents.{Resident}
-use Rattle.slot_cache.specs.declared.loaded.Loaded.{Loaded}
-use Rattle.slot_cache.specs.Cells.{cell_at, IsFull, IsLowestFree}
-use Rattle.slot_cache.specs.Rows.{row_name}
-use Rattle.owner_shelf.proofs.SoundLemmas.{some_is}
-use Rattle.kernel_cache.specs.Kernels as kernel_rec
-use Rattle.space_cache.specs.Spaces as space_rec
-use Rattle.thread_cache.specs.Threads as thread_rec
-use Rattle.run_journal.specs.Legal.{count_of, IsTaken}
+use Rattle.desc_stores.specs.slot_cache.specs.declared.loaded.Loaded.{Loaded}
+use Rattle.desc_stores.specs.slot_cache.specs.Cells.{cell_at, IsFull, IsLowestFree}
+use Rattle.desc_stores.specs.slot_cache.specs.Rows.{row_name}
+use Rattle.desc_stores.specs.owner_shelf.proofs.SoundLemmas.{some_is}
+use Rattle.desc_stores.specs.kernel_cache.specs.Kernels as kernel_rec
+use Rattle.desc_stores.specs.space_cache.specs.Spaces as space_rec
+use Rattle.desc_stores.specs.thread_cache.specs.Threads as thread_rec
+use Rattle.resident_pairs.specs.run_journal.specs.Legal.{count_of, IsTaken}
 use Rattle.resident_pairs.specs.Among.{AreFew}
 use Rattle.desc_stores.specs.Contents.{resident_of, residents_of, Contents, IsFullOf, IsLowestFreeOf}
 use Rattle.desc_stores.specs.Sound.{AreSound}

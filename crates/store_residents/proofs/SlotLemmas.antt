@@ -13,7 +13,7 @@ use Rattle.cache_ident.specs.declared.idents.Kind.{Kind}
 use Rattle.cache_ident.specs.declared.idents.Kind.TheVariants as kinds
 use Rattle.cache_ident.specs.contracts.idents.Kind.{the_type}
 use Rattle.cache_ident.specs.Residents.{Resident}
-use Rattle.run_journal.specs.Legal.{count_of, is_kind, IsTaken}
+use Rattle.resident_pairs.specs.run_journal.specs.Legal.{count_of, is_kind, IsTaken}
 use Rattle.store_residents.proofs.RollLemmas.{IsRising}
 use denote.Enum.Bare.{same_true}
 

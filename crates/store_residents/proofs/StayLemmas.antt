@@ -10,18 +10,18 @@ use Rattle.cache_ident.specs.declared.names.KernelNo.{KernelNo}
 use Rattle.cache_ident.specs.declared.names.Name.{Name}
 use Rattle.cache_ident.specs.declared.names.Name.TheVariants as name
 use Rattle.cache_ident.specs.declared.rolls.Issued.{Issued}
-use Rattle.slot_cache.specs.declared.loaded.Loaded.{Loaded}
-use Rattle.slot_cache.specs.Cells.{cell_at, changed, just_loaded, with_lock, with_value}
-use Rattle.slot_cache.specs.Rows.{row_name}
-use Rattle.kernel_cache.specs.Kernels as kernel_rec
-use Rattle.space_cache.specs.Spaces as space_rec
-use Rattle.thread_cache.specs.Threads as thread_rec
-use Rattle.kernel_cache.specs.declared.KernelRec.{KernelRec}
-use Rattle.space_cache.specs.declared.SpaceRec.{SpaceRec}
-use Rattle.thread_cache.specs.declared.ThreadRec.{ThreadRec}
-use Rattle.row_store.specs.Kept.{KeptRows}
-use Rattle.kind_store.specs.Changes.{IsLeaving, IsLoading}
-use Rattle.kind_store.specs.Kept.{Kept}
+use Rattle.desc_stores.specs.slot_cache.specs.declared.loaded.Loaded.{Loaded}
+use Rattle.desc_stores.specs.slot_cache.specs.Cells.{cell_at, changed, just_loaded, with_lock, with_value}
+use Rattle.desc_stores.specs.slot_cache.specs.Rows.{row_name}
+use Rattle.desc_stores.specs.kernel_cache.specs.Kernels as kernel_rec
+use Rattle.desc_stores.specs.space_cache.specs.Spaces as space_rec
+use Rattle.desc_stores.specs.thread_cache.specs.Threads as thread_rec
+use Rattle.desc_stores.specs.kernel_cache.specs.declared.KernelRec.{KernelRec}
+use Rattle.desc_stores.specs.space_cache.specs.declared.SpaceRec.{SpaceRec}
+use Rattle.desc_stores.specs.thread_cache.specs.declared.ThreadRec.{ThreadRec}
+use Rattle.desc_stores.specs.row_store.specs.Kept.{KeptRows}
+use Rattle.desc_stores.specs.kind_store.specs.Changes.{IsLeaving, IsLoading}
+use Rattle.desc_stores.specs.kind_store.specs.Kept.{Kept}
 use Rattle.desc_stores.specs.declared.items.Item.{Item}
 use Rattle.desc_stores.specs.declared.items.Item.TheVariants as item
 use Rattle.desc_stores.specs.Changes.{relocked, relocked_in, with_item, IsDeclaring, IsLeavingIn, IsLeavingOf, IsLoadingOf, IsNothing, OnlyMakesRoom}

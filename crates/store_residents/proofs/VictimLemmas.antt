@@ -5,14 +5,14 @@ use Rattle.cache_ident.specs.declared.idents.Kind.{Kind}
 use Rattle.cache_ident.specs.declared.idents.Kind.TheVariants as kind
 use Rattle.cache_ident.specs.declared.names.Name.{Name}
 use Rattle.cache_ident.specs.Residents.{Resident}
-use Rattle.flat_laws.proofs.Members.{contains_nothing, Contains-behind, Contains-cases, Contains-here}
-use Rattle.slot_cache.specs.declared.loaded.Loaded.{Loaded}
-use Rattle.slot_cache.specs.Cells.{cell_at, IsVictim, NoneMayGo}
-use Rattle.slot_cache.specs.Rows.{row_name}
-use Rattle.kernel_cache.specs.Kernels as kernel_rec
-use Rattle.space_cache.specs.Spaces as space_rec
-use Rattle.thread_cache.specs.Threads as thread_rec
-use Rattle.kind_store.proofs.OrderLemmas.{cases_ident}
+use Rattle.resident_pairs.specs.flat_laws.proofs.Members.{contains_nothing, Contains-behind, Contains-cases, Contains-here}
+use Rattle.desc_stores.specs.slot_cache.specs.declared.loaded.Loaded.{Loaded}
+use Rattle.desc_stores.specs.slot_cache.specs.Cells.{cell_at, IsVictim, NoneMayGo}
+use Rattle.desc_stores.specs.slot_cache.specs.Rows.{row_name}
+use Rattle.desc_stores.specs.kernel_cache.specs.Kernels as kernel_rec
+use Rattle.desc_stores.specs.space_cache.specs.Spaces as space_rec
+use Rattle.desc_stores.specs.thread_cache.specs.Threads as thread_rec
+use Rattle.desc_stores.specs.kind_store.proofs.OrderLemmas.{cases_ident}
 use Rattle.desc_stores.specs.Contents.{resident_of, residents_of, Contents, IsVictimOf, NoneMayGoOf}
 use Rattle.desc_stores.specs.Sound.{AreSound}
 use Rattle.store_residents.specs.Slots.{resident_at}

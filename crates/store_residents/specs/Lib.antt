@@ -1,5 +1,4 @@
 pub use Rattle.desc_stores
-pub use Rattle.journal_laws
 pub use Rattle.resident_pairs
 pub mod Slots
 pub mod Victims

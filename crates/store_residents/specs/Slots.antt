@@ -6,11 +6,11 @@ use Rattle.cache_ident.specs.declared.idents.Kind.TheVariants as kind
 use Rattle.cache_ident.specs.declared.names.Caps.{Caps}
 use Rattle.cache_ident.specs.Names.{amount_of}
 use Rattle.cache_ident.specs.Residents.{Resident}
-use Rattle.slot_cache.specs.Cells.{cell_at}
-use Rattle.slot_cache.specs.Rows.{row_name}
-use Rattle.kernel_cache.specs.Kernels as kernel_rec
-use Rattle.space_cache.specs.Spaces as space_rec
-use Rattle.thread_cache.specs.Threads as thread_rec
+use Rattle.desc_stores.specs.slot_cache.specs.Cells.{cell_at}
+use Rattle.desc_stores.specs.slot_cache.specs.Rows.{row_name}
+use Rattle.desc_stores.specs.kernel_cache.specs.Kernels as kernel_rec
+use Rattle.desc_stores.specs.space_cache.specs.Spaces as space_rec
+use Rattle.desc_stores.specs.thread_cache.specs.Threads as thread_rec
 use Rattle.desc_stores.specs.Contents.{resident_of, Contents}
 
 -- how many slots of a kind there are

@@ -15,9 +15,9 @@ ghost use Rattle.desc_stores.specs.Changes.{relocked, with_item, IsDeclaring, Is
 ghost use Rattle.desc_stores.specs.Contents.{content_of, item_as, resident_as, residents_of, Contents, HasNoResident, IsFullOf, IsLowestFreeOf, IsResidentAs, IsShelved, IsVictimOf, LockIs, NoneMayGoOf};
 ghost use Rattle.desc_stores.specs.Sound.{IsExactlyOne};
 ghost use Rattle.desc_stores.specs.declared.items.Item.{Item};
-ghost use Rattle.row_store.specs.Frames.{IsRowOf};
-ghost use Rattle.run_journal.specs.Legal.{count_of, IsTaken};
-ghost use Rattle.journal_laws.specs.Leaving.{HaveOneEach};
+ghost use Rattle.desc_stores.specs.row_store.specs.Frames.{IsRowOf};
+ghost use Rattle.resident_pairs.specs.run_journal.specs.Legal.{count_of, IsTaken};
+ghost use Rattle.resident_pairs.specs.journal_laws.specs.Leaving.{HaveOneEach};
 ghost use Rattle.resident_pairs.specs.Among.{AreFew, HasNoIdent};
 ghost use Rattle.store_residents.specs.Frames.{IsResidentOn};
 ghost use Rattle.store_residents.specs.Slots.{resident_at, slots_of, HasSlots, KeepsSlots};

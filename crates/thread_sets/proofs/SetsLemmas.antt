@@ -6,9 +6,9 @@ use Rattle.std.proofs.lemmas.Bool.{false≢true}
 use Rattle.std.proofs.lemmas.List.{get_or-map, map-set, map_push, set-get_or}
 use Rattle.std.proofs.lemmas.List.Folds.{list_any_none}
 use Rattle.std.proofs.lemmas.Option.{get_or_from_slice_get, slice_get_within}
-use Rattle.flat_state.specs.declared.records.FlatThread.{FlatThread}
-use Rattle.flat_state.specs.Call.{is_completable}
-use Rattle.flat_state.specs.State.{is_ready}
+use Rattle.shown_state.specs.flat_state.specs.declared.records.FlatThread.{FlatThread}
+use Rattle.shown_state.specs.flat_state.specs.Call.{is_completable}
+use Rattle.shown_state.specs.flat_state.specs.State.{is_ready}
 use Rattle.thread_cache.specs.declared.ThreadRec.{ThreadRec}
 use Rattle.shown_state.specs.Shown.{flat_thread}
 use Rattle.thread_sets.specs.Sets.{noted, pushed, Sets}

@@ -1,7 +1,7 @@
 -- What a contract sees of the sets of threads.
 use Rattle.std.specs.Prelude.{◌≡◌, ℕ, ◌-◌, Bool, List, [], ◌∷◌, ◌++◌, length, slice_set}
-use Rattle.flat_state.specs.Call.{is_completable}
-use Rattle.flat_state.specs.State.{is_ready}
+use Rattle.shown_state.specs.flat_state.specs.Call.{is_completable}
+use Rattle.shown_state.specs.flat_state.specs.State.{is_ready}
 use Rattle.thread_cache.specs.declared.ThreadRec.{ThreadRec}
 use Rattle.shown_state.specs.Shown.{flat_thread}
 

@@ -1,8 +1,8 @@
 -- Sets as those of a list of threads.
 use Rattle.std.specs.Prelude.{◌≡◌, ℕ, Bool, List, map, Some, slice_get, IsTrue}
-use Rattle.flat_state.specs.declared.records.FlatThread.{FlatThread}
-use Rattle.flat_state.specs.Call.{is_completable}
-use Rattle.flat_state.specs.State.{is_ready}
+use Rattle.shown_state.specs.flat_state.specs.declared.records.FlatThread.{FlatThread}
+use Rattle.shown_state.specs.flat_state.specs.Call.{is_completable}
+use Rattle.shown_state.specs.flat_state.specs.State.{is_ready}
 use Rattle.thread_sets.specs.Sets.{Sets}
 
 -- whether a thread takes steps

@@ -2,9 +2,9 @@
 
 ghost use Rattle.std.specs.Prelude.{◌≡◌, ℕ, ◌<◌, Bool, false, ◌&&◌, List, [], ◌∷◌, ◌++◌, length, slice_get, slice_set, None, Some, IsTrue};
 ghost use Rattle.std.specs.List.{list_any};
-ghost use Rattle.flat_state.specs.declared.records.FlatThread.{FlatThread};
-ghost use Rattle.flat_state.specs.Call.{is_completable};
-ghost use Rattle.flat_state.specs.State.{is_ready};
+ghost use Rattle.shown_state.specs.flat_state.specs.declared.records.FlatThread.{FlatThread};
+ghost use Rattle.shown_state.specs.flat_state.specs.Call.{is_completable};
+ghost use Rattle.shown_state.specs.flat_state.specs.State.{is_ready};
 ghost use Rattle.number_set.specs.First.{IsFirstFrom};
 ghost use Rattle.number_set.specs.Members.{is_in};
 ghost use Rattle.thread_cache.specs.declared.ThreadRec.{ThreadRec};

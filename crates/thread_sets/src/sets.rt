@@ -3,7 +3,7 @@
 ghost use Rattle.std.specs.Prelude.{◌≡◌, ◌+◌, ◌<◌, ◌≤◌, ◌^◌, [], length, IsOk, OnErr, OnOk};
 ghost use Rattle.number_set.specs.First.{IsFirstFrom};
 ghost use Rattle.number_set.specs.Members.{is_in};
-ghost use Rattle.flat_state.specs.State.{is_ready as is_ready_status};
+ghost use Rattle.shown_state.specs.flat_state.specs.State.{is_ready as is_ready_status};
 ghost use Rattle.thread_sets.specs.Sets.{can_be_completed as can_be_completed_def, noted, pushed, AreAlike, SameButRoom};
 
 use cache_ident::NoMemory;

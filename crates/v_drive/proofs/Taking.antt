@@ -6,7 +6,7 @@ use Rattle.drive_text.specs.declared.lines.Line.TheVariants.{Operation}
 use Rattle.drive_text.specs.Answers.{answer_line}
 use Rattle.drive_text.specs.Lines.{line_text, said_text}
 use Rattle.drive_text.specs.Ranges.{BeginsWithNoLine}
-use Rattle.run_journal.specs.declared.entries.Entry.{Entry}
+use Rattle.cache_board.specs.run_journal.specs.declared.entries.Entry.{Entry}
 use Rattle.cache_board.specs.board_ops.specs.declared.answers.Answer.{Answer}
 use Rattle.cache_board.specs.board_ops.specs.declared.ops.Op.{Op}
 use Rattle.cache_board.specs.board_core.specs.Core.{Recorded}

@@ -1,6 +1,6 @@
 -- What is due for an input, by what the check found.
 use Rattle.std.proofs.Common.{◌≡◌, ℕ, ◌≤◌, List, length, Option, Some, None, Result, refl, sym, subst, ◌∙◌, ◌⊎◌, inl, inr}
-use Rattle.flat_state.specs.declared.events.Decl.{Decl}
+use Rattle.run_journal.specs.flat_state.specs.declared.events.Decl.{Decl}
 use Rattle.scenario_reader.specs.declared.fault.ScenarioFault.{ScenarioFault}
 use Rattle.scenario_reader.specs.Scenarios.{scenario}
 use Rattle.check_mode.specs.declared.answers.Checked.{Checked}

@@ -3,7 +3,7 @@ use Rattle.std.specs.Prelude.{◌≡◌, ℕ, List, codes, Option, Some, None, R
 use Rattle.std.specs.Io.KnownBytes.{Keeps}
 use Rattle.due_text.specs.Inputs.{IsWhole, IsTooLong}
 use Rattle.due_text.specs.Lines.{scenario_fault_line, too_long_line}
-use Rattle.flat_state.specs.declared.events.Decl.{Decl}
+use Rattle.run_journal.specs.flat_state.specs.declared.events.Decl.{Decl}
 use Rattle.scenario_reader.specs.declared.fault.ScenarioFault.{ScenarioFault}
 use Rattle.scenario_reader.specs.declared.fault.ScenarioFault.TheVariants as faults
 use Rattle.scenario_reader.specs.Scenarios.{scenario}

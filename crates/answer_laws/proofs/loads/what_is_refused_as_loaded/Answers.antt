@@ -1,5 +1,5 @@
 use Rattle.std.proofs.Common.{Some, sym}
-use Rattle.board_checks.proofs.LoadLemmas.{absent_tested}
+use Rattle.board_threads.specs.board_checks.proofs.LoadLemmas.{absent_tested}
 use Rattle.answer_laws.proofs.LoadAnswers.{absent, told}
 use Rattle.answer_laws.proofs.loads.what_is_refused_as_loaded.Goals as goal
 

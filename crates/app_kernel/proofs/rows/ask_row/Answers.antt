@@ -1,7 +1,7 @@
 use Rattle.std.proofs.Common.{ap, refl, sym, ◌∙◌, subst}
 use Rattle.std.specs.Prelude.{Err}
 use Rattle.std.proofs.lemmas.Result.{err_from_is_err_and}
-use Rattle.board_core.specs.board_ops.specs.declared.refusals.Refused.{Refused}
+use Rattle.page_laws.specs.board_ops.specs.declared.refusals.Refused.{Refused}
 use Rattle.owners.specs.Known.{receiver_of}
 use Rattle.app_kernel.specs.Walks.{AreWalked}
 use Rattle.app_kernel.proofs.AskLaws.{at_row, fills_asked, fills_refused, fills_unnoted, kernel_wants, receiver_wants, space_wants, vain_asked, vain_refused, vain_unnoted}

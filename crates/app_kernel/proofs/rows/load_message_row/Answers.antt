@@ -1,7 +1,7 @@
 use Rattle.std.proofs.Common.{ap, ◌∙◌, sym}
 use Rattle.std.specs.Prelude.{Err}
 use Rattle.std.proofs.lemmas.Result.{err_from_is_err_and}
-use Rattle.board_core.specs.board_ops.specs.declared.refusals.Refused.{Refused}
+use Rattle.page_laws.specs.board_ops.specs.declared.refusals.Refused.{Refused}
 use Rattle.app_kernel.proofs.RowLaws.{fills_ended, fills_passed, vain_ended, vain_passed}
 use Rattle.app_kernel.proofs.rows.load_message_row.Goals as goal
 

@@ -2,7 +2,7 @@ use Rattle.std.proofs.Common.{ap, sym, ◌∙◌, subst}
 use Rattle.std.specs.Prelude.{Err, Ok, Result}
 use Rattle.std.proofs.lemmas.Result.{err_from_is_err_and}
 use Rattle.cache_ident.specs.declared.idents.Ident.{Ident}
-use Rattle.board_core.specs.board_ops.specs.declared.refusals.Refused.{Refused}
+use Rattle.page_laws.specs.board_ops.specs.declared.refusals.Refused.{Refused}
 use Rattle.owner_ports.specs.Boards.{OnTold}
 use Rattle.page_laws.specs.reach_laws.specs.Reaching.{IsOwned}
 use Rattle.app_kernel.specs.Walks.{AreWalked, IsLearntSo, IsReceiverTold}

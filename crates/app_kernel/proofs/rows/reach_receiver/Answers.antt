@@ -1,7 +1,7 @@
 use Rattle.std.proofs.Common.{ap, sym, ◌∙◌}
 use Rattle.std.specs.Prelude.{Err}
 use Rattle.std.proofs.lemmas.Result.{err_from_is_err_and}
-use Rattle.board_core.specs.board_ops.specs.declared.refusals.Refused.{Refused}
+use Rattle.page_laws.specs.board_ops.specs.declared.refusals.Refused.{Refused}
 use Rattle.app_kernel.proofs.AskLaws.{receiver_away, receiver_got, receiver_none}
 use Rattle.app_kernel.proofs.GentleCalls.{gentle_here}
 use Rattle.app_kernel.proofs.rows.reach_receiver.Goals as goal

@@ -1,7 +1,7 @@
 use Rattle.std.proofs.Common.{◌≡◌, true, false, refl, ap, sym, ◌∙◌}
 use Rattle.std.specs.Prelude.{Err}
 use Rattle.std.proofs.lemmas.Result.{err_from_is_err_and}
-use Rattle.board_core.specs.board_ops.specs.declared.refusals.Refused.{Refused}
+use Rattle.page_laws.specs.board_ops.specs.declared.refusals.Refused.{Refused}
 use Rattle.app_kernel.specs.declared.serving.Served.TheVariants as served
 use Rattle.app_kernel.proofs.ServeLaws.{at_err, call_finishes, complete_helps, complete_refused, kernel_finishes, thread_finishes}
 use Rattle.app_kernel.proofs.WalkLaws.{walked_on}

@@ -1,7 +1,7 @@
 use Rattle.std.proofs.Common.{ap, refl, ◌∙◌}
 use Rattle.std.specs.Prelude.{Err, Result}
 use Rattle.std.proofs.lemmas.Result.{err_from_is_err_and}
-use Rattle.board_core.specs.board_ops.specs.declared.refusals.Refused.{Refused}
+use Rattle.page_laws.specs.board_ops.specs.declared.refusals.Refused.{Refused}
 use Rattle.app_kernel.proofs.FaultLaws.{confirmed_never, confirmed_now, unconfirmed_call, unconfirmed_kernel, unconfirmed_thread}
 use Rattle.app_kernel.proofs.ServeLaws.{at_err, confirm_ends, fault_refused, goes_on_so}
 use Rattle.app_kernel.proofs.WalkLaws.{walked_on}

@@ -2,7 +2,7 @@ use Rattle.std.proofs.Common.{ap, ◌∙◌}
 use Rattle.std.specs.Prelude.{Err, Ok, Result}
 use Rattle.cache_ident.specs.declared.idents.Ident.{Ident}
 use Rattle.std.proofs.lemmas.Result.{err_from_is_err_and}
-use Rattle.board_core.specs.board_ops.specs.declared.refusals.Refused.{Refused}
+use Rattle.page_laws.specs.board_ops.specs.declared.refusals.Refused.{Refused}
 use Rattle.fault_forward.specs.declared.effects.Notice.TheVariants as notices
 use Rattle.app_kernel.proofs.CauseLaws.{ok_from}
 use Rattle.app_kernel.proofs.FaultLaws.{confirmed_behind, confirmed_fill, filled, filled_never, something_to_load, unconfirmed, unconfirmed_so, unfilled, unfilled_so}

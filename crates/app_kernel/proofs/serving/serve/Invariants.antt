@@ -1,7 +1,7 @@
 use Rattle.std.proofs.Common.{◌≡◌, ◌⊎◌, Some}
 use Rattle.cache_ident.specs.declared.names.SpaceNo.{SpaceNo}
 use Rattle.cache_ident.specs.declared.names.Vpn.{Vpn}
-use Rattle.owner_ports.specs.cache_board.specs.board_ops.specs.declared.refusals.Refused.TheVariants.{NoMemory}
+use Rattle.page_laws.specs.board_ops.specs.declared.refusals.Refused.TheVariants.{NoMemory}
 use Rattle.app_kernel.specs.Answers.{last_refusal, HasRisenBy}
 use Rattle.app_kernel.specs.Causes.{page_of}
 use Rattle.app_kernel.specs.Walks.{AreWalked}

@@ -3,7 +3,7 @@ use Rattle.std.specs.Prelude.{◌/◌, Err}
 use Rattle.std.proofs.lemmas.Option.{same_Some}
 use Rattle.std.proofs.lemmas.Result.{err_from_is_err_and}
 use Rattle.cache_ident.specs.declared.names.Vpn.{Vpn}
-use Rattle.board_core.specs.board_ops.specs.declared.refusals.Refused.{Refused}
+use Rattle.page_laws.specs.board_ops.specs.declared.refusals.Refused.{Refused}
 use Rattle.owner_ports.specs.Boards.{OnTold}
 use Rattle.app_kernel.specs.Causes.{page_of}
 use Rattle.app_kernel.specs.Pages.{Fills}

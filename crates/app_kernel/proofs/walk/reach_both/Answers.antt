@@ -1,7 +1,7 @@
 use Rattle.std.proofs.Common.{ap, ◌∙◌}
 use Rattle.std.specs.Prelude.{Err}
 use Rattle.std.proofs.lemmas.Result.{err_from_is_err_and}
-use Rattle.board_core.specs.board_ops.specs.declared.refusals.Refused.{Refused}
+use Rattle.page_laws.specs.board_ops.specs.declared.refusals.Refused.{Refused}
 use Rattle.app_kernel.proofs.ReachLaws.{both_away, both_reached, both_unlearnt, both_unreached, both_walked, passed_at}
 use Rattle.app_kernel.proofs.WalkLaws.{walked_on}
 use Rattle.app_kernel.proofs.GentleCalls.{known_same}

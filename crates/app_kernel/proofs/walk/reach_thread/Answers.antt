@@ -2,7 +2,7 @@ use Rattle.std.proofs.Common.{ap, ◌∙◌, subst}
 use Rattle.std.specs.Prelude.{Option, Result, Ok, Err}
 use Rattle.std.proofs.lemmas.Result.{err_from_is_err_and}
 use Rattle.cache_ident.specs.declared.names.SpaceNo.{SpaceNo}
-use Rattle.board_core.specs.board_ops.specs.declared.refusals.Refused.{Refused}
+use Rattle.page_laws.specs.board_ops.specs.declared.refusals.Refused.{Refused}
 use Rattle.app_kernel.proofs.FindLaws.{first_wants, found_first, found_second, found_third, second_wants, third_wants}
 use Rattle.app_kernel.proofs.GentleCalls.{gentle_first, gentle_second, gentle_third, StaysHome}
 use Rattle.owner_ports.specs.Boards.{OnTold}

@@ -4,7 +4,7 @@ use Rattle.cache_ident.specs.declared.idents.Ident.{Ident}
 use Rattle.flat_state.specs.Call.{is_completable}
 use Rattle.flat_state.specs.State.{FlatState}
 use Rattle.flat_rules.specs.Readings.{OfThread}
-use Rattle.board_core.specs.desc_stores.specs.Changes.{room_of}
+use Rattle.board_checks.specs.desc_stores.specs.Changes.{room_of}
 use Rattle.board_core.specs.thread_sets.specs.Sets.{Sets}
 use Rattle.board_core.specs.cached_machine.specs.Cached.{state_of}
 use Rattle.board_core.specs.Core.{contents_of, Recorded}

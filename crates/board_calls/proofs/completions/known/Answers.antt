@@ -1,8 +1,8 @@
 use Rattle.std.proofs.Common.{Some, subst}
-use Rattle.board_core.specs.desc_groups.specs.Whole.{IsWhole}
-use Rattle.board_core.specs.desc_stores.specs.Contents.{residents_of}
+use Rattle.board_checks.specs.desc_groups.specs.Whole.{IsWhole}
+use Rattle.board_checks.specs.desc_stores.specs.Contents.{residents_of}
 use Rattle.flat_state.specs.WellFormed.{IsWellFormed}
-use Rattle.run_journal.specs.Legal.{AreGood}
+use Rattle.board_checks.specs.run_journal.specs.Legal.{AreGood}
 use Rattle.board_core.specs.cached_machine.specs.Cached.{state_of, Cached}
 use Rattle.board_calls.proofs.RowLaws.{good_shown}
 use Rattle.board_core.proofs.SealLaws.{sealed_where_loaded}

@@ -5,9 +5,9 @@ use Rattle.flat_state.specs.Events.{applied}
 use Rattle.flat_rules.specs.Readings.{OfThread}
 use Rattle.board_core.specs.flat_events.specs.declared.asked.Asked.TheVariants.{Nothing}
 use Rattle.board_core.specs.flat_events.specs.Asked.{asked_of}
-use Rattle.board_core.specs.desc_stores.specs.declared.items.Item.TheVariants as item
-use Rattle.board_core.specs.desc_stores.specs.Contents.{item_as, residents_of}
-use Rattle.board_core.specs.desc_tables.specs.Tables.{Held}
+use Rattle.board_checks.specs.desc_stores.specs.declared.items.Item.TheVariants as item
+use Rattle.board_checks.specs.desc_stores.specs.Contents.{item_as, residents_of}
+use Rattle.board_checks.specs.desc_tables.specs.Tables.{Held}
 use Rattle.board_core.specs.cached_machine.specs.Cached.{state_of, Cached}
 use Rattle.board_calls.specs.Leaving.{AreBad}
 use Rattle.board_calls.proofs.CompletionLaws.{some_loaded, thread_completable, thread_resident, thread_within}

@@ -1,7 +1,7 @@
 use Rattle.std.proofs.Common.{◌≡◌, Option, Some, None, refl}
 use Rattle.std.specs.Option.{option_or}
 use Rattle.cache_ident.specs.declared.idents.Kind.TheVariants as kind
-use Rattle.board_core.specs.board_ops.specs.declared.refusals.Refused.{Refused}
+use Rattle.board_checks.specs.board_ops.specs.declared.refusals.Refused.{Refused}
 use Rattle.board_checks.specs.Identifiers.{not_a}
 use Rattle.board_checks.specs.Refusals.{not_completable, not_owned_as}
 use Rattle.board_calls.proofs.laws.its_first_tests_are_those_of_a_call.Goals as goal

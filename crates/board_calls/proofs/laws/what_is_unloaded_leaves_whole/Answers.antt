@@ -1,5 +1,5 @@
 use Rattle.std.proofs.Common.{ap}
-use Rattle.board_core.specs.desc_groups.specs.Moves.{idents_of}
+use Rattle.board_checks.specs.desc_groups.specs.Moves.{idents_of}
 use Rattle.board_core.specs.board_laws.specs.Moves.{written_back}
 use Rattle.board_calls.proofs.laws.what_is_unloaded_leaves_whole.Goals as goal
 

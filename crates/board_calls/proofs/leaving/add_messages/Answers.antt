@@ -1,7 +1,7 @@
 use Rattle.std.proofs.Common.{◌↔◌, true, Contains, List, [], ◌∷◌, ◌++◌, refl, sym, subst}
 use Rattle.cache_ident.specs.declared.idents.Ident.{Ident}
 use Rattle.board_core.specs.store_residents.specs.Frames.{IsResidentOn}
-use Rattle.board_core.specs.desc_tables.specs.Tables.{Held}
+use Rattle.board_checks.specs.desc_tables.specs.Tables.{Held}
 use Rattle.board_calls.specs.Leaving.{is_message, AddsThose, IsOf, IsRowAs}
 use Rattle.board_calls.proofs.LoopLaws.{adds_as, each_came, passing_one}
 use Rattle.board_calls.proofs.RowLaws.{messages_listed}

@@ -2,8 +2,8 @@ use Rattle.std.proofs.Common.{List, sym, ◌∙◌, ap, subst}
 use Rattle.cache_ident.specs.declared.idents.Ident.{Ident}
 use Rattle.cache_ident.specs.declared.names.Name.TheVariants as name
 use Rattle.cache_ident.specs.Residents.{Resident, IsResident}
-use Rattle.board_core.specs.desc_stores.specs.Contents.{residents_of}
-use Rattle.board_core.specs.desc_tables.specs.Tables.{Held}
+use Rattle.board_checks.specs.desc_stores.specs.Contents.{residents_of}
+use Rattle.board_checks.specs.desc_tables.specs.Tables.{Held}
 use Rattle.board_core.specs.store_residents.proofs.ResidentLemmas.{one_each}
 use Rattle.board_calls.specs.Leaving.{AddsThose}
 use Rattle.board_calls.proofs.LoopLaws.{adds_one}

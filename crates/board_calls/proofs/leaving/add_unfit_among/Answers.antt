@@ -1,6 +1,6 @@
 use Rattle.std.proofs.Common.{Contains, List, [], ◌∷◌, ◌++◌, sym, ◌∙◌, subst}
 use Rattle.cache_ident.specs.declared.idents.Ident.{Ident}
-use Rattle.board_core.specs.desc_stores.specs.Contents.{item_as}
+use Rattle.board_checks.specs.desc_stores.specs.Contents.{item_as}
 use Rattle.board_core.specs.cached_machine.specs.Cached.{state_of}
 use Rattle.board_calls.specs.Leaving.{after_grant, goes_so, passes, AddsThose, IsOf}
 use Rattle.board_calls.proofs.LoopLaws.{each_came, passing_one, passing_past}

@@ -1,8 +1,8 @@
 use Rattle.std.proofs.Common.{◌↔◌, true, false, Contains, subst}
 use Rattle.cache_ident.specs.declared.idents.Ident.{Ident}
-use Rattle.board_core.specs.desc_stores.specs.Contents.{item_as}
+use Rattle.board_checks.specs.desc_stores.specs.Contents.{item_as}
 use Rattle.board_core.specs.store_residents.specs.Frames.{IsResidentOn}
-use Rattle.board_core.specs.desc_tables.specs.Tables.{Held}
+use Rattle.board_checks.specs.desc_tables.specs.Tables.{Held}
 use Rattle.board_core.specs.cached_machine.specs.Cached.{state_of}
 use Rattle.board_calls.specs.Leaving.{after_grant, goes_so, passes, IsOf, IsRowAs}
 use Rattle.board_calls.proofs.LoopLaws.{adds_more}

@@ -1,9 +1,9 @@
 use Rattle.std.proofs.Common.{Some, sym, ◌∙◌, ap}
 use Rattle.std.specs.Option.{option_map}
-use Rattle.board_core.specs.desc_stores.specs.declared.items.ItemRef.{ItemRef}
-use Rattle.board_core.specs.desc_stores.specs.Contents.{item_as}
-use Rattle.board_core.specs.desc_stores.specs.Items.{shown}
-use Rattle.board_core.specs.desc_tables.specs.Tables.{Held}
+use Rattle.board_checks.specs.desc_stores.specs.declared.items.ItemRef.{ItemRef}
+use Rattle.board_checks.specs.desc_stores.specs.Contents.{item_as}
+use Rattle.board_checks.specs.desc_stores.specs.Items.{shown}
+use Rattle.board_checks.specs.desc_tables.specs.Tables.{Held}
 use Rattle.board_core.specs.cached_machine.specs.Cached.{state_of}
 use Rattle.board_calls.proofs.RowLaws.{row_known, row_there}
 use Rattle.board_calls.proofs.leaving.goes.Goals as goal

@@ -1,8 +1,8 @@
 use Rattle.std.proofs.Common.{IfSome, IfNone, subst}
 use Rattle.cache_ident.specs.Residents.{IsNameResident, IsResident}
 use Rattle.phys_groups.specs.Rows.{row_name}
-use Rattle.board_core.specs.desc_stores.specs.Contents.{residents_of}
-use Rattle.board_core.specs.desc_tables.specs.Tables.{Held}
+use Rattle.board_checks.specs.desc_stores.specs.Contents.{residents_of}
+use Rattle.board_checks.specs.desc_tables.specs.Tables.{Held}
 use Rattle.board_calls.proofs.RowLaws.{absent_told}
 use Rattle.board_calls.proofs.leaving.is_absent.Goals as goal
 

@@ -1,5 +1,5 @@
 use Rattle.std.proofs.Common.{sym, ◌∙◌}
-use Rattle.row_store.specs.Kept.{signal_names}
+use Rattle.desc_tables.specs.row_store.specs.Kept.{signal_names}
 use Rattle.board_checks.specs.Facts.{is_missing}
 use Rattle.board_checks.proofs.FitLemmas.{find_none_more, found_here, missing_row, none_found}
 use Rattle.board_checks.proofs.fits.first_missing.Goals as goal

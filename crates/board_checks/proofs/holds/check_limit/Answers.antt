@@ -1,6 +1,6 @@
 use Rattle.std.proofs.Common.{sym, ◌∙◌, ap}
 use Rattle.std.specs.Option.{option_and_then}
-use Rattle.flat_state.specs.Dependence.{owner}
+use Rattle.board_ops.specs.flat_state.specs.Dependence.{owner}
 use Rattle.desc_tables.specs.desc_stores.specs.Items.{shown}
 use Rattle.desc_tables.specs.store_residents.proofs.KindLemmas.{loaded_live}
 use Rattle.desc_tables.specs.desc_parents.specs.Seen.{seen}

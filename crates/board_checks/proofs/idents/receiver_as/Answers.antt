@@ -1,7 +1,7 @@
 use Rattle.std.proofs.Common.{◌∙◌, ap}
 use Rattle.std.specs.Option.{option_map}
 use Rattle.cache_ident.specs.declared.names.Name.TheVariants as name
-use Rattle.flat_state.specs.declared.records.FlatThread.{FlatThread}
+use Rattle.board_ops.specs.flat_state.specs.declared.records.FlatThread.{FlatThread}
 use Rattle.board_checks.specs.Identifiers.{receiver_as}
 use Rattle.board_checks.proofs.IdentifierLemmas.{thread_is}
 use Rattle.board_checks.proofs.idents.receiver_as.Goals as goal

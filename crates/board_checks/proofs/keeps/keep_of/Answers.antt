@@ -1,6 +1,6 @@
 use Rattle.std.proofs.Common.{◌≡◌, List, Some, slice_get, refl, sym, subst, inl, arith}
 use Rattle.std.proofs.lemmas.Option.{get_or_from_slice_get, slice_get_within}
-use Rattle.flat_state.proofs.Places.{Contains-from_get}
+use Rattle.board_ops.specs.flat_state.proofs.Places.{Contains-from_get}
 use Rattle.cache_ident.specs.declared.idents.Ident.{Ident}
 use Rattle.desc_tables.specs.store_residents.proofs.ContentLemmas.{shelved_iff}
 use Rattle.board_checks.proofs.KeepLemmas.{all_kept, none_kept, one_further, parents_stay}

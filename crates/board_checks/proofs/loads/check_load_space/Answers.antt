@@ -8,7 +8,7 @@ use Rattle.board_checks.specs.Identifiers.{not_a}
 use Rattle.board_checks.specs.Refusals.{already_loaded, not_declared, not_owned, not_owner}
 use Rattle.board_checks.proofs.FirstLemmas.{err_shown, first_fails, first_passes}
 use Rattle.cache_ident.specs.declared.names.Name.{Name}
-use Rattle.flat_state.specs.Dependence.{owner}
+use Rattle.board_ops.specs.flat_state.specs.Dependence.{owner}
 use Rattle.desc_tables.specs.desc_stores.specs.Items.{shown}
 use Rattle.desc_tables.specs.shown_state.proofs.ContentLemmas.{item_has_name}
 use Rattle.desc_tables.specs.desc_parents.specs.Seen.{seen}

@@ -5,7 +5,7 @@ use Rattle.std.proofs.lemmas.Result.{err_from_is_err_and}
 use Rattle.cache_ident.specs.declared.idents.Kind.TheVariants as kind
 use Rattle.cache_ident.specs.declared.names.Name.TheVariants as name
 use Rattle.cache_ident.specs.declared.names.SpaceNo.{SpaceNo}
-use Rattle.flat_state.specs.Dependence.{owner}
+use Rattle.board_ops.specs.flat_state.specs.Dependence.{owner}
 use Rattle.desc_tables.specs.desc_stores.specs.declared.items.Item.TheVariants as item
 use Rattle.desc_tables.specs.desc_groups.proofs.OwnerLemmas.{owner_as_item}
 use Rattle.desc_tables.specs.desc_parents.specs.Seen.{seen}

@@ -1,7 +1,7 @@
 use Rattle.std.proofs.Common.{List, Some, None, sym, ap, subst, ◌∙◌}
 use Rattle.std.specs.Option.{option_and_then}
 use Rattle.std.proofs.lemmas.Result.{err_from_is_err_and}
-use Rattle.page_views.specs.Views.{View}
+use Rattle.board_threads.specs.page_views.specs.Views.{View}
 use Rattle.board_threads.specs.desc_tables.specs.Tables.{Held}
 use Rattle.board_threads.specs.board_checks.specs.Identifiers.{not_live, thread_as}
 use Rattle.board_threads.specs.board_core.specs.Core.{contents_of}

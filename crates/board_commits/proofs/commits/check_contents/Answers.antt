@@ -1,7 +1,7 @@
 use Rattle.std.proofs.Common.{Some, sym, ap, ◌∙◌}
 use Rattle.std.specs.Option.{option_map}
 use Rattle.cache_ident.specs.declared.names.Frame.{Frame}
-use Rattle.page_views.specs.Views.{View}
+use Rattle.board_threads.specs.page_views.specs.Views.{View}
 use Rattle.board_threads.specs.board_ops.specs.declared.refusals.Refused.TheVariants.{Changed}
 use Rattle.board_commits.specs.Refusals.{is_changed, changed}
 use Rattle.board_commits.proofs.FindLaws.{found_here, none_at_all, none_more}

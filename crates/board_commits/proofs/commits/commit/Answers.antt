@@ -1,7 +1,7 @@
 use Rattle.std.proofs.Common.{List, Contains, slice_get, sym, ap, subst, ◌∙◌}
 use Rattle.std.proofs.lemmas.Result.{err_from_is_err_and}
 use Rattle.cache_ident.specs.Residents.{Resident}
-use Rattle.flat_state.specs.State.{FlatState}
+use Rattle.flat_rules.specs.flat_state.specs.State.{FlatState}
 use Rattle.board_threads.specs.board_checks.proofs.WhyLaws.{passed_why}
 use Rattle.board_commits.proofs.CommitLaws.{commit_tells}
 use Rattle.board_commits.proofs.MadeLaws.{committed_before}

@@ -1,8 +1,8 @@
 -- The page is what the quantum keeps of the frame, or what memory has of it.
 use Rattle.std.proofs.Common.{◌≡◌, List, ℕ, length, Some, refl, sym, ap, subst, ◌∙◌}
-use Rattle.page_views.specs.Views.{filled, kept_since}
+use Rattle.board_threads.specs.page_views.specs.Views.{filled, kept_since}
 use Rattle.phys_groups.specs.Memory.{page_at, HasFrame}
-use Rattle.run_journal.specs.Entries.{Written}
+use Rattle.board_threads.specs.run_journal.specs.Entries.{Written}
 use Rattle.board_threads.specs.quantum.specs.Ahead.{more_with, Ahead}
 use Rattle.board_threads.specs.cached_machine.specs.Cached.{state_of, Cached}
 use Rattle.board_commits.proofs.KeptLaws.{has_copied, has_kept, not_again}

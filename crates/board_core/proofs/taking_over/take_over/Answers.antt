@@ -7,7 +7,7 @@ use Rattle.phys_groups.specs.Memory.{page_at}
 use Rattle.rv32_exec.specs.declared.contexts.Context.{Context}
 use Rattle.flat_state.specs.declared.records.FlatThread.{FlatThread}
 use Rattle.flat_state.specs.State.{FlatState}
-use Rattle.page_views.specs.Views.{View}
+use Rattle.board_ops.specs.page_views.specs.Views.{View}
 use Rattle.cached_machine.specs.quantum.specs.Ahead.{Ahead}
 use Rattle.cached_machine.specs.quantum.specs.LocalRun.{committed, status_by, touched_views, CouldRun}
 use Rattle.cached_machine.specs.shown_state.specs.Shown.{flat_thread}

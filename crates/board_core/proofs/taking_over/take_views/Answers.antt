@@ -2,7 +2,7 @@
 use Rattle.std.proofs.Common.{ℕ, List, take, Contains, refl, ap, sym, ◌∙◌, subst, inl, arith}
 use Rattle.std.proofs.lemmas.List.Elements.{Contains-get_or}
 use Rattle.run_journal.proofs.Others.{Contains-from_filter}
-use Rattle.page_views.specs.Views.{View}
+use Rattle.board_ops.specs.page_views.specs.Views.{View}
 use Rattle.cached_machine.specs.quantum.specs.LocalRun.{touched_views}
 use Rattle.cached_machine.specs.Aside.{aside_of}
 use Rattle.cached_machine.specs.Cached.{state_of, Cached}

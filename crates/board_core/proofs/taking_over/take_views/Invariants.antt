@@ -1,5 +1,5 @@
 use Rattle.std.proofs.Common.{◌≡◌, take, Contains}
-use Rattle.page_views.specs.Views.{View}
+use Rattle.board_ops.specs.page_views.specs.Views.{View}
 use Rattle.cached_machine.specs.quantum.specs.LocalRun.{touched_views}
 use Rattle.cached_machine.specs.Aside.{aside_of}
 use Rattle.cached_machine.specs.Cached.{state_of}

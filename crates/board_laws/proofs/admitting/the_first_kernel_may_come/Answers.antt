@@ -1,5 +1,5 @@
 use Rattle.std.proofs.Common.{false}
-use Rattle.run_journal.specs.Legal.{first_ident}
+use Rattle.desc_tables.specs.run_journal.specs.Legal.{first_ident}
 use Rattle.board_laws.proofs.Admitted.{first_has_place, first_may_load, first_may_lock}
 use Rattle.board_laws.proofs.Growing.{formed_told}
 use Rattle.board_laws.proofs.Loads.{none_gone, nothing_resident}

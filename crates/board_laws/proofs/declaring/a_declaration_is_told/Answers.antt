@@ -1,5 +1,5 @@
 use Rattle.std.proofs.Common.{Some, sym}
-use Rattle.flat_state.specs.declared.events.Decl.TheVariants as decls
+use Rattle.quantum.specs.flat_state.specs.declared.events.Decl.TheVariants as decls
 use Rattle.board_laws.proofs.Declarations.{declared_told, descriptor_told, machine_told, word_told}
 use Rattle.board_laws.proofs.declaring.a_declaration_is_told.Goals as goal
 

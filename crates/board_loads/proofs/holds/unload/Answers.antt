@@ -3,8 +3,8 @@ use Rattle.std.proofs.lemmas.Result.{err_from_is_err_and}
 use Rattle.cache_ident.specs.declared.idents.Standing.TheVariants.{Live}
 use Rattle.cache_ident.specs.Residents.{IsResident}
 use Rattle.cache_ident.specs.Rolls.{standing_in}
-use Rattle.board_core.specs.desc_stores.specs.Contents.{residents_of}
-use Rattle.board_core.specs.desc_tables.specs.Tables.{Held}
+use Rattle.board_checks.specs.desc_stores.specs.Contents.{residents_of}
+use Rattle.board_checks.specs.desc_tables.specs.Tables.{Held}
 use Rattle.board_loads.proofs.HoldLaws.{another_ident, unloaded_before}
 use Rattle.board_core.proofs.RoomLaws.{same_count, same_sealed}
 use Rattle.board_checks.proofs.WhyLaws.{passed_why, unload_tells}

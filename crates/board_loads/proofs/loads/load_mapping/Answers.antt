@@ -3,7 +3,7 @@ use Rattle.std.specs.Prelude.{IfOk}
 use Rattle.std.specs.Option.{option_map}
 use Rattle.cache_ident.specs.declared.names.Name.TheVariants.{Mapping}
 use Rattle.cache_ident.specs.declared.names.SpaceNo.{SpaceNo}
-use Rattle.board_core.specs.desc_tables.specs.Tables.{Held}
+use Rattle.board_checks.specs.desc_tables.specs.Tables.{Held}
 use Rattle.board_checks.specs.Identifiers.{space_as}
 use Rattle.board_checks.specs.declared.loads.Loadable.{Loadable}
 use Rattle.board_checks.specs.Keeps.{IsLoadableBeside}

@@ -1,6 +1,6 @@
 use Rattle.std.proofs.Common.{ap, ◌∙◌, subst}
 use Rattle.std.specs.Prelude.{IfOk}
-use Rattle.board_core.specs.desc_tables.specs.Tables.{Held}
+use Rattle.board_checks.specs.desc_tables.specs.Tables.{Held}
 use Rattle.board_checks.specs.declared.loads.Loadable.{Loadable}
 use Rattle.board_checks.specs.Keeps.{IsLoadableBeside}
 use Rattle.board_checks.specs.Refusals.{refusal_of_load_space}

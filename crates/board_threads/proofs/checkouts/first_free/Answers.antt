@@ -4,7 +4,7 @@ use Rattle.slot_cache.specs.declared.loaded.Loaded.{Loaded}
 use Rattle.slot_cache.specs.Cells.{HasExactlyLoaded}
 use Rattle.thread_cache.specs.declared.ThreadRec.{ThreadRec}
 use Rattle.ready_queue.specs.declared.Candidate.{Candidate}
-use Rattle.board_core.specs.desc_tables.specs.Tables.{Held}
+use Rattle.board_checks.specs.desc_tables.specs.Tables.{Held}
 use Rattle.board_core.specs.cached_machine.specs.Cached.{Cached}
 use Rattle.board_threads.specs.Waiting.{IsEarlier, IsFirstAmong}
 use Rattle.board_threads.proofs.CandidateLemmas.{all_gone, first_of_all, first_or_this, first_stays}

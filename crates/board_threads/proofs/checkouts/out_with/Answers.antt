@@ -1,8 +1,8 @@
 use Rattle.std.proofs.Common.{◌≡◌, ℕ, None, Some, ap, subst, sym, ◌∙◌}
 use Rattle.cache_ident.specs.declared.idents.Kind.TheVariants as kind
-use Rattle.board_core.specs.desc_stores.specs.declared.items.Item.TheVariants as item
-use Rattle.board_core.specs.desc_stores.specs.Contents.{item_as}
-use Rattle.board_core.specs.desc_tables.specs.Tables.{Held}
+use Rattle.board_checks.specs.desc_stores.specs.declared.items.Item.TheVariants as item
+use Rattle.board_checks.specs.desc_stores.specs.Contents.{item_as}
+use Rattle.board_checks.specs.desc_tables.specs.Tables.{Held}
 use Rattle.board_checks.specs.Identifiers.{not_a}
 use Rattle.board_core.specs.cached_machine.specs.Cached.{Cached}
 use Rattle.board_core.specs.cached_machine.specs.Posts.{mark_of}

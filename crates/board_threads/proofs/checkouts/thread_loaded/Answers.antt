@@ -1,12 +1,12 @@
 use Rattle.std.proofs.Common.{◌≡◌, None, Some, ap, sym, ◌∙◌}
 use Rattle.cache_ident.specs.declared.names.Name.TheVariants as name
-use Rattle.board_core.specs.desc_stores.specs.declared.items.Item.TheVariants as item
-use Rattle.board_core.specs.desc_stores.specs.declared.items.ItemRef.{ItemRef}
-use Rattle.board_core.specs.desc_stores.specs.declared.items.ItemRef.TheVariants as ref
-use Rattle.board_core.specs.desc_stores.specs.Contents.{item_as}
-use Rattle.board_core.specs.desc_stores.specs.Items.{shown}
-use Rattle.board_core.specs.desc_tables.specs.Tables.{Held}
-use Rattle.board_core.specs.shown_state.specs.Shown.{thread_of}
+use Rattle.board_checks.specs.desc_stores.specs.declared.items.Item.TheVariants as item
+use Rattle.board_checks.specs.desc_stores.specs.declared.items.ItemRef.{ItemRef}
+use Rattle.board_checks.specs.desc_stores.specs.declared.items.ItemRef.TheVariants as ref
+use Rattle.board_checks.specs.desc_stores.specs.Contents.{item_as}
+use Rattle.board_checks.specs.desc_stores.specs.Items.{shown}
+use Rattle.board_checks.specs.desc_tables.specs.Tables.{Held}
+use Rattle.board_checks.specs.shown_state.specs.Shown.{thread_of}
 use Rattle.board_core.specs.cached_machine.specs.Cached.{Cached}
 use Rattle.board_core.specs.Core.{contents_of}
 use Rattle.board_threads.proofs.IdentLemmas.{content_named, record_named, shows_thread}

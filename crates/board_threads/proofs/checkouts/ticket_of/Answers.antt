@@ -1,9 +1,9 @@
 use Rattle.std.proofs.Common.{◌≡◌, ap, sym, subst, ◌∙◌}
 use Rattle.cache_ident.specs.declared.names.Name.TheVariants as name
 use Rattle.cache_ident.specs.Residents.{IsResident}
-use Rattle.board_core.specs.desc_stores.specs.Contents.{residents_of}
-use Rattle.board_core.specs.desc_tables.specs.Tables.{Held}
-use Rattle.board_core.specs.shown_state.specs.Shown.{flat_thread}
+use Rattle.board_checks.specs.desc_stores.specs.Contents.{residents_of}
+use Rattle.board_checks.specs.desc_tables.specs.Tables.{Held}
+use Rattle.board_checks.specs.shown_state.specs.Shown.{flat_thread}
 use Rattle.board_core.specs.cached_machine.specs.Cached.{Cached}
 use Rattle.board_core.specs.Core.{contents_of}
 use Rattle.board_threads.proofs.IdentLemmas.{thread_kind}

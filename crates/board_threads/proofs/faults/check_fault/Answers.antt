@@ -2,11 +2,11 @@ use Rattle.std.proofs.Common.{◌≡◌, false, Option, Some, None, ap, subst, �
 use Rattle.std.specs.Option.{option_or}
 use Rattle.std.proofs.lemmas.Result.{err_from_is_err_and}
 use Rattle.cache_ident.specs.declared.names.Name.TheVariants as name
-use Rattle.board_core.specs.desc_stores.specs.declared.items.Item.TheVariants as item
-use Rattle.board_core.specs.desc_stores.specs.Contents.{item_as}
-use Rattle.board_core.specs.desc_tables.specs.Tables.{Held}
-use Rattle.board_core.specs.shown_state.specs.Shown.{flat_thread, thread_of}
-use Rattle.board_core.specs.board_ops.specs.declared.refusals.Refused.{Refused}
+use Rattle.board_checks.specs.desc_stores.specs.declared.items.Item.TheVariants as item
+use Rattle.board_checks.specs.desc_stores.specs.Contents.{item_as}
+use Rattle.board_checks.specs.desc_tables.specs.Tables.{Held}
+use Rattle.board_checks.specs.shown_state.specs.Shown.{flat_thread, thread_of}
+use Rattle.board_checks.specs.board_ops.specs.declared.refusals.Refused.{Refused}
 use Rattle.board_checks.specs.Refusals.{refusal_of_thread}
 use Rattle.board_core.specs.cached_machine.specs.Cached.{state_of, Cached}
 use Rattle.board_core.specs.Core.{contents_of}

@@ -2,9 +2,9 @@ use Rattle.std.proofs.Common.{◌≡◌, [], ap, subst, sym}
 use Rattle.std.specs.Option.{is_some}
 use Rattle.std.proofs.lemmas.Bool.{OnFalse_at}
 use Rattle.cache_ident.specs.declared.names.Frame.{Frame}
-use Rattle.row_store.specs.Kept.{signal_names}
-use Rattle.board_core.specs.desc_tables.specs.Tables.{Held}
-use Rattle.board_core.specs.shown_state.specs.Shown.{flat_thread}
+use Rattle.board_checks.specs.row_store.specs.Kept.{signal_names}
+use Rattle.board_checks.specs.desc_tables.specs.Tables.{Held}
+use Rattle.board_checks.specs.shown_state.specs.Shown.{flat_thread}
 use Rattle.board_threads.proofs.SignalLemmas.{none_full}
 use Rattle.board_threads.proofs.known.has_full_receiver.Goals as goal
 

@@ -1,6 +1,6 @@
 use Rattle.std.proofs.Common.{◌≡◌, ap, subst, ◌∙◌}
 use Rattle.std.specs.Option.{is_some}
-use Rattle.board_core.specs.desc_tables.specs.Tables.{Held}
+use Rattle.board_checks.specs.desc_tables.specs.Tables.{Held}
 use Rattle.board_core.specs.cached_machine.specs.Cached.{is_loaded, Cached}
 use Rattle.board_threads.proofs.IdentLemmas.{loaded_tested}
 use Rattle.board_threads.proofs.known.is_loaded.Goals as goal

@@ -2,7 +2,7 @@ use Rattle.std.proofs.Common.{◌≡◌, None, Some, ap, sym, subst, ◌∙◌, 
 use Rattle.flat_state.specs.Signals.{is_runnable}
 use Rattle.flat_rules.proofs.Known.{thread_is_of}
 use Rattle.flat_rules.specs.Readings.{IsThreadOf}
-use Rattle.board_core.specs.shown_state.specs.Shown.{flat_thread}
+use Rattle.board_checks.specs.shown_state.specs.Shown.{flat_thread}
 use Rattle.board_core.specs.cached_machine.specs.Cached.{state_of, Cached}
 use Rattle.board_threads.specs.Tests.{passes}
 use Rattle.board_threads.proofs.known.is_runnable.Goals as goal

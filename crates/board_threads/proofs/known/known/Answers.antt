@@ -1,6 +1,6 @@
 use Rattle.std.proofs.Common.{Some, subst}
-use Rattle.board_core.specs.shown_state.specs.Found.{AreFound}
-use Rattle.board_core.specs.shown_state.proofs.LookupLemmas.{all_found}
+use Rattle.board_checks.specs.shown_state.specs.Found.{AreFound}
+use Rattle.board_checks.specs.shown_state.proofs.LookupLemmas.{all_found}
 use Rattle.board_core.specs.cached_machine.specs.Cached.{state_of, Cached}
 use Rattle.board_threads.proofs.known.known.Goals as goal
 

@@ -1,5 +1,5 @@
 use Rattle.std.proofs.Common.{◌<◌, Some, ap, ◌∙◌, arith, inl, inr}
-use Rattle.board_core.specs.board_ops.specs.declared.refusals.Refused.{Refused}
+use Rattle.cache_board.specs.board_ops.specs.declared.refusals.Refused.{Refused}
 use Rattle.board_turns.proofs.Fewer.{fewer_left}
 use Rattle.board_turns.proofs.holds.commit_steps.Goals as goal
 

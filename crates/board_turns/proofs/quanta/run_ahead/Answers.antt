@@ -1,5 +1,5 @@
 use Rattle.std.proofs.Common.{refl, ◌∙◌, arith}
-use Rattle.board_commits.proofs.CopyLaws.{all_of}
+use Rattle.cache_board.specs.board_commits.proofs.CopyLaws.{all_of}
 use Rattle.board_turns.proofs.Runs.{few_steps}
 use Rattle.board_turns.proofs.quanta.run_ahead.Goals as goal
 

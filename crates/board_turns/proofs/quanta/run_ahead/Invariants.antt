@@ -1,5 +1,5 @@
 use Rattle.std.proofs.Common.{◌≡◌, ◌≤◌}
-use Rattle.board_commits.specs.Tickets.{AreOfTicket}
+use Rattle.cache_board.specs.board_commits.specs.Tickets.{AreOfTicket}
 use Rattle.board_turns.proofs.quanta.run_ahead.Given as goal
 
 abbrev pub invariant-loop : goal.invariant-loop

@@ -1,5 +1,5 @@
 use Rattle.std.proofs.Common.{◌≤◌}
-use Rattle.board_commits.specs.Tickets.{AreAllAsOf}
+use Rattle.cache_board.specs.board_commits.specs.Tickets.{AreAllAsOf}
 use Rattle.app_kernel.specs.left_laws.specs.Left.{left}
 use Rattle.app_kernel.specs.owners.specs.Known.{Known}
 use Rattle.app_kernel.specs.owner_ports.specs.Boards.{OnTold}

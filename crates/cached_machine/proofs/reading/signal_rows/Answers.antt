@@ -1,5 +1,5 @@
 use Rattle.std.proofs.Common.{None, [], ◌∙◌, arith}
-use Rattle.row_store.specs.Kept.{signal_names}
+use Rattle.thread_sets.specs.row_store.specs.Kept.{signal_names}
 use Rattle.board_laws.specs.desc_parents.proofs.RowLemmas.{all_gone, fewer_gone}
 use Rattle.cached_machine.proofs.ReadLaws.{all_rows, few_rows, few_signals, no_row_more, one_row_more}
 use Rattle.cached_machine.proofs.reading.signal_rows.Goals as goal

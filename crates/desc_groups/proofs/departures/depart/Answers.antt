@@ -3,7 +3,7 @@ use Rattle.cache_ident.specs.declared.idents.Ident.{Ident}
 use Rattle.cache_ident.specs.declared.names.Caps.{Caps}
 use Rattle.cache_ident.specs.Residents.{Resident, without}
 use Rattle.desc_parents.specs.resident_pairs.specs.Among.{Among}
-use Rattle.run_journal.specs.Groups.{ArePairsOf}
+use Rattle.desc_parents.specs.run_journal.specs.Groups.{ArePairsOf}
 use Rattle.desc_parents.specs.desc_stores.specs.Contents.{resident_as, residents_of, Contents}
 use Rattle.desc_parents.specs.store_residents.proofs.KindLemmas.{at_as, live_loaded}
 use Rattle.desc_parents.specs.store_residents.proofs.ResidentLemmas.{loaded_resident, one_each}

@@ -1,8 +1,8 @@
 use Rattle.std.proofs.Common.{◌≡◌, sym, ◌∙◌, subst}
 use Rattle.cache_ident.specs.declared.idents.Ident.{Ident}
 use Rattle.cache_ident.specs.declared.names.KernelNo.{KernelNo}
-use Rattle.flat_state.specs.Dependence.{owner}
-use Rattle.flat_state.specs.State.{FlatState}
+use Rattle.desc_parents.specs.flat_state.specs.Dependence.{owner}
+use Rattle.desc_parents.specs.flat_state.specs.State.{FlatState}
 use Rattle.desc_parents.specs.desc_stores.specs.Contents.{residents_of, Contents}
 use Rattle.desc_parents.specs.desc_stores.specs.Sound.{AreOwned}
 use Rattle.desc_parents.specs.Seen.{seen}

@@ -2,7 +2,7 @@ use Rattle.std.proofs.Common.{◌≡◌, ◌≢◌, List, AllPairs, sym, ap, sub
 use Rattle.cache_ident.specs.declared.idents.Ident.{Ident}
 use Rattle.cache_ident.specs.declared.names.Caps.{Caps}
 use Rattle.cache_ident.specs.Residents.{with_loaded, Resident}
-use Rattle.flat_state.specs.Dependence.{owner}
+use Rattle.desc_parents.specs.flat_state.specs.Dependence.{owner}
 use Rattle.desc_parents.specs.desc_stores.specs.Contents.{residents_of}
 use Rattle.desc_parents.specs.resident_pairs.specs.Among.{AreFew, AreParents}
 use Rattle.desc_parents.specs.resident_pairs.proofs.Room.{has_room, no_child}

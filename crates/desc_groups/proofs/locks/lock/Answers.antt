@@ -1,7 +1,7 @@
 use Rattle.std.proofs.Common.{◌∙◌, ◌<◌, true, ap, sym, refl, arith}
 use Rattle.cache_ident.specs.declared.names.Name.TheVariants as name
 use Rattle.cache_ident.specs.Names.{amount_of}
-use Rattle.run_journal.specs.Legal.{limit_of, locked_by}
+use Rattle.desc_parents.specs.run_journal.specs.Legal.{limit_of, locked_by}
 use Rattle.desc_parents.specs.desc_stores.specs.Contents.{resident_as, residents_of}
 use Rattle.desc_parents.specs.Seen.{seen}
 use Rattle.desc_groups.specs.Moves.{counted_up}

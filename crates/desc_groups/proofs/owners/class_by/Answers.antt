@@ -1,7 +1,7 @@
 use Rattle.std.proofs.Common.{◌≡◌, ◌∙◌, ap, sym, Some}
 use Rattle.cache_ident.specs.declared.idents.Ident.{Ident}
 use Rattle.cache_ident.specs.Residents.{Resident}
-use Rattle.flat_state.specs.Names.{class_of}
+use Rattle.desc_parents.specs.flat_state.specs.Names.{class_of}
 use Rattle.desc_parents.specs.desc_stores.specs.declared.items.ItemRef.{ItemRef}
 use Rattle.desc_parents.specs.desc_stores.specs.Contents.{item_as, resident_as, Contents}
 use Rattle.desc_parents.specs.desc_stores.specs.Items.{shown}

@@ -1,6 +1,6 @@
 use Rattle.std.proofs.Common.{◌≡◌, ◌∙◌, ap, sym, Option, Some, None, IsSome, subst}
 use Rattle.cache_ident.specs.declared.names.KernelNo.{KernelNo}
-use Rattle.flat_state.specs.Dependence.{owner}
+use Rattle.desc_parents.specs.flat_state.specs.Dependence.{owner}
 use Rattle.desc_parents.specs.desc_stores.specs.Contents.{residents_of}
 use Rattle.desc_parents.specs.desc_stores.specs.Items.{shown}
 use Rattle.desc_parents.specs.store_residents.proofs.KindLemmas.{live_loaded}

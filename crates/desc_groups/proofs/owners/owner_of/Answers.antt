@@ -1,5 +1,5 @@
 use Rattle.std.proofs.Common.{◌≡◌, ◌∙◌, ap, sym, Some}
-use Rattle.flat_state.specs.Dependence.{owner}
+use Rattle.desc_parents.specs.flat_state.specs.Dependence.{owner}
 use Rattle.desc_parents.specs.desc_stores.specs.declared.items.ItemRef.{ItemRef}
 use Rattle.desc_parents.specs.desc_stores.specs.Contents.{content_of, Contents}
 use Rattle.desc_parents.specs.desc_stores.specs.Items.{name_of, shown}

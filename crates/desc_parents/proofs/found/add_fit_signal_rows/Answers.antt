@@ -1,6 +1,6 @@
 use Rattle.std.proofs.Common.{filter, sym, ◌∙◌, ap, subst, arith}
 use Rattle.store_residents.specs.desc_stores.specs.Contents.{residents_of}
-use Rattle.row_store.specs.Kept.{signal_names}
+use Rattle.shown_state.specs.row_store.specs.Kept.{signal_names}
 use Rattle.desc_parents.specs.Idents.{HasAlsoIdentsOf}
 use Rattle.desc_parents.proofs.RowLemmas.{all_gone, few_idents, few_names, fewer_gone, fit_in, fit_names, none_more, one_more}
 use Rattle.desc_parents.proofs.found.add_fit_signal_rows.Goals as goal

@@ -6,7 +6,7 @@ use Rattle.store_residents.specs.desc_stores.specs.declared.items.ItemRef.{ItemR
 use Rattle.store_residents.specs.desc_stores.specs.Contents.{content_of, residents_of}
 use Rattle.store_residents.specs.desc_stores.specs.Items.{name_of, shown}
 use Rattle.shown_state.specs.Shown.{row_of_item}
-use Rattle.flat_state.specs.Dependence.{parents_of_row}
+use Rattle.group_laws.specs.flat_state.specs.Dependence.{parents_of_row}
 use Rattle.desc_parents.specs.Seen.{seen}
 use Rattle.desc_parents.proofs.ParentLemmas.{are_apart, are_of_item}
 use Rattle.desc_parents.proofs.RowLemmas.{from_nothing, parents_apart, row_shown}

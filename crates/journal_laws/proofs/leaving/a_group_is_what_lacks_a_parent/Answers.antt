@@ -1,5 +1,5 @@
-use Rattle.flat_state.specs.Events.{flat}
-use Rattle.flat_state.proofs.FormedEvents.{flat_formed}
+use Rattle.run_journal.specs.flat_state.specs.Events.{flat}
+use Rattle.run_journal.specs.flat_state.proofs.FormedEvents.{flat_formed}
 use Rattle.journal_laws.proofs.GroupLaw.{group_if, order_if}
 use Rattle.journal_laws.proofs.leaving.a_group_is_what_lacks_a_parent.Goals as goal
 

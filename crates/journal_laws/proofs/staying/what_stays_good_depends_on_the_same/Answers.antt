@@ -1,5 +1,5 @@
-use Rattle.flat_state.proofs.FormedEvents.{flat_formed}
-use Rattle.flat_state.specs.Events.{flat}
+use Rattle.run_journal.specs.flat_state.proofs.FormedEvents.{flat_formed}
+use Rattle.run_journal.specs.flat_state.specs.Events.{flat}
 use Rattle.journal_laws.proofs.SameDependence.{depends_on_same, owner_stays, frame_stays, class_stays}
 use Rattle.journal_laws.proofs.staying.what_stays_good_depends_on_the_same.Goals as goal
 

@@ -1,7 +1,7 @@
 use Rattle.std.proofs.Common.{Bool, Option, refl, sym, subst}
 use Rattle.std.proofs.lemmas.Bool.{not-false, not-true}
 use Rattle.cache_ident.specs.declared.names.KernelNo.{KernelNo}
-use Rattle.flat_state.specs.Dependence.{owner}
+use Rattle.residents.specs.flat_state.specs.Dependence.{owner}
 use Rattle.journal_tables.specs.Locks.{RecountsFor, RecountsIf}
 use Rattle.journal_tables.proofs.tables.forget_lock.Goals as goal
 

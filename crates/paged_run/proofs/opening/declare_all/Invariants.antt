@@ -1,6 +1,6 @@
 use Rattle.std.proofs.Common.{◌≡◌, ℕ, List, Option, drop}
 use Rattle.std.specs.Prelude.{IsSome}
-use Rattle.flat_state.specs.Events.{AllFit}
+use Rattle.flat_rules.specs.flat_state.specs.Events.{AllFit}
 use Rattle.paged_steps.specs.Pages.{HasFrames}
 use Rattle.paged_run.specs.declared.pager.Pager.{Pager}
 use Rattle.paged_run.specs.Openings.{AddsAll}

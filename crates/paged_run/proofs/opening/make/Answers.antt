@@ -1,7 +1,7 @@
 use Rattle.std.proofs.Common.{◌≡◌, None, refl, sym, subst, [], ◌∷◌, arith}
-use Rattle.flat_state.specs.declared.events.Decl.{Decl}
-use Rattle.flat_state.specs.declared.events.Decl.TheVariants as decls
-use Rattle.flat_state.specs.Declaration.{broken_rule, locks_granted}
+use Rattle.flat_rules.specs.flat_state.specs.declared.events.Decl.{Decl}
+use Rattle.flat_rules.specs.flat_state.specs.declared.events.Decl.TheVariants as decls
+use Rattle.flat_rules.specs.flat_state.specs.Declaration.{broken_rule, locks_granted}
 use Rattle.flat_machine.proofs.DeclareSound.{word_rules}
 use Rattle.paged_run.specs.Openings.{Makes}
 use Rattle.paged_run.proofs.Opened.{frames_apart, machine_apart, makes_apart, makes_word}

@@ -1,11 +1,11 @@
 use Rattle.std.proofs.Common.{◌≡◌, ◌≤◌, ◌*◌, List, [], ◌∷◌, ◌++◌, refl, sym, ap, subst, ◌∙◌, arith}
 use Rattle.std.specs.Prelude.{replicate}
 use Rattle.std.proofs.lemmas.List.{length-replicate}
-use Rattle.flat_state.specs.declared.events.Decl.TheVariants.{Machine}
-use Rattle.flat_state.specs.declared.events.Event.TheVariants.{Declare}
-use Rattle.flat_state.specs.Declaration.{declared}
-use Rattle.flat_state.specs.Events.{applied}
-use Rattle.flat_state.specs.State.{nothing_declared, FlatState}
+use Rattle.flat_rules.specs.flat_state.specs.declared.events.Decl.TheVariants.{Machine}
+use Rattle.flat_rules.specs.flat_state.specs.declared.events.Event.TheVariants.{Declare}
+use Rattle.flat_rules.specs.flat_state.specs.Declaration.{declared}
+use Rattle.flat_rules.specs.flat_state.specs.Events.{applied}
+use Rattle.flat_rules.specs.flat_state.specs.State.{nothing_declared, FlatState}
 use Rattle.page_store.specs.Kept.{nothing_kept}
 use Rattle.quantum.specs.Ahead.{Ahead}
 use Rattle.run_journal.specs.declared.entries.Entry.{Entry}

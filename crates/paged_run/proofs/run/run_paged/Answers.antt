@@ -1,5 +1,5 @@
 use Rattle.std.proofs.Common.{arith}
-use Rattle.memory_laws.specs.Apart.{over}
+use Rattle.paged_steps.specs.memory_laws.specs.Apart.{over}
 use Rattle.paged_run.proofs.Whole.{whole_run}
 use Rattle.paged_run.proofs.run.run_paged.Goals as goal
 

@@ -1,4 +1,4 @@
-use Rattle.flat_state.specs.State.{nothing_declared}
+use Rattle.flat_rules.specs.flat_state.specs.State.{nothing_declared}
 use Rattle.flat_machine.proofs.DeclareSound.{machine_rules}
 use Rattle.paged_run.proofs.Opened.{machine_alone, machine_fits}
 use Rattle.paged_run.proofs.sure_store.run_in_memory.Goals as goal

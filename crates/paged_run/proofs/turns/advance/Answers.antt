@@ -1,9 +1,9 @@
 use Rattle.std.proofs.Common.{◌+◌, ◌≤◌, Some, refl, sym, ap, ◌∙◌, subst}
-use Rattle.rv32_exec.specs.declared.statuses.Reason.TheVariants.{Fault}
-use Rattle.rv32_exec.specs.declared.statuses.Status.TheVariants as statuses
-use Rattle.flat_state.specs.Signals.{receivers_of}
-use Rattle.flat_state.specs.State.{FlatState}
-use Rattle.memory_laws.specs.Apart.{over}
+use Rattle.flat_machine.specs.rv32_exec.specs.declared.statuses.Reason.TheVariants.{Fault}
+use Rattle.flat_machine.specs.rv32_exec.specs.declared.statuses.Status.TheVariants as statuses
+use Rattle.flat_rules.specs.flat_state.specs.Signals.{receivers_of}
+use Rattle.flat_rules.specs.flat_state.specs.State.{FlatState}
+use Rattle.paged_steps.specs.memory_laws.specs.Apart.{over}
 use Rattle.paged_steps.specs.declared.looking.Next.{Next}
 use Rattle.paged_steps.specs.Nexts.{GoesSo}
 use Rattle.paged_steps.specs.Pages.{HasFrames}

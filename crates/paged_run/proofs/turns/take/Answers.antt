@@ -1,9 +1,9 @@
 use Rattle.std.proofs.Common.{◌≡◌, ◌+◌, ◌≤◌, ℕ, List, [], ◌∷◌, ◌++◌, sym, ap, ◌∙◌, subst}
 use Rattle.std.proofs.lemmas.Option.{slice_get_within}
-use Rattle.rv32_exec.specs.declared.statuses.Status.TheVariants.{Ready}
-use Rattle.flat_state.specs.declared.records.FlatThread.{FlatThread}
+use Rattle.flat_machine.specs.rv32_exec.specs.declared.statuses.Status.TheVariants.{Ready}
+use Rattle.flat_rules.specs.flat_state.specs.declared.records.FlatThread.{FlatThread}
 use Rattle.quantum.specs.LocalRun.{status_by}
-use Rattle.memory_laws.specs.Apart.{over}
+use Rattle.paged_steps.specs.memory_laws.specs.Apart.{over}
 use Rattle.run_journal.specs.declared.entries.Entry.TheVariants.{Ran}
 use Rattle.paged_steps.specs.Aheads.{IsAheadOf}
 use Rattle.paged_steps.proofs.Taking.{could_run, over_formed}

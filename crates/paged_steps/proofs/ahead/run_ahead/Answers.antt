@@ -1,9 +1,9 @@
 use Rattle.std.proofs.Common.{◌≡◌, ◌-◌, ◌*◌, ◌/◌, ◌<◌, ◌≤◌, ℕ, true, false, None, length, refl, ap, sym, ◌∙◌, subst, inl, arith}
 use Rattle.phys_groups.specs.Translation.{through}
-use Rattle.page_views.specs.Views.{can_fill, filled, View}
+use Rattle.quantum.specs.page_views.specs.Views.{can_fill, filled, View}
 use Rattle.flat_state.specs.Translation.{reached}
 use Rattle.flat_state.specs.declared.records.FlatThread.{FlatThread}
-use Rattle.flat_laws.proofs.Members.{contains_nothing}
+use Rattle.quantum.specs.flat_laws.proofs.Members.{contains_nothing}
 use Rattle.quantum.specs.Ahead.{begun, standing, Ahead}
 use Rattle.paged_steps.specs.declared.ahead.Stands.TheVariants.{Faults}
 use Rattle.paged_steps.specs.Aheads.{AreCopies, IsAheadOf, StandsSo}

@@ -8,7 +8,7 @@ use Rattle.signal_pages.specs.Signals.{address_of}
 use Rattle.flat_state.specs.declared.records.FlatThread.{FlatThread}
 use Rattle.flat_state.specs.State.{FlatState}
 use Rattle.flat_state.specs.Signals.{sent_to}
-use Rattle.flat_events.proofs.SendLaws.{IsSending, sending_more, sending_none, sending_room}
+use Rattle.flat_machine.specs.flat_events.proofs.SendLaws.{IsSending, sending_more, sending_none, sending_room}
 use Rattle.paged_steps.proofs.happening.deliver.Goals as goal
 
 pub loop-receiver-init : goal.loop-receiver-init

@@ -1,5 +1,5 @@
 use Rattle.std.proofs.Common.{◌≡◌}
-use Rattle.flat_events.proofs.SendLaws.{IsSending}
+use Rattle.flat_machine.specs.flat_events.proofs.SendLaws.{IsSending}
 use Rattle.paged_steps.proofs.happening.deliver.Given as goal
 
 abbrev pub invariant-loop-receiver : goal.invariant-loop-receiver

@@ -4,7 +4,7 @@ use Rattle.phys_groups.specs.Memory.{HasFrame}
 use Rattle.quantum.proofs.OneStep.{contains_filter}
 use Rattle.flat_state.specs.State.{FlatState}
 use Rattle.page_store.specs.Kept.{Means}
-use Rattle.page_views.specs.Views.{View}
+use Rattle.quantum.specs.page_views.specs.Views.{View}
 use Rattle.quantum.specs.LocalRun.{touched_views, with_views}
 use Rattle.paged_steps.specs.Aheads.{IsPutIf}
 use Rattle.paged_steps.proofs.Taking.{memory_kept, memory_more, no_marks, put_first, put_later, row_frame, rows_kept, rows_more}

@@ -1,5 +1,5 @@
 use Rattle.std.proofs.Common.{◌≡◌, ℕ, List, map, take, Contains}
-use Rattle.page_views.specs.Views.{View}
+use Rattle.quantum.specs.page_views.specs.Views.{View}
 use Rattle.page_store.specs.Kept.{Means}
 use Rattle.quantum.specs.LocalRun.{touched_views, with_views}
 use Rattle.paged_steps.specs.Aheads.{AreCopies, IsPutIf}

@@ -1,4 +1,4 @@
-use Rattle.alone_run.specs.board_turns.specs.board_core.proofs.GoingLaws.{event_more}
+use Rattle.alone_run.specs.board_core.proofs.GoingLaws.{event_more}
 use Rattle.processors.proofs.holds.commit.Goals as goal
 
 pub returns-in-Taken-clause-event : goal.returns-in-Taken-clause-event

@@ -1,4 +1,4 @@
-use Rattle.alone_run.specs.board_turns.specs.board_commits.specs.Tickets.{AreAllAsOf}
+use Rattle.alone_run.specs.board_commits.specs.Tickets.{AreAllAsOf}
 use Rattle.processors.proofs.run.take_turns.Given as goal
 
 abbrev pub invariant-turns : goal.invariant-turns

@@ -1,8 +1,8 @@
 use Rattle.std.proofs.Common.{List, sym, ◌∙◌, subst}
 use mathlib.Core.List.{IsPrefix}
 use Rattle.turn_lock.specs.Lists.{numbers}
-use Rattle.alone_run.specs.board_turns.specs.cache_board.specs.Events.{past_of}
-use Rattle.alone_run.specs.board_turns.specs.cache_board.proofs.PastLaws.{limit_stays, made_by_numbers, seal_stays}
+use Rattle.alone_run.specs.cache_board.specs.Events.{past_of}
+use Rattle.alone_run.specs.cache_board.proofs.PastLaws.{limit_stays, made_by_numbers, seal_stays}
 use Rattle.processors.proofs.Closing.{journal_begins}
 use Rattle.processors.proofs.Parting.{are_processors, parts_gone_on, seen_by_parts}
 use Rattle.processors.proofs.side_by_side.run_side_by_side.Goals as goal

@@ -1,6 +1,6 @@
 use Rattle.std.proofs.Common.{List, Result, subst, arith}
 use Rattle.std.proofs.lemmas.Result.{err_from_is_err_and}
-use Rattle.flat_state.specs.declared.events.Decl.{Decl}
+use Rattle.flat_machine.specs.flat_state.specs.declared.events.Decl.{Decl}
 use Rattle.text_fields.specs.Lines.{lines}
 use Rattle.scenario_reader.specs.declared.fault.ScenarioFault.{ScenarioFault}
 use Rattle.scenario_reader.specs.Readings.{Answers}

@@ -1,4 +1,4 @@
-use Rattle.flat_state.specs.Call.{is_completable}
+use Rattle.shown_state.specs.flat_state.specs.Call.{is_completable}
 use Rattle.thread_sets.specs.SetsOf.{takes_steps}
 use Rattle.thread_sets.proofs.SetsLemmas.{none_passes}
 use Rattle.thread_sets.proofs.laws.no_number_is_no_thread.Goals as goal

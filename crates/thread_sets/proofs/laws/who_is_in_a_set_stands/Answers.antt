@@ -1,4 +1,4 @@
-use Rattle.flat_state.specs.Call.{is_completable}
+use Rattle.shown_state.specs.flat_state.specs.Call.{is_completable}
 use Rattle.thread_sets.specs.SetsOf.{takes_steps}
 use Rattle.thread_sets.proofs.SetsLemmas.{passing_in}
 use Rattle.thread_sets.proofs.laws.who_is_in_a_set_stands.Goals as goal

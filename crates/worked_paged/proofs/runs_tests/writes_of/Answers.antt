@@ -1,7 +1,7 @@
 use Rattle.std.proofs.Common.{drop, sym, subst}
 use Rattle.flat_state.specs.State.{nothing_declared}
 use Rattle.flat_state.specs.Events.{AllFit}
-use Rattle.flat_machine.proofs.DeclareSound.{machine_rules}
+use Rattle.paged_run.specs.flat_machine.proofs.DeclareSound.{machine_rules}
 use Rattle.paged_run.proofs.Opened.{machine_alone, machine_fits}
 use Rattle.worked_paged.proofs.runs_tests.writes_of.Goals as goal
 

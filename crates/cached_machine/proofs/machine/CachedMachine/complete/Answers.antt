@@ -7,7 +7,7 @@ use Rattle.flat_state.specs.Call.{answered}
 use Rattle.flat_state.specs.Declaration.{declared}
 use Rattle.flat_state.specs.State.{FlatState, with_thread}
 use Rattle.phys_groups.specs.Translation.{without}
-use Rattle.run_journal.specs.Legal.{AreGood}
+use Rattle.board_laws.specs.run_journal.specs.Legal.{AreGood}
 use Rattle.board_laws.specs.desc_stores.specs.Contents.{residents_of}
 use Rattle.cached_machine.specs.Cached.{state_of}
 use Rattle.cached_machine.proofs.CompleteLaws.{beside_aside, found_at, row_gone, thread_stays}

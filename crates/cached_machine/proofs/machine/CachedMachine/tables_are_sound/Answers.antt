@@ -1,6 +1,6 @@
 use Rattle.std.proofs.Common.{ℕ, ◌+◌, ◌≤◌, ◌^◌, length, subst}
 use Rattle.cache_ident.specs.declared.idents.Ident.{Ident}
-use Rattle.depend_lists.specs.Pairs.{count_of}
+use Rattle.board_laws.specs.depend_lists.specs.Pairs.{count_of}
 use Rattle.board_laws.specs.desc_groups.specs.Moves.{HasPlaces}
 use Rattle.board_laws.specs.desc_stores.specs.Contents.{residents_of}
 use Rattle.cached_machine.specs.Cached.{Cached}

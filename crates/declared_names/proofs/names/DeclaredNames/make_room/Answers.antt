@@ -2,7 +2,7 @@ use Rattle.std.proofs.Common.{refl, arith}
 use Rattle.std.specs.Ordering.{nat_cmp}
 use Rattle.cache_ident.specs.contracts.names.NameOrd.TheImpl as order
 use Rattle.cache_ident.specs.contracts.names.NameOrd.TheImpl.Laws as laws
-use Rattle.slot_cache.proofs.NameLemmas.{same_name}
+use Rattle.growing_list.specs.slot_cache.proofs.NameLemmas.{same_name}
 use Rattle.growing_list.proofs.IndexLemmas.{index_grown}
 use Rattle.declared_names.proofs.OrderLemmas.{sound_roomier}
 use Rattle.declared_names.proofs.names.DeclaredNames.make_room.Goals as goal

@@ -14,7 +14,7 @@ use Rattle.desc_stores.specs.Contents.{resident_of, Contents}
 use Rattle.desc_stores.specs.Sound.{kernel_named}
 use Rattle.std.specs.Prelude.{IsSome}
 use Rattle.slot_cache.proofs.SlotLemmas.{one_at}
-use Rattle.owner_shelf.specs.declared.shelved.Shelved.{Shelved}
+use Rattle.kind_store.specs.owner_shelf.specs.declared.shelved.Shelved.{Shelved}
 use Rattle.kind_store.specs.Kept as stored
 use Rattle.kind_store.specs.Rolls.{loaded_as}
 use Rattle.desc_stores.proofs.SoundLemmas.{kernels-sound_changing}

@@ -1,6 +1,6 @@
 use Rattle.std.proofs.Common.{ap, sym, ◌∙◌, subst, arith}
 use Rattle.cache_ident.specs.declared.names.Caps.{Caps}
-use Rattle.flat_state.specs.State.{FlatState}
+use Rattle.desc_groups.specs.flat_state.specs.State.{FlatState}
 use Rattle.desc_groups.specs.shown_state.specs.Edits.{with_new}
 use Rattle.desc_tables.specs.May.{MayBeDeclared}
 use Rattle.desc_tables.specs.Tables.{Held}

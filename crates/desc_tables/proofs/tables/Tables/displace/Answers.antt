@@ -3,7 +3,7 @@ use Rattle.std.proofs.Common.{ap, subst, sym, ◌∙◌, arith}
 use Rattle.cache_ident.specs.Names.{kind_of}
 use Rattle.depend_lists.specs.Pairs.{count_of}
 use Rattle.desc_groups.specs.desc_stores.specs.Contents.{residents_of, IsFullOf, IsVictimOf, NoneMayGoOf}
-use Rattle.run_journal.specs.Groups.{IsGroup}
+use Rattle.desc_groups.specs.run_journal.specs.Groups.{IsGroup}
 use Rattle.desc_groups.specs.store_residents.specs.Victims.{IsOldest}
 use Rattle.desc_groups.specs.store_residents.proofs.ResidentLemmas.{live_iff}
 use Rattle.desc_groups.specs.store_residents.proofs.VictimLemmas.{victim_resident}

@@ -3,7 +3,7 @@ use Rattle.std.proofs.Common.{◌≡◌, ℕ, ◌<◌, List, [], length, None, a
 use Rattle.cache_ident.specs.Names.{kind_of}
 use Rattle.cache_ident.specs.Residents.{Resident}
 use Rattle.depend_lists.specs.Pairs.{count_of}
-use Rattle.run_journal.specs.Legal.{IsTaken}
+use Rattle.desc_groups.specs.run_journal.specs.Legal.{IsTaken}
 use Rattle.desc_groups.specs.desc_stores.specs.Contents.{residents_of}
 use Rattle.desc_groups.specs.store_residents.proofs.SlotLaws.{lowest_free}
 use Rattle.desc_groups.specs.group_laws.specs.Leaving.{without_all}

@@ -1,5 +1,5 @@
 use Rattle.std.proofs.Common.{ap, sym, ◌∙◌, subst}
-use Rattle.flat_state.specs.Dependence.{owner}
+use Rattle.desc_groups.specs.flat_state.specs.Dependence.{owner}
 use Rattle.desc_groups.specs.desc_stores.specs.Contents.{content_of, IsShelved}
 use Rattle.desc_groups.specs.desc_parents.specs.Seen.{seen}
 use Rattle.desc_tables.specs.Tables.{Held}

@@ -1,7 +1,7 @@
 use Rattle.std.proofs.Common.{Bool, IsSome, ap, sym, ◌∙◌, subst}
 use Rattle.cache_ident.specs.declared.names.Name.TheVariants as name
-use Rattle.flat_state.specs.Dependence.{owner}
-use Rattle.run_journal.specs.Legal.{AreGood}
+use Rattle.desc_groups.specs.flat_state.specs.Dependence.{owner}
+use Rattle.desc_groups.specs.run_journal.specs.Legal.{AreGood}
 use Rattle.desc_groups.specs.desc_stores.specs.Contents.{content_of, residents_of}
 use Rattle.desc_groups.specs.shown_state.specs.Shown.{shown}
 use Rattle.desc_groups.specs.desc_parents.specs.Seen.{seen}

@@ -1,6 +1,6 @@
 -- What stands in the place of the content of the name is like it, so that all holds that held.
 use Rattle.std.proofs.Common.{ap, sym, ◌∙◌}
-use Rattle.flat_state.specs.Dependence.{owner}
+use Rattle.desc_groups.specs.flat_state.specs.Dependence.{owner}
 use Rattle.desc_groups.specs.desc_stores.specs.declared.items.Item.TheVariants as item
 use Rattle.desc_groups.specs.desc_stores.specs.Changes.{room_of}
 use Rattle.desc_groups.specs.desc_stores.specs.Contents.{content_of, Contents}

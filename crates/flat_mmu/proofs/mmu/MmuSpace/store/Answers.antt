@@ -1,7 +1,7 @@
 use Rattle.std.proofs.Common.{◌≡◌, Some, None, sym, ap, ◌∙◌}
 use Rattle.std.specs.Option.{is_some, option_map}
 use Rattle.rv32_exec.specs.declared.statuses.Access.TheVariants.{Write}
-use Rattle.flat_state.specs.Pages.{page_of}
+use Rattle.flat_rules.specs.flat_state.specs.Pages.{page_of}
 use Rattle.flat_mmu.specs.Seen.{seen, seen_row}
 use Rattle.flat_mmu.proofs.MmuLaws.{both_stay, place_aligned, place_within, store_keeps, store_pages, translates_seen, unstored_seen}
 use Rattle.flat_mmu.proofs.mmu.MmuSpace.store.Goals as goal

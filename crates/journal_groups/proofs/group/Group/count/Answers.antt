@@ -1,5 +1,5 @@
 use Rattle.std.proofs.Common.{ℕ, ◌+◌, List, count_by, ap, sym, ◌∙◌}
-use Rattle.run_journal.specs.Legal.{count_of, is_kind}
+use Rattle.residents.specs.run_journal.specs.Legal.{count_of, is_kind}
 use Rattle.journal_groups.specs.declared.gone.Gone.{Gone}
 use Rattle.journal_groups.proofs.Leaves.{count_left}
 use Rattle.journal_groups.proofs.group.Group.count.Goals as goal

@@ -1,7 +1,7 @@
 use Rattle.std.proofs.Common.{◌≡◌, ◌↔◌, List, Contains, ap, sym, ◌∙◌, subst}
 use Rattle.cache_ident.specs.declared.names.Name.{Name}
-use Rattle.flat_state.specs.State.{FlatState}
-use Rattle.flat_state.specs.Dependence.{owner, parents}
+use Rattle.residents.specs.flat_state.specs.State.{FlatState}
+use Rattle.residents.specs.flat_state.specs.Dependence.{owner, parents}
 use Rattle.residents.specs.Relying.{IsRelying}
 use Rattle.residents.specs.declared.relying.Reliance.{Reliance}
 use Rattle.residents.specs.Pairs.{IsPair}

@@ -3,8 +3,8 @@ use Rattle.std.specs.Prelude.{MatchOption}
 use Rattle.std.proofs.lemmas.Bool.{false≢true}
 use Rattle.cache_ident.specs.declared.idents.Cause.TheVariants as causes
 use Rattle.residents.specs.declared.list.Held.{Held}
-use Rattle.run_journal.specs.Legal.{MayLeave, first_ident}
-use Rattle.run_journal.proofs.Others.{other_ident}
+use Rattle.residents.specs.run_journal.specs.Legal.{MayLeave, first_ident}
+use Rattle.residents.specs.run_journal.proofs.Others.{other_ident}
 use Rattle.journal_tables.specs.Tables.{MayLeaveAs}
 use Rattle.journal_tables.proofs.TableLemmas.{not_last, may_leave}
 use Rattle.journal_tables.proofs.tables.Tables.leaver.Goals as goal

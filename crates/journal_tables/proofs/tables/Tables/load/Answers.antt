@@ -1,8 +1,8 @@
 use Rattle.std.proofs.Common.{◌≡◌, ◌↔◌, ◌⊎◌, List, Contains, refl, ap, sym, ◌∙◌, subst}
 use Rattle.std.proofs.lemmas.Bool.{false≢true}
 use Rattle.cache_ident.specs.declared.names.Name.{Name}
-use Rattle.flat_state.specs.State.{FlatState}
-use Rattle.flat_state.specs.Dependence.{parents}
+use Rattle.residents.specs.flat_state.specs.State.{FlatState}
+use Rattle.residents.specs.flat_state.specs.Dependence.{parents}
 use Rattle.residents.specs.Relying.{IsRelying}
 use Rattle.residents.specs.declared.relying.Reliance.{Reliance}
 use Rattle.residents.specs.Pairs.{IsPair}

@@ -1,7 +1,7 @@
 use Rattle.std.proofs.Common.{refl, ap, sym, ◌∙◌, arith}
-use Rattle.flat_state.specs.State.{FlatState}
-use Rattle.flat_state.specs.Dependence.{owner}
-use Rattle.run_journal.specs.Legal.{limit_of}
+use Rattle.residents.specs.flat_state.specs.State.{FlatState}
+use Rattle.residents.specs.flat_state.specs.Dependence.{owner}
+use Rattle.residents.specs.run_journal.specs.Legal.{limit_of}
 use Rattle.journal_tables.proofs.TableLemmas.{of_locked, not_ownerless, not_locked, not_full, may_lock}
 use Rattle.journal_tables.proofs.tables.Tables.lock.Goals as goal
 

@@ -1,9 +1,9 @@
 use Rattle.std.proofs.Common.{refl, sym, subst}
 use Rattle.std.proofs.lemmas.Bool.{not-false, not-true}
-use Rattle.flat_state.specs.State.{FlatState}
-use Rattle.flat_state.specs.Dependence.{owner}
-use Rattle.run_journal.specs.Legal.{MayUnlock, first_ident}
-use Rattle.run_journal.proofs.Others.{other_ident}
+use Rattle.residents.specs.flat_state.specs.State.{FlatState}
+use Rattle.residents.specs.flat_state.specs.Dependence.{owner}
+use Rattle.residents.specs.run_journal.specs.Legal.{MayUnlock, first_ident}
+use Rattle.residents.specs.run_journal.proofs.Others.{other_ident}
 use Rattle.residents.specs.Tables.{resident_of}
 use Rattle.journal_tables.specs.Locks.{RecountsIf}
 use Rattle.journal_tables.proofs.TableLemmas.{of_unlocked, not_unlocked}

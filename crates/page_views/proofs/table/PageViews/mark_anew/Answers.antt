@@ -1,7 +1,7 @@
 -- The one view of the page has the mark.
 use Rattle.std.proofs.Common.{◌<◌, List, find, length, map, Some, sym, ap, subst, ◌∙◌}
 use Rattle.cache_ident.specs.declared.names.Vpn.{Vpn}
-use Rattle.flat_state.specs.Translation.{wants}
+use Rattle.flat_rules.specs.flat_state.specs.Translation.{wants}
 use Rattle.page_views.specs.Lines.{seen_at}
 use Rattle.page_views.specs.Views.{is_of_page, mark_view_of, Table, View}
 use Rattle.page_views.proofs.Indexing.{index_within}

@@ -1,5 +1,5 @@
 use Rattle.std.proofs.Common.{◌<◌, refl, ◌∙◌}
-use Rattle.flat_state.specs.declared.records.Settled.{Settled}
+use Rattle.flat_rules.specs.flat_state.specs.declared.records.Settled.{Settled}
 use Rattle.paged_run.specs.Pagers.{left, Grew, IsOver}
 use Rattle.paged_run.proofs.Growing.{grew_none, grew_over, grew_then}
 use Rattle.paged_run.proofs.Settling.{none_of, some_of}

@@ -1,6 +1,6 @@
 use Rattle.std.proofs.Common.{◌∙◌, sym, ap, arith}
 use Rattle.turn_lock.specs.Passes.{found_by, holder_first, seen_of, value_of}
-use Rattle.alone_run.specs.board_turns.specs.cache_board.specs.Pasts.{entries_of}
+use Rattle.alone_run.specs.cache_board.specs.Pasts.{entries_of}
 use Rattle.alone_run.specs.board_turns.specs.Holds as holds
 use Rattle.processors.specs.Sharing.{seen_by, Sharer}
 use Rattle.processors.proofs.Holding.{journal_seen, seen_on, sees_more, signed}

@@ -1,6 +1,6 @@
 use Rattle.std.proofs.Common.{◌∙◌}
 use Rattle.turn_lock.specs.Passes.{found_by, holder_first, seen_of, value_of}
-use Rattle.alone_run.specs.board_turns.specs.cache_board.specs.Pasts.{entries_of}
+use Rattle.alone_run.specs.cache_board.specs.Pasts.{entries_of}
 use Rattle.processors.specs.Sharing.{seen_by}
 use Rattle.processors.proofs.Holding.{journal_seen, seen_on, sees_more, signed}
 use Rattle.processors.proofs.Seeing.{so_seen}

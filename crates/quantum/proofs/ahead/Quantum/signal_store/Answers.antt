@@ -1,7 +1,7 @@
 -- The store is the next step, where the run pauses before one that signals.
 use Rattle.std.proofs.Common.{None, sym, ap, ◌∙◌}
 use Rattle.std.specs.Prelude.{if◌then◌else◌}
-use Rattle.flat_state.specs.Signals.{next_action}
+use Rattle.flat_laws.specs.flat_state.specs.Signals.{next_action}
 use Rattle.page_views.specs.Views.{pages_of_views}
 use Rattle.quantum.specs.Ahead.{signal_store, store_by}
 use Rattle.quantum.proofs.Signalling.{effect_if}

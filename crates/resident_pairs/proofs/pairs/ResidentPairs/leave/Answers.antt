@@ -2,7 +2,7 @@ use Rattle.std.proofs.Common.{ap, subst}
 use Rattle.cache_ident.specs.declared.idents.Ident.{Ident}
 use Rattle.cache_ident.specs.Residents.{without as without_resident}
 use Rattle.depend_lists.specs.Pairs.{without}
-use Rattle.run_journal.specs.Groups.{ArePairsOf}
+use Rattle.journal_laws.specs.run_journal.specs.Groups.{ArePairsOf}
 use Rattle.resident_pairs.specs.Among.{Among}
 use Rattle.resident_pairs.proofs.Staying.{leave_keeps}
 use Rattle.resident_pairs.proofs.pairs.ResidentPairs.leave.Goals as goal
