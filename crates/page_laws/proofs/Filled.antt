@@ -1,6 +1,6 @@
 -- What comes of pages whose row is to be loaded, and of pages of which nothing is.
 use Rattle.std.proofs.Common.{◌≡◌, Bool, true, false, List, Option, Some, None, refl, sym, ap, ◌∙◌, subst, inl, inr}
-use Rattle.std.specs.Prelude.{◌&&◌, ◌||◌, is_some, not, IfErr, IfOk, Ok, Err, Result}
+use Rattle.std.specs.Prelude.{◌/◌, ◌&&◌, ◌||◌, is_some, not, IfErr, IfOk, Ok, Err, Result}
 use Rattle.std.specs.Option.{option_and_then, option_map}
 use Rattle.std.proofs.lemmas.Option.{same_Some}
 use Rattle.cache_ident.specs.declared.idents.Ident.{Ident}
