@@ -1,11 +1,13 @@
 # Threads share the cases at one start, those that take longest first, and behind them one thread has those that ask for several
-# processors. The answers come thread by thread.
+# processors, but for one that takes many steps. The answers come thread by thread.
 mkdir tests/long
 for name in a b c d e f g; do
     echo "$name" > "tests/long/$name.in"
     printf 'status done\nsteps %d\n' "'$name" > "tests/long/$name.out"
 done
-for name in b f; do
+touch tests/long/h.in
+printf 'status done\nsteps 10001\n' > tests/long/h.out
+for name in b f h; do
     printf -- '--cpus\n2\n' > "tests/long/$name.args"
 done
 mkdir -p crates/v_run/src
