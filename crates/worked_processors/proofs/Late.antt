@@ -1,9 +1,8 @@
--- What a quantum has, as its board goes on.
-use Rattle.std.proofs.Common.{◌≡◌, ◌<◌, ℕ, List, [], Contains, sym, ap, subst, arith}
+-- What a quantum has for its ticket, as it begins and as its board goes on.
+use Rattle.std.proofs.Common.{ℕ, List, sym, subst}
 use Rattle.cache_ident.specs.declared.idents.Ident.{Ident}
-use Rattle.rv32_exec.specs.declared.context.Context.{Context}
 use Rattle.run_journal.specs.declared.entries.Entry.{Entry}
-use Rattle.alone_run.specs.quantum.specs.Ahead.{begun, unbegun, Ahead}
+use Rattle.alone_run.specs.quantum.specs.Ahead.{Ahead}
 use Rattle.alone_run.specs.board_core.specs.Core.{Recorded}
 use Rattle.alone_run.specs.board_core.specs.Going.{IsOneEvent}
 use Rattle.alone_run.specs.board_commits.specs.Tickets.{AreOfTicket}

@@ -1,8 +1,8 @@
 //! Steps are committed too late: their thread was unloaded meanwhile. The run goes on behind that.
 
-ghost use Rattle.processors.specs.alone_run.specs.board_commits.specs.Tickets.{AreOfTicket};
-ghost use Rattle.processors.specs.app_kernel.specs.owners.specs.Known.{Known};
-ghost use Rattle.processors.specs.app_kernel.specs.reach_laws.specs.Reaching.{IsOwned};
+ghost use Rattle.alone_run.specs.board_commits.specs.Tickets.{AreOfTicket};
+ghost use Rattle.alone_run.specs.board_turns.specs.owners.specs.Known.{Known};
+ghost use Rattle.worked_processors.specs.Owned.{HasOwners};
 
 use crate::scenes::{CODE, FIRST, REPORT, Scene, THREAD, load_thread, opened, report_of};
 use alone_run::run_alone;
@@ -26,30 +26,29 @@ fn has_run_ahead(board: &Board, ticket: &Ticket, quantum: &mut Quantum) -> bool
     ensures { AreOfTicket board.now.journal.entries ticket.now.thread quantum.new }
 {
     begin(board, ticket, quantum);
-    if !quantum.can_fill(CODE) || board.page(ticket, CODE, quantum).is_err() {
+    if !quantum.can_fill(CODE) {
         return false;
     }
+    let paged = board.page(ticket, CODE, quantum);
     let _call = quantum.run(256);
-    quantum.steps() == 3
+    paged.is_ok() && quantum.steps() == 3
 }
 
 // Why the commit of processor 0 is refused, once processor 1 has unloaded its thread.
 fn refusal_of_late_commit(board: &mut Board, quantum: &mut Quantum) -> Option<Refused>
-    ensures { (known : Known) → IsOwned board.old known → IsOwned board.new known }
+    ensures { (known : Known) → HasOwners board.old known → HasOwners board.new known }
 {
     let ticket = board.checkout(0)?;
     if !has_run_ahead(board, &ticket, quantum) {
         return None;
     }
-    let unloaded = board.unload(1, FIRST, THREAD);
-    let committed = board.commit(&ticket, quantum);
-    unloaded.ok()?;
-    committed.err()
+    let _unloaded = board.unload(1, FIRST, THREAD);
+    board.commit(&ticket, quantum).err()
 }
 
 // The report of the run behind a late commit.
 fn run_on(rt: &impl Abort, alloc: Global, scene: &mut Scene) -> Result<Vec<u8>, NoMemory>
-    requires { IsOwned scene.old.board scene.old.owners }
+    requires { HasOwners scene.old.board scene.old.owners }
 {
     assert!(rt; load_thread(&mut scene.board));
     let refused = refusal_of_late_commit(&mut scene.board, &mut scene.quantum);

@@ -1,12 +1,18 @@
 //! The board of a thread, what a processor needs beside it, and its report.
 
-ghost use Rattle.std.specs.Prelude.{IfOk};
-ghost use Rattle.processors.specs.app_kernel.specs.owners.specs.Known.{Known};
-ghost use Rattle.processors.specs.app_kernel.specs.reach_laws.specs.Reaching.{IsOwned};
+ghost use Rattle.std.specs.Prelude.{◌≡◌, ◌∷◌, IfOk, List};
+ghost use Rattle.flat_state.specs.declared.events.Decl.{Decl};
+ghost use Rattle.flat_state.specs.declared.events.Decl.TheVariants as declaration;
+ghost use Rattle.flat_state.specs.declared.events.Machine.{Machine};
+ghost use Rattle.flat_state.specs.Events.{AllFit};
+ghost use Rattle.flat_state.specs.State.{nothing_declared};
+ghost use Rattle.alone_run.specs.board_turns.specs.owners.specs.Known.{Known};
+ghost use Rattle.worked_processors.specs.Owned.{HasOwners};
 
 use board_opening::board_of;
 use cache_ident::{Ident, Kind, NoMemory, SpaceNo, ThreadNo, Vpn};
 use flat_report::report;
+use flat_state::Decl;
 use processors::{Board, Owners, Quantum};
 use scenario_reader::read_opening;
 use std::alloc::{AllocError, Global};
@@ -56,19 +62,18 @@ pub(crate) struct Scene {
     pub quantum: Quantum,
 }
 
-/// The sealed board of the thread, the owners that its declarations make, and a new quantum.
-pub(crate) fn opened(alloc: Global) -> Result<Scene, NoMemory>
-    ensures { IfOk result (λ scene. IsOwned scene.board scene.owners) }
+// The sealed board of these declarations, the owners that they make, and a new quantum.
+fn scene_of(alloc: Global, decls: &[Decl]) -> Result<Scene, NoMemory>
+    requires fit { AllFit nothing_declared decls.now }
+    requires machine { (machine : Machine) × (rest : List Decl) × (decls.now ≡ declaration.Machine machine ∷ rest) }
+    ensures { IfOk result (λ scene. HasOwners scene.board scene.owners) }
 {
-    let Ok(scenario) = read_opening(alloc, LETTER.as_bytes()) else {
-        return Err(AllocError);
-    };
-    let mut board = board_of(alloc, scenario.decls(), STEPS)?;
+    let mut board = board_of(alloc, decls, STEPS)?;
     let Ok(_) = board.seal() else {
         return Err(AllocError);
     };
     board.holds();
-    let owners = Owners::new(alloc, scenario.decls())?;
+    let owners = Owners::new(alloc, decls)?;
     let quantum = Quantum::new(alloc, VIEWS)?;
     Ok(Scene {
         board,
@@ -77,9 +82,19 @@ pub(crate) fn opened(alloc: Global) -> Result<Scene, NoMemory>
     })
 }
 
+/// The sealed board of the thread, with its owners, and a new quantum.
+pub(crate) fn opened(alloc: Global) -> Result<Scene, NoMemory>
+    ensures { IfOk result (λ scene. HasOwners scene.board scene.owners) }
+{
+    match read_opening(alloc, LETTER.as_bytes()) {
+        Ok(scenario) => scene_of(alloc, scenario.decls()),
+        Err(_) => Err(AllocError),
+    }
+}
+
 /// Loads the space, the thread and the row of its code, and answers whether they have the identifiers that they should.
 pub(crate) fn load_thread(board: &mut Board) -> bool
-    ensures { (known : Known) → IsOwned board.old known → IsOwned board.new known }
+    ensures { (known : Known) → HasOwners board.old known → HasOwners board.new known }
 {
     let space = board.load_space(0, FIRST, SpaceNo(0));
     let thread = board.load_thread(0, FIRST, SPACE, ThreadNo(0));
