@@ -11,8 +11,9 @@
 # greeting, which takes at most 3 times the peer's whole time.
 #
 # What is timed is the processor's time for the whole program, the shortest of nine runs. Where valgrind is on the path, instructions are
-# counted too, which no other work on the machine changes: from one thread call to the next, with the nine steps between them, at
-# most 10,000. PROGRAM is a v_run to time instead of the one that ./build leaves, as an older one. Fails where a bar isn't met.
+# counted too, which no other work on the machine changes: those that make the owners of 262,144 rows, at most as many as those that
+# declare the rows; and, where PEERS is given, from one thread call to the next, with the nine steps between them, at most 10,000.
+# PROGRAM is a v_run to time instead of the one that ./build leaves, as an older one. Fails where a bar isn't met.
 set -u
 unset CDPATH
 script=bench/runs.sh
@@ -130,6 +131,26 @@ shortest 1 "$proved"
 echo "262,144 rows in $bytes bytes: $whole ms, half as many $half ms, reading alone $time ms"
 judge 'the run beside reading' "$whole" "$time" 400
 judge 'twice the rows' "$whole" "$half" 240
+
+# taken_by FUNCTION: how many instructions the function takes, with all that it calls.
+taken_by() {
+    callgrind_annotate --inclusive=yes --threshold=100 "$place/profile" | awk -v name=":$1" '
+        index($0, name " ") { gsub(",", "", $1); print $1; exit }'
+}
+
+if hash valgrind 2> /dev/null; then
+    rows 262144 > "$place/text"
+    valgrind --tool=callgrind --callgrind-out-file="$place/profile" "$proved" < "$place/text" > "$place/answer" 2> /dev/null
+    begins 'done'
+    declared=$(taken_by desc_tables::tables::Tables::declare)
+    owned=$(taken_by owners::owners::Owners::new)
+    echo "262,144 rows: ${declared:-no} instructions to declare them, ${owned:-no} to make their owners"
+    if [ -n "$declared" ] && [ -n "$owned" ]; then
+        judge 'owners beside declarations' "$owned" "$declared" 100
+    else
+        failed=1
+    fi
+fi
 
 cp -- "$top/tests/gen/three_pipelines_in_the_smallest_caches.in" "$place/text"
 shortest 1 "$proved"

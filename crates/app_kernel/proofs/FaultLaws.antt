@@ -64,7 +64,7 @@ fetch_loaded b space thread is = by (fetch_row (state_of b.machine) is.found) re
         let loaded = is.fetch row through in
         let home : row.space ≡ space = fetched_space (state_of b.machine) is.found row through ∙ is.its in
         let named : name.Mapping space row.vpn ≡ row_name row = ap (λ (x : SpaceNo). name.Mapping x row.vpn) (sym home) in
-        (loaded.live.0, loaded.live.1, loaded.live.3 ∙ named)
+        (loaded.0, loaded.1, loaded.2 ∙ named)
 
 -- its step was taken
 taken_so : (b c : Recorded) (o : Known) (thread : ThreadNo) (ident : Ident) → IsOwned b o → ident_of o (name.Thread thread) ≡ Some ident → HasEnded ident 0 b c → IsFaultTaken thread b c

@@ -15,7 +15,7 @@ use Rattle.owners.specs.Known.{Known}
 use Rattle.page_laws.specs.reach_laws.specs.Filling.{IsFillable, IsUnfillable}
 use Rattle.page_laws.specs.reach_laws.specs.Reaching.{IsOwned}
 use Rattle.page_laws.proofs.Kept.{keeps_further, keeps_room}
-use Rattle.page_laws.proofs.Filled.{fillable_kept, unfillable_kept}
+use Rattle.page_laws.proofs.Filled.{fetched_plain, fillable_kept, unfillable_kept}
 use Rattle.app_kernel.specs.Pages.{AreGentle, IsFaulted, IsGentle}
 use Rattle.app_kernel.specs.Walks.{AreWalked, IsWalked}
 use Rattle.app_kernel.proofs.Changes.{told_both, told_twice}
@@ -67,7 +67,10 @@ faulted_gentle b c o p space thread gentle owned is = record {
   its = is.its;
   ready = is.ready;
   faulty = ap (λ (s : FlatState). faults s is.found) gentle.walked.state ∙ is.faulty;
-  fetch = λ row through. (gentle.keeps owned).plain row.vpn (is.fetch row (ap (λ (s : FlatState). fetch_row s is.found) (sym gentle.walked.state) ∙ through));
+  fetch = λ row through.
+      let was = ap (λ (s : FlatState). fetch_row s is.found) (sym gentle.walked.state) ∙ through in
+      let plain = (gentle.keeps owned).plain row.vpn (fetched_plain b owned.sound is.found row was space is.its (is.fetch row was)) in
+      (plain.live.0, plain.live.1, plain.live.3);
   free = unmarked (mark_of (contents_of b) thread) (mark_of (contents_of c) thread) (gentle.marks thread) is.free;
   left = subst (λ (n : ℕ). n < c.limit) (sym (gentle.walked.steps owned)) (subst (λ (n : ℕ). b.steps < n) (sym gentle.walked.limit) is.left);
 }

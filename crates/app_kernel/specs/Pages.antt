@@ -28,7 +28,7 @@ use Rattle.page_laws.specs.answer_laws.specs.Given.{IsGiven}
 use Rattle.owners.specs.Known.{receiver_of, space_of, Known}
 use Rattle.page_laws.specs.Keeping.{KeepsRows}
 use Rattle.page_laws.specs.reach_laws.specs.Filling.{IsElse, IsFillable, IsNothingToLoad, IsUnfillable}
-use Rattle.page_laws.specs.reach_laws.specs.Reaching.{IsOwned, IsPlainLoaded, IsReached}
+use Rattle.page_laws.specs.reach_laws.specs.Reaching.{IsOwned, IsReached}
 use Rattle.app_kernel.specs.declared.serving.Served.{Served}
 use Rattle.app_kernel.specs.declared.serving.Served.TheVariants as served
 use Rattle.app_kernel.specs.declared.walk.Trust.{Trust}
@@ -149,14 +149,14 @@ IsFilledOr b space vpn (Err why) = (why ≡ NoMemory) ⊎ IsFillable b space vpn
 -- ---- faults that are confirmed
 
 -- The next step of the thread, which is of the space, faults and may be taken. Its fetch doesn't translate, or goes through a row that
--- is loaded and has neither receiver nor flag m.
+-- is loaded.
 pub record IsFaulted (b : Recorded) (space : SpaceNo) (thread : ThreadNo) : Type 0 where
   pub found : FlatThread
   pub there : slice_get (state_of b.machine).threads thread.0 ≡ Some found
   pub its : found.space ≡ space
   pub ready : is_ready found.status ≡ true
   pub faulty : faults (state_of b.machine) found ≡ true
-  pub fetch : (row : Row) → fetch_row (state_of b.machine) found ≡ Some row → IsPlainLoaded b space row.vpn
+  pub fetch : (row : Row) → fetch_row (state_of b.machine) found ≡ Some row → IsNameResident (residents_of (contents_of b)) (Mapping space row.vpn)
   pub free : mark_of (contents_of b) thread ≡ None
   pub left : b.steps < b.limit
 

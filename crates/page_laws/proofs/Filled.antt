@@ -1,23 +1,23 @@
 -- What comes of pages whose row is to be loaded, and of pages of which nothing is.
 use Rattle.std.proofs.Common.{◌≡◌, Bool, true, false, List, Option, Some, None, refl, sym, ap, ◌∙◌, subst, inl, inr}
-use Rattle.std.specs.Prelude.{◌/◌, ◌==◌, if◌then◌else◌, not, IfErr, IfOk, Ok, Err, Result}
+use Rattle.std.specs.Prelude.{◌/◌, ◌&&◌, ◌||◌, is_some, not, IfErr, IfOk, Ok, Err, Result}
 use Rattle.std.specs.Option.{option_and_then, option_map}
-use Rattle.std.proofs.lemmas.Bool.{and_parts, eqb-true}
 use Rattle.std.proofs.lemmas.Option.{same_Some}
-use Rattle.cache_ident.proofs.Numbers.{same_space}
 use Rattle.cache_ident.specs.declared.idents.Ident.{Ident}
 use Rattle.cache_ident.specs.declared.idents.Kind.TheVariants as kind
 use Rattle.cache_ident.specs.declared.names.Name.{Name}
 use Rattle.cache_ident.specs.declared.names.Name.TheVariants as name
 use Rattle.cache_ident.specs.declared.names.SpaceNo.{SpaceNo}
+use Rattle.cache_ident.specs.declared.names.ThreadNo.{ThreadNo}
 use Rattle.cache_ident.specs.declared.names.Vpn.{Vpn}
+use Rattle.cache_ident.specs.Residents.{IsNameResident}
 use Rattle.phys_groups.specs.declared.rows.Row.{Row}
-use Rattle.phys_groups.specs.Translation.{is_fit, is_row_of, judged, no_flag, no_right, page_of, row_of, through, allows_fetch}
+use Rattle.phys_groups.specs.Translation.{allows_fetch, row_of}
 use Rattle.reach_laws.specs.flat_state.specs.declared.records.FlatThread.{FlatThread}
 use Rattle.reach_laws.specs.flat_state.specs.NextSteps.{fetch_row}
 use Rattle.reach_laws.specs.flat_state.specs.State.{FlatState}
-use Rattle.reach_laws.specs.flat_state.specs.Translation.{is_fit_row, rights_of, row_through}
-use Rattle.reach_laws.specs.flat_state.proofs.Finding.{find-passes}
+use Rattle.reach_laws.specs.flat_state.specs.Translation.{is_fit_row, rights_of}
+use Rattle.reach_laws.specs.board_calls.specs.flat_laws.proofs.ShortChains.{goes_through, own_row, IsThrough}
 use Rattle.reach_laws.specs.desc_stores.specs.Contents.{residents_of, Contents}
 use Rattle.reach_laws.specs.desc_parents.specs.Idents as idents
 use Rattle.reach_laws.specs.desc_parents.specs.Seen.{seen}
@@ -26,7 +26,7 @@ use Rattle.reach_laws.specs.board_ops.specs.declared.refusals.Refused.{Refused}
 use Rattle.reach_laws.specs.board_ops.specs.declared.refusals.Refused.TheVariants as why
 use Rattle.reach_laws.specs.cached_machine.specs.Cached.{state_of}
 use Rattle.reach_laws.specs.board_core.specs.Answers.{IsRefused}
-use Rattle.reach_laws.specs.board_core.specs.Core.{contents_of, Recorded}
+use Rattle.reach_laws.specs.board_core.specs.Core.{contents_of, IsSound, Recorded}
 use Rattle.reach_laws.specs.board_core.specs.Growth.{IsRoomMade}
 use Rattle.reach_laws.specs.board_checks.specs.Identifiers.{receiver_as, space_as}
 use Rattle.reach_laws.specs.board_checks.specs.Refusals.{already_loaded, beyond_rights, refusal_in_space, refusal_of_load_mapping, refusal_of_row, wrong_receiver}
@@ -34,12 +34,13 @@ use Rattle.reach_laws.specs.board_loads.specs.Loads.{IsLoadedAs}
 use Rattle.reach_laws.specs.owners.specs.Known.{ident_of, Known}
 use Rattle.page_laws.specs.Keeping.{BringsNoRow, KeepsRows}
 use Rattle.reach_laws.specs.Filling.{IsFillable, IsUnfillable}
-use Rattle.reach_laws.specs.Reaching.{IsLoadAnswer, IsOwned, IsReached}
+use Rattle.reach_laws.specs.Reaching.{IsLoadAnswer, IsOwned, IsPlainLoaded, IsReached}
 use Rattle.reach_laws.specs.owner_laws.proofs.Receivers.{map_never}
 use Rattle.reach_laws.specs.owner_laws.proofs.Spaces.{stands_for}
 use Rattle.reach_laws.specs.owner_laws.proofs.Tests.{first_passes, holds, if_never, not_a_never, not_a_receiver_never, not_declared_never, not_owned_never, IsLater}
 use Rattle.reach_laws.proofs.Filling.{nothing_loads, unfillable_where}
 use Rattle.reach_laws.proofs.Keeping.{reached_after, reached_still, row_far, row_further}
+use Rattle.reach_laws.proofs.Showing.{formed}
 use Rattle.reach_laws.proofs.Telling.{loaded_fit, space_noted, told_message}
 
 -- ---- pages stay as they are
@@ -149,20 +150,36 @@ reached_after_row b c o owned space reached vpn refusal (Ok ident) a =
 
 -- ---- fetches
 
+fetched : (s : FlatState) (t : FlatThread) (row : Row) → fetch_row s t ≡ Some row → IsThrough s.rows allows_fetch t.space row
+fetched s t row goes = goes_through (rights_of s t.space) s.rows allows_fetch t.space t.context.pc row goes
+
 pub fetched_space : (s : FlatState) (t : FlatThread) (row : Row) → fetch_row s t ≡ Some row → row.space ≡ t.space
-fetched_space s t row is = by (row_of s.rows t.space (page_of t.context.pc)) refl is
-  where
-    rights : List (Bool × Bool)
-    rights = rights_of s t.space
+fetched_space s t row goes = (fetched s t row goes).in_space
 
-    by_fit : (x : Row) (flag fit : Bool) → row_through (if not flag then no_flag else (if not fit then no_right else through x)) ≡ Some row → x ≡ row
-    by_fit x true true goes = same_Some x row goes
-    by_fit x true false goes = absurd (cc)
-    by_fit x false fit goes = absurd (cc)
+-- a row with flag x has neither flag m nor a receiver
+neither : (m w x receives : Bool) → ((not m || (w && (not x && not receives))) && (not receives || not x)) ≡ true → x ≡ true → (m ≡ false) × (receives ≡ false)
+neither m w false receives agrees is = absurd (cc)
+neither false w true false agrees is = (refl, refl)
+neither false w true true agrees is = absurd (cc)
+neither true false true receives agrees is = absurd (cc)
+neither true true true receives agrees is = absurd (cc)
 
-    by : (o : Option Row) → row_of s.rows t.space (page_of t.context.pc) ≡ o → row_through (judged rights allows_fetch o) ≡ Some row → row.space ≡ t.space
-    by None found goes = absurd (cc)
-    by (Some x) found goes =
-        let same : x ≡ row = by_fit x (allows_fetch x.flags) (is_fit rights x) goes in
-        let its : x.space ≡ t.space = same_space x.space t.space (eqb-true x.space.0 t.space.0 (and_parts (x.space.0 == t.space.0) (x.vpn.0 == page_of t.context.pc) (find-passes (is_row_of t.space (page_of t.context.pc)) s.rows x found)).0) in
-        ap (λ (r : Row). r.space) (sym same) ∙ its
+none_of : (o : Option ThreadNo) → is_some o ≡ false → o ≡ None
+none_of None is = refl
+none_of (Some receiver) is = absurd (cc)
+
+-- so a row that is fetched through, where it is loaded, is a plain one
+pub fetched_plain : (b : Recorded) → IsSound b → (t : FlatThread) (row : Row) → fetch_row (state_of b.machine) t ≡ Some row → (space : SpaceNo) → t.space ≡ space → IsNameResident (residents_of (contents_of b)) (name.Mapping space row.vpn) → IsPlainLoaded b space row.vpn
+fetched_plain b sound t row goes space its live =
+    let s : FlatState = state_of b.machine in
+    let is = fetched s t row goes in
+    let good = formed b sound in
+    let so = neither row.flags.m row.flags.w row.flags.x (is_some row.receiver) (good.rows.each row is.there).flags is.allowed in
+    record {
+      row = row;
+      here = subst (λ (n : SpaceNo). row_of s.rows n row.vpn.0 ≡ Some row) (is.in_space ∙ its) (own_row s good row is.there);
+      alone = none_of row.receiver so.1;
+      plain = so.0;
+      ident = live.0.ident;
+      live = (live.0, live.1, refl, live.2);
+    }

@@ -5,15 +5,17 @@ ghost use Rattle.cache_ident.specs.declared.idents.Ident.{Ident};
 ghost use Rattle.cache_ident.specs.declared.names.Name.TheVariants as name;
 ghost use Rattle.cache_ident.specs.declared.names.SpaceNo.{SpaceNo};
 ghost use Rattle.cache_ident.specs.declared.names.Vpn.{Vpn};
+ghost use Rattle.cache_ident.specs.Residents.{IsNameResident};
 ghost use Rattle.phys_groups.specs.declared.rows.Row.{Row};
 ghost use Rattle.reach_laws.specs.flat_state.specs.declared.records.FlatThread.{FlatThread};
 ghost use Rattle.reach_laws.specs.flat_state.specs.NextSteps.{fetch_row};
 ghost use Rattle.reach_laws.specs.flat_state.specs.State.{FlatState};
+ghost use Rattle.reach_laws.specs.desc_stores.specs.Contents.{residents_of};
 ghost use Rattle.reach_laws.specs.board_ops.specs.declared.refusals.Refused.{Refused};
 ghost use Rattle.reach_laws.specs.board_ops.specs.declared.refusals.Refused.TheVariants as why;
 ghost use Rattle.reach_laws.specs.cached_machine.specs.Cached.{state_of};
 ghost use Rattle.reach_laws.specs.board_core.specs.Answers.{IsRefused};
-ghost use Rattle.reach_laws.specs.board_core.specs.Core.{contents_of, Recorded};
+ghost use Rattle.reach_laws.specs.board_core.specs.Core.{contents_of, IsSound, Recorded};
 ghost use Rattle.reach_laws.specs.board_core.specs.Growth.{IsRoomMade};
 ghost use Rattle.reach_laws.specs.board_checks.specs.Identifiers.{space_as};
 ghost use Rattle.reach_laws.specs.board_checks.specs.Refusals.{refusal_of_load_mapping};
@@ -21,7 +23,7 @@ ghost use Rattle.reach_laws.specs.board_loads.specs.Loads.{IsLoadedAs};
 ghost use Rattle.reach_laws.specs.owners.specs.Known.{ident_of, Known};
 ghost use Rattle.page_laws.specs.Keeping.{BringsNoRow, KeepsRows};
 ghost use Rattle.reach_laws.specs.Filling.{IsFillable, IsUnfillable};
-ghost use Rattle.reach_laws.specs.Reaching.{IsLoadAnswer, IsOwned, IsReached};
+ghost use Rattle.reach_laws.specs.Reaching.{IsLoadAnswer, IsOwned, IsPlainLoaded, IsReached};
 
 /// Where the machine shows the same and no row comes, a page whose row is to be loaded stays so. Where the loaded rows stay that have
 /// neither receiver nor flag m, a page of which nothing is to be loaded stays so.
@@ -45,7 +47,9 @@ pub fn a_row_call_keeps_what_is_reached()
         → (r : Result Ident Refused) → IsLoadAnswer refusal (name.Mapping space vpn) b c r → IsReached c o space }
 {}
 
-/// The row that a thread fetches through is one of its space.
-pub fn a_fetch_goes_through_a_row_of_its_space()
-    ensures { (s : FlatState) (t : FlatThread) (row : Row) → fetch_row s t ≡ Some row → row.space ≡ t.space }
+/// The row that a thread fetches through is one of its space, and since that has flag x it has neither receiver nor flag m.
+pub fn a_fetch_goes_through_a_plain_row_of_its_space()
+    ensures space { (s : FlatState) (t : FlatThread) (row : Row) → fetch_row s t ≡ Some row → row.space ≡ t.space }
+    ensures plain { (b : Recorded) → IsSound b → (t : FlatThread) (row : Row) → fetch_row (state_of b.machine) t ≡ Some row → (space : SpaceNo) → t.space ≡ space
+        → IsNameResident (residents_of (contents_of b)) (name.Mapping space row.vpn) → IsPlainLoaded b space row.vpn }
 {}

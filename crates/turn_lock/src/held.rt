@@ -77,6 +77,7 @@ impl<'a, V: History> Held<'a, V> {
         }
         shared.store::<RecordLength>(&mut seat, LENGTH, length);
         shared.fetch_add::<PassOn>(&mut seat, SERVING, 1);
+        lock.released.notify_all();
         Pass { seat, number }
     }
 }

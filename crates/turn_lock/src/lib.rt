@@ -1,8 +1,8 @@
 //! A ticket lock over a value with a history, which ties what a holder finds to what it has seen before.
 //!
-//! Who wants the value draws a ticket and waits until that ticket is served. It takes the value out, changes it, puts it
-//! back and lets the next ticket be served. Beside the lock there are passes. A pass has a range of numbers, by which its
-//! holder signs what it adds, and it remembers the history as it stood when the pass was last given back.
+//! Who wants the value draws a ticket, mostly one that is served at once, and waits until it is served. It takes the value
+//! out, changes it, puts it back and lets the next ticket be served. Beside the lock there are passes. A pass has a range of
+//! numbers, by which its holder signs what it adds, and it remembers the history as it stood when the pass was last given back.
 #![tactic(auto)]
 
 mod held;

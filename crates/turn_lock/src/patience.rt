@@ -1,40 +1,46 @@
-//! How a thread passes the time between two looks at whose turn it is.
-use std::{hint, thread};
+//! How a thread passes the time between two looks at the lock.
+use std::hint;
 
-// With this many turns before its own, a thread gives its processor away at once: those who come first may need it.
-const FAR: u64 = 4;
+// Pauses of the processor between two looks.
+const PAUSES: u32 = 4;
 
-// After this many pauses in which no turn has ended, a thread gives its processor away: who has the turn may need it.
-const LONG: u64 = 200;
+// After so many looks a thread sleeps. On free processors the value comes back before that; where they are taken, who has it
+// may need this one.
+const MOST_LOOKS: u32 = 500;
 
-// How far off the turn of a thread is, and the pauses that it has made at that distance.
+// After so many sleeps a thread no longer lets others go before it.
+const MOST_SLEEPS: u32 = 8;
+
+// How often a thread has looked since it last slept, and how often it has slept.
 #[derive(Drop)]
 pub(crate) struct Patience {
-    distance: u64,
-    pauses: u64,
+    looks: u32,
+    sleeps: u32,
 }
 
 impl Patience {
     pub(crate) fn new() -> Patience {
         Patience {
-            distance: u64::MAX,
-            pauses: 0,
+            looks: 0,
+            sleeps: 0,
         }
     }
 
-    // A pause of the processor for each turn that is still to end, so the next in line looks often.
-    pub(crate) fn pause(&mut self, distance: u64) {
-        if distance != self.distance {
-            self.distance = distance;
-            self.pauses = 0;
+    pub(crate) fn is_exhausted(&self) -> bool {
+        self.sleeps >= MOST_SLEEPS
+    }
+
+    // Lets a moment pass, or answers that it is time to sleep.
+    pub(crate) fn asks_for_sleep(&mut self) -> bool {
+        if self.looks >= MOST_LOOKS {
+            self.looks = 0;
+            self.sleeps = self.sleeps.saturating_add(1);
+            return true;
         }
-        if distance >= FAR || self.pauses >= LONG {
-            thread::yield_now();
-        } else {
-            for _ in 0..distance {
-                hint::spin_loop();
-            }
-            self.pauses += distance;
+        for _ in 0..PAUSES {
+            hint::spin_loop();
         }
+        self.looks += 1;
+        false
     }
 }

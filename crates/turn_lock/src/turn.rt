@@ -12,10 +12,10 @@ use crate::pass::Pass;
 use crate::patience::Patience;
 use crate::rule::{Draw, InTurn, Look, View};
 use atomic_table::{Refused, Seat, Table};
+use crossbeam_utils::sync::EventCount;
 use std::alloc::{AllocFailed, Global};
 use std::snapshot::Snapshot;
 use std::sync::Wait;
-use std::thread;
 
 mod passes;
 
@@ -33,6 +33,8 @@ pub(crate) const VALUE: usize = 0;
 #[derive(Drop)]
 pub struct Turn<V: History> {
     pub(crate) table: Table<Option<V>, View<V::Entry>, Snapshot<V>, InTurn, Global>,
+    // Threads sleep here until a release. It tells nothing: whose turn it is stands in the table alone.
+    pub(crate) released: EventCount,
     ghost is_lock: { IsLockTable table.shared.table_id },
 }
 
@@ -58,7 +60,10 @@ impl<V: History> Turn<V> {
             return Err(value.unwrap());
         }
         match Table::new(alloc, &words, slots, &about) {
-            Ok((table, seat)) => Ok((Turn { table }, Pass { seat, number: 0 })),
+            Ok((table, seat)) => {
+                let released = EventCount::new();
+                Ok((Turn { table, released }, Pass { seat, number: 0 }))
+            }
             Err(Refused { mut slots }) => {
                 let value = slots.pop().unwrap().unwrap();
                 slots.destroy_empty();
@@ -67,7 +72,17 @@ impl<V: History> Turn<V> {
         }
     }
 
-    // Draws the next ticket. Where the word is at its last value it waits for ever.
+    // Lets a moment pass after a look that found this ticket served, or sleeps until the next one is.
+    fn rest<R: Wait>(&self, rt: &R, patience: &mut Patience, serving: u64) {
+        if patience.asks_for_sleep() {
+            let key = self.released.prepare_wait();
+            if self.table.shared.peek(SERVING) == serving {
+                key.wait(rt);
+            }
+        }
+    }
+
+    // Draws the next ticket once that is served at once, or after a long wait. Where the word is at its last value it waits for ever.
     fn draw<R: Wait>(&self, rt: &R, seat: &mut Seat<Option<V>, View<V::Entry>>) -> u64
         requires lock { seat.old.table_id ≡ lock_of self.now }
         requires idle { seat.old.me.0.stage ≡ Idle }
@@ -75,20 +90,18 @@ impl<V: History> Turn<V> {
         ensures seat { (seat.new.table_id ≡ seat.old.table_id) × (seat.new.id ≡ seat.old.id) }
         ensures ticket { seat.new.me ≡ (at_stage seat.old.me.0 (Waits result), seat.old.me.1) }
     {
-        // The first try finds the word, unless nobody has drawn yet.
-        let mut next = 0;
+        let shared = &self.table.shared;
+        let mut patience = Patience::new();
         for _ in rt.forever() {
-            if next < u64::MAX {
-                let found = self
-                    .table
-                    .shared
-                    .compare_exchange::<Draw>(seat, TICKET, next, next + 1);
+            let serving = shared.peek(SERVING);
+            let next = shared.peek(TICKET);
+            if next < u64::MAX && (next == serving || patience.is_exhausted()) {
+                let found = shared.compare_exchange::<Draw>(seat, TICKET, next, next + 1);
                 if found == next {
                     return found;
                 }
-                next = found;
             } else {
-                thread::yield_now();
+                self.rest(rt, &mut patience, serving);
             }
         }
         unreachable!()
@@ -112,16 +125,17 @@ impl<V: History> Turn<V> {
             if serving == ticket {
                 return;
             }
-            patience.pause(ticket - serving);
+            self.rest(rt, &mut patience, serving);
         }
         unreachable!()
     }
 
     /// Waits for the turn of this thread, and takes the value.
     ///
-    /// The nearer its turn is, the sooner a thread looks again. One with four or more turns before its own gives its
-    /// processor to other threads between two looks, and so does one before which no turn ends for long. Whether the
-    /// turn comes depends on those who have the value before. After 2^64 - 1 holds of one lock it waits for ever.
+    /// A thread that finds the value taken waits without a ticket, since all who draw one after it would wait for it, also
+    /// while it has no processor. After a long wait it draws one all the same, and then nobody goes before it. Who has looked
+    /// for long sleeps until a release. Whether the turn comes depends on those who have the value before. After 2^64 - 1
+    /// holds of one lock it waits for ever.
     pub fn hold<R: Wait>(&self, rt: &R, pass: Pass<V>) -> Held<'_, V>
         requires { IsPassOf self.now pass }
         ensures lock { held_lock result ≡ lock_of self.now }
@@ -154,7 +168,7 @@ impl<V: History> Turn<V> {
         ensures { V.entries result ≡ seen_of pass }
     {
         let Pass { seat, number: _ } = pass;
-        let Turn { table } = self;
+        let Turn { table, released: _ } = self;
         let mut closed = table.close_with(seat);
         let value = closed.take(VALUE);
         closed.free();

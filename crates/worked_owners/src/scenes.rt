@@ -28,6 +28,10 @@ pub const SPAWNING: &str =
 pub const MADE: &str =
     "mem 1\nkernel 0\nright 0 0 rw\nspace 0 0\nthread 0 0 0\nmap 0 0 0 x\ncode 0 0\naddi a0, zero, 28\naddi a1, zero, 65\naddi a2, zero, 0\naddi a7, zero, 8\necall\naddi a7, zero, 0\necall\naddi a7, zero, 1\necall\naddi a7, zero, 0\necall\nendcode\nend\n";
 
+/// A thread that loads from where there is no row, and five that load from their code. Five threads can be loaded.
+pub const CROWDED: &str =
+    "mem 1\ncaps 8 8 5 8\nkernel 0\nright 0 0 rw\nspace 0 0\nthread 0 0 0 a0 0x4000\nthread 1 0 0\nthread 2 0 0\nthread 3 0 0\nthread 4 0 0\nthread 5 0 0\nmap 0 0 0 rx\ncode 0 0\nlw a1, 0(a0)\nendcode\nend\n";
+
 /// A board and its owners.
 #[derive(Drop)]
 pub struct Scene {

@@ -73,6 +73,22 @@ fn a_thread_that_can_not_go_on_ends(rt: HostRuntime) -> Result<(), Fail> {
 }
 
 #[test]
+fn a_thread_that_a_receiver_displaced_ends(rt: HostRuntime) -> Result<(), Fail> {
+    let mut scene = opened(rt.alloc(), CROWDED)?;
+    for thread in 0..5u32 {
+        assert!(rt; scene.serve(thread, fault(0)).0 == Served::Resumed);
+    }
+    // The load of a receiver that the page hasn't displaces the thread that was loaded first. Its code stays loaded.
+    scene
+        .owners
+        .learn_receiver(SpaceNo(0), Vpn(4), Some(ThreadNo(5)))?;
+    assert!(rt; scene.serve(0, fault(4)) == (Served::Ended, 9));
+    assert!(rt; scene.tells(rt.alloc(), "loaded T1.9 thread 0 cpu 0\nended 0 cpu 0\n")?);
+    assert!(rt; scene.owners.noted(CODE) == Some(ident(Kind::Mapping, 3)));
+    Ok(())
+}
+
+#[test]
 fn missing_receivers_are_loaded(rt: HostRuntime) -> Result<(), Fail> {
     let mut scene = opened(rt.alloc(), MESSAGES)?;
     assert!(rt; scene.step(0, 1));

@@ -1,5 +1,0 @@
-use Rattle.page_laws.proofs.Filled.{fetched_space}
-use Rattle.page_laws.proofs.pages.a_fetch_goes_through_a_row_of_its_space.Goals as goal
-
-pub returns : goal.returns
-returns c = fetched_space
