@@ -1,0 +1,2 @@
+mod Owned
+mod Late
