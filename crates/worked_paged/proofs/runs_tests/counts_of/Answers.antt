@@ -5,8 +5,8 @@ use Rattle.paged_run.specs.flat_machine.proofs.DeclareSound.{machine_rules}
 use Rattle.paged_run.proofs.Opened.{machine_alone, machine_fits}
 use Rattle.worked_paged.proofs.runs_tests.counts_of.Goals as goal
 
-pub first_machine-requires : goal.first_machine-requires
-first_machine-requires c = rw c.decls.ensures c.in_ok-scenario.ensures.machine
+pub first_machine-machine-requires : goal.first_machine-machine-requires
+first_machine-machine-requires c = rw c.decls.ensures c.in_ok-scenario.ensures.machine
 
 pub new-requires-clause-least : goal.new-requires-clause-least
 new-requires-clause-least c =
