@@ -2,10 +2,11 @@
 # Read by tests/run where programs are tried unproved: how one start of rt, which costs the building of a program, answers many cases of
 # several programs.
 #
-# A case is given as its number, the name of its program, the count of its words, the words, and the count of the bytes of its input, a
-# line each, and then those bytes. Its answer is a line with the status and the count of the bytes that were written, and then those.
-# Where the program stops at a case, rt passes none of its answers on; but on standard error the program names each case before it
-# begins with it.
+# A list of cases is given as the count of the threads that share it, the count of the bytes of its cases, a line each, and those cases. A
+# case is its number, the name of its program, the count of its words, the words, and the count of the bytes of its input, a line each,
+# and then those bytes. Of so many threads each has every so many-th case, and the answers come thread by thread, list by list. An answer
+# is a line with the status and the count of the bytes that were written, and then those. Where the program stops at a case, rt passes
+# none of its answers on; but on standard error the program names each case before it begins with it.
 
 # put_counted FOLDER: writes for each of the files the lines that stand before it, the count of its bytes on the last of them, and the
 # bytes; befores and files are two lists of the same length. It starts two processes, however long they are.
@@ -25,7 +26,8 @@ take_answer() {
     read -r status count && [[ $count =~ ^[0-9]+$ ]] && head -c "$count" > "$1" && [ "$(wc -c < "$1")" -eq "$count" ]
 }
 
-# find_last_begun FILE: sets begun to the number of the case that the program began with last, as rt said in that file, or to nothing.
+# find_last_begun FILE: sets begun to the number of the case that the program began with last, as rt said in that file, or to nothing. With
+# several threads it may be another one that stopped it.
 find_last_begun() {
     begun=$(sed -n 's/^\(| \)\{0,1\}case \([0-9]*\)$/\2/p' "$1" | tail -n 1)
 }
