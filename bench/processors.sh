@@ -12,9 +12,10 @@
 # PEERS is a folder with a plain interpreter in C and loops that it reads. Where it is given, its loop mix is taken, and the interpreter
 # runs in turn with the program; one processor should reach 0.85 of it. Else the loop is one that adds the words of a page.
 #
-# What is timed is the whole program, the shortest of fifteen runs in turn, less that of runs of one step. It wants the program that
-# ./build leaves, and four processors that nobody else uses. It fails where a run ends otherwise than it should; of the other bars it
-# prints what is missed.
+# What is timed is the whole program, the shortest of fifteen runs in turn, and where threads end the middle one, less that of runs of one
+# step. It wants the program that ./build leaves, and four processors that nobody else uses: a thread that waits for another one takes
+# steps meanwhile, of which there are a million. It fails where a run ends otherwise than it should; of the other bars it prints what
+# is missed.
 set -euo pipefail
 script=bench/processors.sh
 top="$(cd "$(dirname "${BASH_SOURCE[0]}")/.." && pwd)"
@@ -25,6 +26,7 @@ place="$(mktemp -d)"
 busy=()
 trap '((${#busy[@]} == 0)) || kill "${busy[@]}" 2> /dev/null; rm -rf "$place"' EXIT
 runs=15
+failed=0
 steps=1000000
 
 # own_loop: rows and words of a thread that adds the words of a page and stores the sum.
@@ -86,11 +88,12 @@ end
 CODE
 }
 
-# s1 is the address of the thread's own flag, s2 that of the other's, and s3 the other's number, which the word at 8 gives the turn.
+# s1 is the address of the thread's own flag, s2 that of the other's, and s3 the other's number, which the word at 8 gives the turn. Each
+# waits first until the other is there, by the words 16 behind the flags.
 peterson() {
     one_space
-    echo 'thread 0 0 0 a0 0 a1 300'
-    echo 'thread 1 0 0 a0 1 a1 300'
+    echo 'thread 0 0 0 a0 0 a1 200'
+    echo 'thread 1 0 0 a0 1 a1 200'
     cat << 'CODE'
 code 0 0
 lui s0, 17
@@ -100,6 +103,10 @@ slli s1, a0, 2
 add s1, s1, s0
 slli s2, s3, 2
 add s2, s2, s0
+sw t0, 16(s1)
+meet:
+lw t1, 16(s2)
+beq t1, zero, meet
 again:
 sw t0, 0(s1)
 sw s3, 8(s0)
@@ -158,21 +165,29 @@ taken() {
     micros=$((${end/./} - ${start/./}))
 }
 
-# keep NAME: keeps the time of the last run, if it is the shortest of those of that name.
+# keep NAME: keeps the time of the last run with those of that name.
 keep() {
-    [[ -n ${least[$1]-} ]] && ((least[$1] <= micros)) || least[$1]=$micros
+    times[$1]+="$micros"$'\n'
+}
+
+# picked NAME: of the times of that name the shortest, or the middle one of runs that end, whose ways differ.
+picked() {
+    local place=1
+    [[ -z ${wanted-} ]] || place=$(((runs + 1) / 2))
+    printf '%s' "${times[$1]}" | sort -n | sed -n "${place}p"
 }
 
 # compare WHAT BARS CPUS..: times the file scenario on so many processors in turn. BARS has a word CPUS:TIMES for each bar.
 compare() {
-    local what="$1" bars="$2" run cpus few
-    declare -A least=()
+    local bars="$2" run cpus it
+    declare -A times=()
+    echo "$1"
     shift 2
     for ((run = 0; run < runs; run++)); do
         for cpus in "$@"; do
             taken "$proved" --cpus "$cpus" --steps "$steps"
             keep "$cpus"
-            ends_as_wanted "$what" "$cpus"
+            ends_as_wanted "$cpus"
             taken "$proved" --cpus "$cpus" --steps 1
             keep "few $cpus"
         done
@@ -186,13 +201,12 @@ compare() {
             cp "$place/several" "$place/scenario"
         fi
     done
-    for it in "${!least[@]}"; do
-        [[ $it == few* ]] || echo "$it ${least[$it]} ${least[few $it]}"
-    done | sort -n | awk -v what="$what" -v bars="$bars" '
+    for it in "${!times[@]}"; do
+        [[ $it == few* ]] || echo "$it $(picked "$it") $(picked "few $it")"
+    done | sort -n | awk -v bars="$bars" '
         BEGIN { n = split(bars, all, " "); for (i = 1; i <= n; i++) { split(all[i], of, ":"); bar[of[1]] = of[2] } }
         { time[$1] = $2 - $3 > 1 ? $2 - $3 : 1; order[++count] = $1 }
         END {
-            print what
             for (i = 1; i <= count; i++) {
                 at = order[i]
                 if (at == "peer") { printf "  the peer %7.2f ms, of which one processor has %.2f%s\n", time[at] / 1000, time[at] / time[1], (time[at] / time[1] < 0.85 ? ", below 0.85" : ""); continue }
@@ -202,13 +216,13 @@ compare() {
         }'
 }
 
-# ends_as_wanted WHAT CPUS: where an end is wanted, the run came to it with the report of the first run.
+# ends_as_wanted CPUS: where an end is wanted, says so if the run didn't come to it, or not with the report of the first run.
 ends_as_wanted() {
     [[ -n ${wanted-} ]] || return 0
     [[ -e $place/first ]] || cp "$place/report" "$place/first"
     if ((status != wanted)) || { [[ $same == yes ]] && ! cmp -s "$place/report" "$place/first"; }; then
-        echo "$1 on $2 processors: status $status, or another report than the first" >&2
-        exit 1
+        echo "  on $1 processors: status $status, or another report than the first"
+        failed=1
     fi
 }
 
@@ -254,10 +268,10 @@ if [[ -n ${1:-} ]]; then
 else
     own_loop > "$place/loop"
 fi
-for count in 4 8; do
-    apart "$count" > "$place/scenario"
-    compare "$count threads of one loop, each by itself" '2:1.8 4:3.0 8:3.0' 1 2 4 8
-done
+apart 4 > "$place/scenario"
+compare 'four threads of one loop, each by itself' '2:1.8 4:3.0' 1 2 4
+apart 8 > "$place/scenario"
+compare 'eight threads of one loop, each by itself' '2:1.8 4:3.0 8:3.0' 1 2 4 8
 crowded
 adders > "$place/scenario"
 ending 'four threads that add to one word' '4:0.5' yes 1 2 4 8
@@ -265,3 +279,4 @@ peterson > "$place/scenario"
 ending 'two threads that lock a page' '4:0.5' no 1 2 4 8
 callers > "$place/scenario"
 ending 'eight threads with calls in the smallest caches' '' yes 1 2 4 8
+exit "$failed"
