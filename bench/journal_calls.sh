@@ -1,14 +1,17 @@
 #!/usr/bin/env bash
+# Usage: bench/journal_calls.sh [PROGRAM]
 # Times the check of journals whose threads change rights and rows while many rows are loaded, all in one page group. Each is
 # a scenario with a legal journal behind it, as mode check reads it.
 #
 #   grant     call 9 gives and takes the write bit of the group, for which no loaded row asks
 #   map       calls 6 and 7 add a signal row and take it away again, on a frame that has all the loaded rows
 #
-# With four times the calls and the rows it should take little more than four times the time. For a program that is built
-# without proofs give its path: bench/journal_calls.sh PROGRAM
+# With four times the calls and the rows it should take little more than four times the time. PROGRAM is a v_run to time instead
+# of ./run, as one that is built without proofs.
 set -euo pipefail
 top=$(cd "$(dirname "$0")/.." && pwd)
+source "$top/scripts/usage.sh"
+take_help "$@"
 program=${1:-$top/run}
 texts=$(mktemp -d)
 trap 'rm -rf "$texts"' EXIT

@@ -26,9 +26,9 @@ begin_program() {
     mkdir -p "$program/src"
 }
 
-# crates_below NAME: the crates of this repository that the crate stands on, and itself.
+# crates_below NAME..: the crates of this repository that these stand on, and themselves.
 crates_below() {
-    awk -v name="$1" '
+    awk -v names="$*" '
         /^[a-z]/ { crate = $1; sub(/:$/, "", crate); order[++count] = crate; deps[crate] = $0 }
         function take(crate,    parts, n, i) {
             if (!(crate in deps) || crate in taken) return
@@ -36,7 +36,11 @@ crates_below() {
             n = split(deps[crate], parts, " ")
             for (i = 2; i <= n; i++) take(parts[i])
         }
-        END { take(name); for (i = 1; i <= count; i++) if (order[i] in taken) printf "%s ", order[i] }
+        END {
+            wanted = split(names, name, " ")
+            for (i = 1; i <= wanted; i++) take(name[i])
+            for (i = 1; i <= count; i++) if (order[i] in taken) printf "%s ", order[i]
+        }
     ' "$top/crates.txt"
 }
 

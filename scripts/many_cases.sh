@@ -65,7 +65,7 @@ use std::alloc::Global;
 use std::io;
 use std::io::{BufRead, Read, Write};
 use std::sync::Wait;
-use std::thread::Threads;
+use std::thread::{Threads, map_indices};
 
 fn main(rt: HostRuntime) -> io::Result<()> {
     let alloc = rt.alloc();
@@ -73,9 +73,35 @@ fn main(rt: HostRuntime) -> io::Result<()> {
     rt.stdin().read_to_end(&mut given)?;
     let mut left = given.as_slice();
     let mut written = rt.stdout();
-    let mut told = rt.stderr();
     while !left.is_empty() {
-        write!(told, "case {}\n", next_count(alloc, &mut left)?)?;
+        let threads = next_count(alloc, &mut left)?;
+        let length = next_count(alloc, &mut left)?;
+        let (cases, behind) = left.split_at(length);
+        left = behind;
+        let answers = map_indices(&rt, alloc, threads, &|first| {
+            answer_every(&rt, alloc, rt.stderr(), cases, first, threads)
+        })?;
+        for it in answers {
+            written.write_all(&it?)?;
+        }
+    }
+    Ok(())
+}
+
+// The answers to the case of that place and to each that comes so many behind one of them.
+fn answer_every<R: Threads + Wait + Sync>(
+    rt: &R,
+    alloc: Global,
+    mut told: impl Write + Drop,
+    cases: &[u8],
+    first: usize,
+    step: usize,
+) -> io::Result<Vec<u8>> {
+    let mut left = cases;
+    let mut answers = Vec::new(alloc);
+    let mut place = 0;
+    while !left.is_empty() {
+        let number = next_count(alloc, &mut left)?;
         let program = next_line(alloc, &mut left)?;
         let mut words = Words::new(alloc);
         for _ in 0..next_count(alloc, &mut left)? {
@@ -84,12 +110,16 @@ fn main(rt: HostRuntime) -> io::Result<()> {
         let length = next_count(alloc, &mut left)?;
         let (input, behind) = left.split_at(length);
         left = behind;
-        let mut output = Vec::new(alloc);
-        let status = answer(&rt, alloc, program.as_str(), &words, input, &mut output);
-        write!(written, "{status} {}\n", output.len())?;
-        written.write_all(&output)?;
+        if place % step == first {
+            told.write_all(format!(in alloc; "case {number}\n")?.as_bytes())?;
+            let mut output = Vec::new(alloc);
+            let status = answer(rt, alloc, program.as_str(), &words, input, &mut output);
+            write!(answers, "{status} {}\n", output.len())?;
+            answers.write_all(&output)?;
+        }
+        place += 1;
     }
-    Ok(())
+    Ok(answers)
 }
 
 fn answer<R: Threads + Wait + Sync>(

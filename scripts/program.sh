@@ -10,7 +10,7 @@
 source "$top/scripts/usage.sh"
 
 programs=(v_run v_drive v_show)
-about_trying='about 40 seconds each time'
+about_trying='a minute or two each time'
 about_proving='about 15 minutes on four processors from nothing'
 proved_folder="$top/out/proved"
 

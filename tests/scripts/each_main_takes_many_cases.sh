@@ -10,4 +10,4 @@ for name in v_drive v_run v_show; do
     ls "crates/$name/src"
     sed -n '/^mod /p; /^use /p; /fn answer/,/^}/p' "crates/$name/src/lib.rt"
 done
-sed -n '/^use /p; /^fn answer/,/^}/p' crates/many/src/main.rt
+sed -n '/^use /p; /^fn answer</,/^}/p' crates/many/src/main.rt

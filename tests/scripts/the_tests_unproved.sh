@@ -7,6 +7,7 @@ done
 printf -- '--steps\n5\n' > tests/few/b.args
 mkdir -p crates/v_run/src
 touch crates/v_run/src/main.rt
+stand_in bin/getconf <<< 'echo 1'
 stand_in bin/rt << 'END'
 [ "$1 $2 $3" = 'try --steps 1' ] && [ "${PWD##*/}" = many_cases ] || exit 2
 cat > "${0%/*}/given"

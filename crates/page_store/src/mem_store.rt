@@ -63,6 +63,13 @@ impl MemStore {
         self.writes
     }
 
+    /// How many reads and writes there were, also of those that failed, up to the last value of a `u64`.
+    pub fn calls(&self) -> u64
+        ensures { result ≡ self.now.calls }
+    {
+        self.calls
+    }
+
     // Counts a call, and whether it fails.
     fn call(&mut self) -> Result<(), Failed>
         ensures failing { IsErr result ↔ Contains self.old.failing self.old.calls }

@@ -56,6 +56,13 @@ impl Paged {
         })
     }
 
+    /// How many frames there are.
+    pub fn frames(&self) -> usize
+        ensures { result ≡ self.now.frames }
+    {
+        self.places.len()
+    }
+
     /// Sees to it that the page of a frame is kept. Where it isn't it is read, in the place of the page that came first; that is
     /// written before, if it was changed.
     pub fn keep<K: Store>(&mut self, store: &mut K, frame: Frame) -> Result<(), Failed>

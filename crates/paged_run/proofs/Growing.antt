@@ -15,7 +15,7 @@ pub grew_none : (p : Pager) (held : Option (List ℕ)) → Grew p held p held
 grew_none p held = record {
   count = 0;
   steps = omega arith;
-  goes = λ m means. (m, means, extends_none (over p.tables m) p.journal.entries);
+  goes = λ m means. (m, means, extends_none (over p.tables m) p.journal.entries, λ knows. knows);
 }
 
 pub grew_then : (p q r : Pager) (h k l : Option (List ℕ)) → Grew p h q k → Grew q k r l → Grew p h r l
@@ -25,7 +25,7 @@ grew_then p q r h k l first second = record {
   goes = λ m means.
       let one = first.goes m means in
       let two = second.goes one.0 one.1 in
-      (two.0, two.1, extends_then (over p.tables m) (over q.tables one.0) (over r.tables two.0) p.journal.entries q.journal.entries r.journal.entries first.count second.count one.2 two.2);
+      (two.0, two.1, extends_then (over p.tables m) (over q.tables one.0) (over r.tables two.0) p.journal.entries q.journal.entries r.journal.entries first.count second.count one.2 two.2, λ knows. two.3 (one.3 knows));
 }
 
 -- it went on, and then nothing more happened
@@ -33,9 +33,9 @@ pub grew_over : (p q r : Pager) (h k l : Option (List ℕ)) (limit : ℕ) (settl
 grew_over p q r h k l limit settled grew over_now = record {
   count = grew.count;
   steps = over_now.steps ∙ grew.steps;
-  goes = λ m means.
+  goes = λ m means knows.
       let one = grew.goes m means in
-      let here = over_now.how one.0 one.1 in (
+      let here = over_now.how one.0 one.1 (one.3 knows) in (
         one.0,
         here.0,
         subst (λ (s : FlatState). Extends (over p.tables m) p.journal.entries (over s one.0) r.journal.entries grew.count) (sym over_now.tables)

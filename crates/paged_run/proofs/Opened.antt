@@ -112,6 +112,7 @@ adds_none p h = record {
   entries = sym (append-nil p.journal.entries);
   machine = refl;
   quantum = refl;
+  order = refl;
   steps = refl;
 }
 
@@ -124,6 +125,7 @@ adds_then d ds p q r h k l first rest = record {
   entries = rest.entries ∙ ap (λ (j : List Entry). j ++ map Declared ds) first.entries ∙ append_assoc p.journal.entries (Declared d ∷ []) (map Declared ds);
   machine = rest.machine ∙ first.machine;
   quantum = rest.quantum ∙ first.quantum;
+  order = rest.order ∙ first.order;
   steps = rest.steps ∙ first.steps;
 }
 

@@ -17,6 +17,8 @@ use Rattle.flat_rules.specs.flat_state.specs.Settling.{is_stuck, settled_of}
 use Rattle.flat_rules.specs.Readings.{OfThread}
 use Rattle.paged_steps.specs.memory_laws.specs.Apart.{over}
 use Rattle.page_store.specs.Kept.{Kept, Means}
+use Rattle.paged_steps.specs.Knowing.{Knows}
+use Rattle.paged_steps.specs.declared.order.Order.{Order}
 use Rattle.paged_run.specs.Pagers.{stuck_as}
 
 -- what is said of nothing, and of something
@@ -26,9 +28,9 @@ none_of {A = A} o P is holds = subst (λ (x : Option A). IfNone x P) is holds
 pub some_of : {A : Type 0} (o : Option A) (x : A) (P : A → Type 0) → o ≡ Some x → IfSome o P → P x
 some_of {A = A} o x P is holds = subst (λ (y : Option A). IfSome y P) is holds
 
--- no thread can go on, over the memory that the pages and the store are
-abbrev pub NobodyRuns : FlatState → Kept → Option (List ℕ) → Type 0
-NobodyRuns s pages held = (m : List ℕ) → Means pages held m → list_any (is_runnable (over s m)) s.threads ≡ false
+-- no thread can go on, over the memory that the pages and the store are, where all is so that is known of held threads
+abbrev pub NobodyRuns : FlatState → Order → Kept → Option (List ℕ) → Type 0
+NobodyRuns s order pages held = (m : List ℕ) → Means pages held m → Knows (over s m) order → list_any (is_runnable (over s m)) s.threads ≡ false
 
 -- the thread isn't held, over that memory
 abbrev pub IsFree : FlatState → Kept → Option (List ℕ) → ℕ → Type 0

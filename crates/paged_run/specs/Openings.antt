@@ -30,6 +30,7 @@ pub record IsBare (machine : Machine) (frames : ℕ) (p : Pager) : Type 0 where
   pub memory : Means p.paged (Some (replicate (524288 * machine.groups) 0)) (replicate (524288 * machine.groups) 0)
   pub room : 2 ≤ frames → 2 ≤ p.quantum.most
   pub entries : p.journal.entries ≡ Declared (declaration.Machine machine) ∷ []
+  pub nobody : p.order.held.items ≡ []
   pub steps : p.steps ≡ 0
 
 -- Over whatever memory the tables had, they are with that of now what the declarations make of them; and where the pages that are
@@ -45,6 +46,7 @@ pub record AddsAll (ds : List Decl) (old : Pager) (held : Option (List ℕ)) (ne
   pub entries : new.journal.entries ≡ old.journal.entries ++ map Declared ds
   pub machine : new.tables.machine ≡ old.tables.machine
   pub quantum : new.quantum ≡ old.quantum
+  pub order : new.order ≡ old.order
   pub steps : new.steps ≡ old.steps
 
 abbrev pub Adds : Decl → Pager → Option (List ℕ) → Pager → Option (List ℕ) → Type 0
@@ -53,6 +55,7 @@ Adds d old held new told = AddsAll (d ∷ []) old held new told
 -- all is declared, and no step was taken
 pub record IsOpened (ds : List Decl) (has : ℕ) (p : Pager) : Type 0 where
   pub entries : p.journal.entries ≡ opening ds
+  pub nobody : p.order.held.items ≡ []
   pub steps : p.steps ≡ 0
   pub room : 2 ≤ p.quantum.most
   pub frames : HasFrames p.tables p.paged has

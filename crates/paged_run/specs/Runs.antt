@@ -8,6 +8,8 @@ use Rattle.flat_rules.specs.flat_state.specs.State.{is_trapped, FlatState}
 use Rattle.flat_rules.specs.flat_state.specs.Events.{after_event, after_events, applied, flat}
 use Rattle.flat_rules.specs.flat_state.specs.Settling.{settled_of}
 use Rattle.paged_steps.specs.memory_laws.specs.Apart.{over}
+use Rattle.paged_steps.specs.Knowing.{Knows}
+use Rattle.paged_steps.specs.declared.order.Order.{Order}
 use Rattle.page_store.specs.Kept.{Kept, Means}
 use Rattle.flat_report.specs.report_text.specs.Reports.{report}
 use Rattle.run_journal.specs.declared.entries.Entry.{Entry}
@@ -46,12 +48,14 @@ pub record Extends (old : FlatState) (before : List Entry) (new : FlatState) (af
   pub count : steps ≡ steps_in rest
 
 -- over that memory the tables went on to what they are now over the one that the pages and the store have
-abbrev pub GoesFrom : List ℕ → FlatState → List Entry → FlatState → Kept → Option (List ℕ) → List Entry → ℕ → Type 0
-GoesFrom m old before new kept told after steps = (n : List ℕ) × Means kept told n × Extends (over old m) before (over new n) after steps
+-- .. and where all is so that was known of held threads, it is so now
+abbrev pub GoesFrom : List ℕ → FlatState → Order → List Entry → FlatState → Order → Kept → Option (List ℕ) → List Entry → ℕ → Type 0
+GoesFrom m old was before new now kept told after steps =
+    (n : List ℕ) × Means kept told n × Extends (over old m) before (over new n) after steps × (Knows (over old m) was → Knows (over new n) now)
 
 -- Whatever memory the tables had with the pages and the store, they have one now, and between the two the journal grew so.
-abbrev pub GoesOn : FlatState → Kept → Option (List ℕ) → List Entry → FlatState → Kept → Option (List ℕ) → List Entry → ℕ → Type 0
-GoesOn old pages held before new kept told after steps = (m : List ℕ) → Means pages held m → GoesFrom m old before new kept told after steps
+abbrev pub GoesOn : FlatState → Order → Kept → Option (List ℕ) → List Entry → FlatState → Order → Kept → Option (List ℕ) → List Entry → ℕ → Type 0
+GoesOn old was pages held before new now kept told after steps = (m : List ℕ) → Means pages held m → GoesFrom m old was before new now kept told after steps
 
 -- how many threads are in a call
 abbrev pub trapped_count : FlatState → ℕ

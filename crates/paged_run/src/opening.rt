@@ -51,8 +51,8 @@ pub(crate) fn opened<K: Store>(
     Ok(pager)
 }
 
-/// The machine that stands first.
-pub(crate) fn first_machine(decls: &[Decl]) -> Machine
+/// The machine that stands first among declarations.
+pub fn first_machine(decls: &[Decl]) -> Machine
     requires { (machine : Machine) × (rest : List Decl) × (decls.now ≡ declaration.Machine machine ∷ rest) }
     ensures { decls.now ≡ declaration.Machine result ∷ drop 1 decls.now }
 {

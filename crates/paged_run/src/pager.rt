@@ -65,7 +65,7 @@ impl Pager {
         ensures fault { IsErrOf result faults.StoreFault → HasRisen (K.faults store.old) (K.faults store.new) }
     {
         if let Some(no) = first_completable(&self.tables) {
-            complete(&mut self.tables, &mut self.journal, no)?;
+            complete(&mut self.tables, &mut self.order, &mut self.journal, no)?;
             return Ok(None);
         }
         self.step(store, limit)
@@ -82,7 +82,7 @@ impl Pager {
         ensures faultless { OnOk result (K.faults store.new ≡ K.faults store.old) }
         ensures fault { IsErrOf result faults.StoreFault → HasRisen (K.faults store.old) (K.faults store.new) }
     {
-        self.order.grow(self.tables.threads())?;
+        self.order.grow(self.tables.threads(), self.paged.frames())?;
         let most = most_steps(limit - self.steps);
         let found = find(
             &self.tables,
@@ -103,6 +103,7 @@ impl Pager {
             &mut self.paged,
             store,
             &self.quantum,
+            &mut self.order,
             &mut self.journal,
             no,
             next,

@@ -35,7 +35,8 @@ pub struct PagedRun {
 ///
 /// `StoreFault` comes only where a call of the store failed, and else it ends so or with `NoMemory`. After either the store's pages are
 /// left open. A step that stays on pages that were copied costs what it costs in a quantum, a page that isn't kept a read and at
-/// most a write of the store, and each entry of the journal a pass over the threads and a look at each held one that comes first.
+/// most a write of the store, and each entry of the journal a pass over the threads. A held one that comes first is looked at
+/// again only behind a call, a signal, an end, or a store to a page that told it.
 pub fn run_paged<K: Store>(
     alloc: Global,
     decls: &[Decl],

@@ -7,3 +7,4 @@ pub mod Sending
 pub mod Held
 pub mod Sent
 pub mod Orders
+pub mod Knowing

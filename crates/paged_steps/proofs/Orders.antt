@@ -1,11 +1,11 @@
 -- Which candidate is the first.
-use Rattle.std.proofs.Common.{◌≡◌, ℕ, suc, ◌+◌, ◌<◌, Bool, true, false, not, ◌&&◌, cond, List, [], ◌∷◌, get_or, Option, Some, None, is_some, slice_get, refl, sym, ap, ap₂, ◌∙◌, subst, ◌⊎◌, inl, inr, arith}
+use Rattle.std.proofs.Common.{◌≡◌, ℕ, suc, ◌+◌, ◌<◌, Bool, true, false, not, ◌&&◌, cond, List, [], ◌∷◌, length, get_or, Option, Some, None, is_some, slice_get, refl, sym, ap, ap₂, ◌∙◌, subst, ◌⊎◌, inl, inr, arith}
 use Rattle.std.specs.Prelude.{count_by, slice_set, ◌||◌, IfSome, IfNone}
 use Rattle.std.specs.List.{list_any}
 use Rattle.std.proofs.lemmas.Bool.{cases_eq, cases_lt}
 use Rattle.std.proofs.lemmas.List.Sums.{sum_by-set}
-use Rattle.std.proofs.lemmas.Option.{get_or_from_slice_get, slice_get_within}
-use Rattle.flat_state.proofs.Places.{get-set_other}
+use Rattle.std.proofs.lemmas.Option.{get_or_from_slice_get, slice_get-get_or, slice_get_within}
+use Rattle.flat_state.proofs.Places.{get-set_other, get-set_same}
 use Rattle.flat_state.specs.declared.records.FlatThread.{FlatThread}
 use Rattle.flat_state.specs.State.{FlatState, is_ready}
 use Rattle.flat_state.specs.Signals.{full_receiver, is_held, is_runnable}
@@ -48,10 +48,14 @@ fewer_left held n here =
     let was : f (get_or held n false) ≡ 1 = ap f (get_or_from_slice_get held n false false here) in
     omega (arith, sum, was)
 
-pub held_more : (held : List Bool) (n : ℕ) (P : ℕ → Type 0) → ((k : ℕ) → slice_get held k ≡ Some true → P k) → P n → (k : ℕ) → slice_get (slice_set held n true) k ≡ Some true → P k
-held_more held n P before now k there = elim (cases_eq k n) [
-  | inl same ↦ subst P (sym same) now
-  | inr apart ↦ before k (sym (get-set_other held n k true apart) ∙ there)
+-- one note more, and those that there were
+pub noted_too : (notes : List Bool) (n : ℕ) → n < length notes → slice_get (slice_set notes n true) n ≡ Some true
+noted_too notes n low = get-set_same notes n true (get_or notes n true) (slice_get-get_or notes n true low)
+
+pub noted_more : (notes : List Bool) (n k : ℕ) → slice_get notes k ≡ Some true → slice_get (slice_set notes n true) k ≡ Some true
+noted_more notes n k was = elim (cases_eq k n) [
+  | inl same ↦ subst (λ (j : ℕ). slice_get (slice_set notes n true) j ≡ Some true) (sym same) (noted_too notes n (let low = slice_get_within notes k true was in omega (arith, low, same)))
+  | inr apart ↦ get-set_other notes n k true apart ∙ was
 ]
 
 pub ready_is : (st : Status) → is_ready st ≡ true → st ≡ Ready

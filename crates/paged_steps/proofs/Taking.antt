@@ -1,9 +1,9 @@
 -- What views that are taken over leave in memory and in rows.
-use Rattle.std.proofs.Common.{◌≡◌, ℕ, ◌+◌, ◌*◌, ◌<◌, Bool, true, false, List, [], ◌∷◌, ◌++◌, length, map, take, get_or, Contains, Some, slice_get, refl, ap, ap₂, sym, ◌∙◌, inl, inr, arith}
+use Rattle.std.proofs.Common.{◌≡◌, ℕ, ◌+◌, ◌*◌, ◌<◌, Bool, true, false, List, [], ◌∷◌, ◌++◌, length, map, take, get_or, Contains, Some, slice_get, refl, ap, ap₂, sym, ◌∙◌, subst, ◌⊎◌, inl, inr, arith}
 use Rattle.std.specs.Prelude.{if◌then◌else◌}
 use Rattle.std.proofs.lemmas.Bool.{cases_eq}
 use Rattle.std.proofs.lemmas.List.{take_more, map-id}
-use Rattle.std.proofs.lemmas.List.Elements.{filter-append}
+use Rattle.std.proofs.lemmas.List.Elements.{filter-append, Contains-push_cases}
 use Rattle.std.proofs.lemmas.Simd.{map-map}
 use Rattle.cache_ident.specs.declared.names.Frame.{Frame}
 use Rattle.cache_ident.specs.declared.names.SpaceNo.{SpaceNo}
@@ -74,18 +74,24 @@ module _ (views : List View) (i : ℕ) (v : View) (low : i < length views) (is :
   touched_more : touched_views (take (i + 1) views) ≡ touched_views (take i views) ++ touched_views (v ∷ [])
   touched_more = ap touched_views one_more ∙ filter-append (λ (w : View). w.touched) (take i views) (v ∷ [])
 
-  pub memory_more : (m : List ℕ) → v.touched ≡ true → with_views m (touched_views (take (i + 1) views)) ≡ with_page (with_views m (touched_views (take i views))) v.frame v.present
-  memory_more m touched =
-      ap (with_views m) (touched_more ∙ ap (λ (b : Bool). touched_views (take i views) ++ (if b then v ∷ [] else [])) touched)
-      ∙ with_views-push m (touched_views (take i views)) v
+  pub touched_so_far : v.touched ≡ true → touched_views (take (i + 1) views) ≡ touched_views (take i views) ++ v ∷ []
+  touched_so_far touched = touched_more ∙ ap (λ (b : Bool). touched_views (take i views) ++ (if b then v ∷ [] else [])) touched
 
-  pub memory_kept : (m : List ℕ) → v.touched ≡ false → with_views m (touched_views (take (i + 1) views)) ≡ with_views m (touched_views (take i views))
-  memory_kept m untouched =
-      ap (with_views m) (touched_more ∙ ap (λ (b : Bool). touched_views (take i views) ++ (if b then v ∷ [] else [])) untouched ∙ append_nil (touched_views (take i views)))
+  pub untouched_so_far : v.touched ≡ false → touched_views (take (i + 1) views) ≡ touched_views (take i views)
+  untouched_so_far untouched = touched_more ∙ ap (λ (b : Bool). touched_views (take i views) ++ (if b then v ∷ [] else [])) untouched ∙ append_nil (touched_views (take i views))
     where
       append_nil : (vs : List View) → vs ++ [] ≡ vs
       append_nil [] = refl
       append_nil (w ∷ vs) = ap (λ (xs : List View). w ∷ xs) (append_nil vs)
+
+  pub memory_more : (m : List ℕ) → v.touched ≡ true → with_views m (touched_views (take (i + 1) views)) ≡ with_page (with_views m (touched_views (take i views))) v.frame v.present
+  memory_more m touched = ap (with_views m) (touched_so_far touched) ∙ with_views-push m (touched_views (take i views)) v
+
+  pub memory_kept : (m : List ℕ) → v.touched ≡ false → with_views m (touched_views (take (i + 1) views)) ≡ with_views m (touched_views (take i views))
+  memory_kept m untouched = ap (with_views m) (untouched_so_far untouched)
+
+  pub one_more_case : (w : View) → Contains (take (i + 1) views) w → Contains (take i views) w ⊎ (v ≡ w)
+  one_more_case w there = Contains-push_cases (take i views) v w (subst (λ (vs : List View). Contains vs w) one_more there)
 
   -- ---- rows
 

@@ -5,3 +5,4 @@ pub mod Aheads
 pub mod Marks
 pub mod Nexts
 pub mod Orders
+pub mod Knowing

@@ -9,10 +9,11 @@ use Rattle.paged_steps.specs.declared.ahead.Stands.TheVariants.{Faults}
 use Rattle.paged_steps.specs.declared.looking.Next.{Next}
 use Rattle.paged_steps.specs.declared.looking.Next.TheVariants.{Held, Takes, Ends, Sends}
 use Rattle.paged_steps.specs.Aheads.{IsAheadOf, IsSentBy, StandsSo}
+use Rattle.paged_steps.specs.Knowing.{IsHeldAhead}
 
 -- what the steps ahead say of it
 abbrev pub DoesSo : FlatState → FlatThread → Ahead → Next → Type 0
-DoesSo tables t a Held = Unit {0}
+DoesSo tables t a Held = IsHeldAhead tables t a
 DoesSo tables t a Takes = 0 < a.steps
 DoesSo tables t a (Ends kind access va) = (a.steps ≡ 0) × StandsSo tables t a (Faults kind access va)
 DoesSo tables t a (Sends store signal) =

@@ -1,6 +1,6 @@
 //! Steps that happen.
 
-ghost use Rattle.std.specs.Prelude.{◌≡◌, ◌<◌, true, List, ℕ, None, OnOk, OnErr, Contains, length, map, slice_set};
+ghost use Rattle.std.specs.Prelude.{◌≡◌, ◌<◌, true, List, ℕ, None, IfOk, OnOk, OnErr, Contains, length, map, slice_set};
 ghost use Rattle.phys_groups.specs.Memory.{with_page};
 ghost use Rattle.phys_groups.specs.Rows.{marked};
 ghost use Rattle.rv32_exec.specs.declared.statuses.Status.TheVariants as statuses;
@@ -12,7 +12,7 @@ ghost use Rattle.flat_rules.specs.Readings.{OfThread};
 ghost use Rattle.memory_laws.specs.Apart.{over};
 ghost use Rattle.quantum.specs.page_views.specs.Views.{View};
 ghost use Rattle.page_store.specs.Kept.{Means};
-ghost use Rattle.quantum.specs.LocalRun.{committed, status_by as status_by_def, touched_views, with_views, HaveOneContents};
+ghost use Rattle.quantum.specs.LocalRun.{committed, status_by as status_by_def, touched_views, with_views, HaveOneContents, IsLocalRun};
 ghost use Rattle.ahead_laws.specs.Signalled.{signalled_by};
 ghost use Rattle.byte_ports.specs.Faults.{HasRisen};
 ghost use Rattle.paged_steps.specs.Pages.{HasFrames};
@@ -29,19 +29,22 @@ use quantum::{PageView, Paused, Quantum, SignalStore};
 use rv32_exec::{Access, FaultKind, Reason, Status};
 use signal_pages::address;
 
-/// Makes the steps ahead of a thread happen.
+/// Makes the steps ahead of a thread happen, and answers how many they are.
 pub fn commit<K: Store>(
     tables: &mut Flat,
     paged: &mut Paged,
     store: &mut K,
     quantum: &Quantum,
     no: ThreadNo,
-) -> Result<(), Failed>
+) -> Result<u32, Failed>
     requires there { no.0 < length tables.old.threads }
     requires ready { OfThread tables.old no.0 (λ t. t.status ≡ statuses.Ready) }
     requires ahead { OfThread tables.old no.0 (λ t. IsAheadOf tables.old t quantum.now) }
     requires frames { HasFrames tables.old paged.old (K.frames store.old) }
     ensures state { OnOk result ((m : List ℕ) → Means paged.old (K.bytes_held store.old) m → AreCopies m quantum.now.views → OfThread tables.old no.0 (λ t. (n : List ℕ) × Means paged.new (K.bytes_held store.new) n × (over tables.new n ≡ committed (over tables.old m) no.0 t quantum.now))) }
+    ensures steps { IfOk result (λ steps. steps ≡ quantum.now.steps) }
+    ensures local_run { OnOk result (IsLocalRun quantum.now) }
+    ensures whole_pages { OnOk result ((v : View) → Contains (touched_views quantum.now.views) v → length v.present ≡ 4096) }
     ensures frames { OnOk result (HasFrames tables.new paged.new (K.frames store.new)) }
     ensures threads { OnOk result (OfThread tables.old no.0 (λ t. tables.new.threads ≡ slice_set tables.old.threads no.0 (record t { context = quantum.now.context; status = status_by_def quantum.now.paused }))) }
     ensures faultless { OnOk result (K.faults store.new ≡ K.faults store.old) }
@@ -49,10 +52,10 @@ pub fn commit<K: Store>(
 {
     tables.holds();
     let space = thread_at(tables, no).space;
-    let _steps = quantum.steps();
+    let steps = quantum.steps();
     take_views(tables, paged, store, space, quantum.views())?;
     tables.put(no, quantum.context(), status_by(quantum.paused()));
-    Ok(())
+    Ok(steps)
 }
 
 // Takes over what steps did to views.
@@ -68,6 +71,7 @@ fn take_views<K: Store>(
     requires frames { HasFrames tables.old paged.old (K.frames store.old) }
     ensures tables { OnOk result (tables.new ≡ record tables.old { rows = map (marks_by space views.now) tables.old.rows }) }
     ensures memory { OnOk result ((m : List ℕ) → Means paged.old (K.bytes_held store.old) m → AreCopies m views.now → Means paged.new (K.bytes_held store.new) (with_views m (touched_views views.now))) }
+    ensures whole_pages { OnOk result ((v : View) → Contains (touched_views views.now) v → length v.present ≡ 4096) }
     ensures frames { OnOk result (HasFrames tables.new paged.new (K.frames store.new)) }
     ensures faultless { OnOk result (K.faults store.new ≡ K.faults store.old) }
     ensures fault { OnErr result (HasRisen (K.faults store.old) (K.faults store.new)) }

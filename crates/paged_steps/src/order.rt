@@ -1,15 +1,21 @@
 //! In which order threads are looked at.
 
-ghost use Rattle.std.specs.Prelude.{◌≡◌, ◌<◌, ◌≤◌, ◌⊎◌, ℕ, None, Some, true, false, IfSome, IfNone, OnOk, length, slice_get, slice_set};
+ghost use Rattle.std.specs.Prelude.{◌≡◌, ◌<◌, ◌≤◌, ◌⊎◌, ℕ, [], None, Some, true, false, Contains, IfSome, IfNone, OnOk, length, slice_get, slice_set};
+ghost use Rattle.std.specs.Bool.{OnTrue};
 ghost use Rattle.flat_state.specs.State.{is_ready as is_ready_def};
 ghost use Rattle.flat_rules.specs.Readings.{OfThread};
 ghost use Rattle.flat_state.specs.Call.{is_completable as is_completable_def};
 ghost use Rattle.std.specs.List.{list_any};
+ghost use Rattle.quantum.specs.page_views.specs.Views.{View};
+ghost use Rattle.quantum.specs.LocalRun.{status_by};
+ghost use Rattle.flat_state.specs.State.{is_ended};
 ghost use Rattle.paged_steps.specs.Orders.{IsCandidate, HasCall, AllHeld};
+ghost use Rattle.paged_steps.specs.Knowing.{AreKept, AreSpared, AreWatched, KnowsNobody, KnowsNoMore};
 
-use cache_ident::{NoMemory, ThreadNo};
+use cache_ident::{Frame, NoMemory, ThreadNo};
 use flat_machine::Flat;
 use flat_rules::{is_completable, is_ready, thread_at};
+use quantum::{PageView, Paused, Quantum};
 use ready_queue::{Candidate, in_order};
 use std::alloc::Global;
 
@@ -18,59 +24,89 @@ use std::alloc::Global;
 pub struct Order {
     /// Of each thread, the count of choices at its last one, and 0 before its first.
     pub last: Vec<u64>,
-    /// Whether a thread was found held since the machine changed.
+    /// Whether a thread was found held, and is so still.
     pub held: Vec<bool>,
+    /// Of each frame, whether its bytes told so.
+    pub watched: Vec<bool>,
     pub choices: u64,
 }
 
 impl Order {
     /// Nothing is known of any thread.
-    pub fn new(alloc: Global) -> Order {
+    pub fn new(alloc: Global) -> Order
+        ensures { result.held.items ≡ [] }
+    {
         Order {
             last: Vec::new(alloc),
             held: Vec::new(alloc),
+            watched: Vec::new(alloc),
             choices: 0,
         }
     }
 
-    /// Sees to it that there is room for so many threads.
-    pub fn grow(&mut self, threads: u32) -> Result<(), NoMemory>
+    /// Sees to it that there is room for so many threads and frames.
+    pub fn grow(&mut self, threads: u32, frames: usize) -> Result<(), NoMemory>
         ensures held { OnOk result (threads ≤ length self.new.held.items) }
         ensures last { OnOk result (threads ≤ length self.new.last.items) }
+        ensures watched { OnOk result (frames ≤ length self.new.watched.items) }
+        ensures known { OnOk result (KnowsNoMore self.old self.new) }
     {
+        if self.has_room(threads as usize, frames) {
+            return Ok(());
+        }
         self.held.resize(threads as usize, false)?;
         self.last.resize(threads as usize, 0)?;
+        self.watched.resize(frames, false)?;
+        self.forget();
         Ok(())
     }
 
     /// No thread is known to be held.
     pub fn forget(&mut self)
-        ensures none { (n : ℕ) → n < length self.new.held.items → slice_get self.new.held.items n ≡ Some false }
+        ensures none { KnowsNobody self.new.held.items }
+        ensures len { length self.new.held.items ≡ length self.old.held.items }
+        ensures frames { length self.new.watched.items ≡ length self.old.watched.items }
+        ensures last { self.new.last ≡ self.old.last }
+    {
+        clear(&mut self.held);
+        clear(&mut self.watched);
+    }
+
+    /// Notes that steps happened. Who is known to be held is so still, unless they stored to a watched frame, or ended their thread,
+    /// which has room from then on for whatever is sent to it.
+    pub fn pass(&mut self, quantum: &Quantum)
+        ensures known { (AreKept self.old self.new × AreSpared self.old.watched.items quantum.now) ⊎ KnowsNobody self.new.held.items }
         ensures len { length self.new.held.items ≡ length self.old.held.items }
         ensures last { self.new.last ≡ self.old.last }
     {
-        for n in 0..self.held.len() {
-            self.held[n] = false;
+        if self.spares(quantum) {
+            return;
         }
+        self.forget();
     }
 
     /// Notes that a thread was chosen.
     pub fn choose(&mut self, no: ThreadNo)
         requires { no.0 < length self.old.last.items }
         ensures last { length self.new.last.items ≡ length self.old.last.items }
-        ensures held { self.new.held ≡ self.old.held }
+        ensures known { AreKept self.old self.new }
     {
         self.choices = self.choices.saturating_add(1);
         self.last[no.0 as usize] = self.choices;
     }
 
-    /// Notes that a thread was found held.
-    pub fn hold(&mut self, no: ThreadNo)
-        requires { no.0 < length self.old.held.items }
+    /// Notes that a thread was found held, as these copies of its pages tell.
+    pub fn hold(&mut self, no: ThreadNo, copies: &[PageView])
+        requires there { no.0 < length self.old.held.items }
+        requires frames { (v : View) → Contains copies.now v → v.frame.0 < length self.old.watched.items }
         ensures held { self.new.held.items ≡ slice_set self.old.held.items no.0 true }
+        ensures watched { AreWatched self.new.watched.items copies.now }
+        ensures more { (f : ℕ) → slice_get self.old.watched.items f ≡ Some true → slice_get self.new.watched.items f ≡ Some true }
+        ensures len { length self.new.watched.items ≡ length self.old.watched.items }
         ensures last { self.new.last ≡ self.old.last }
     {
         self.held[no.0 as usize] = true;
+        watch(&mut self.watched, copies);
     }
 
     /// Of the threads that are ready and weren't found held, the first in the order of choice.
@@ -87,6 +123,66 @@ impl Order {
         match best {
             Some(candidate) => Some(candidate.no),
             None => None,
+        }
+    }
+
+    // Whether there is room for so many threads and frames.
+    fn has_room(&self, threads: usize, frames: usize) -> bool
+        ensures held { OnTrue result (threads ≤ length self.now.held.items) }
+        ensures last { OnTrue result (threads ≤ length self.now.last.items) }
+        ensures watched { OnTrue result (frames ≤ length self.now.watched.items) }
+    {
+        if self.held.len() < threads {
+            return false;
+        }
+        if self.last.len() < threads {
+            return false;
+        }
+        if self.watched.len() < frames {
+            return false;
+        }
+        true
+    }
+
+    // Whether steps stored to no watched frame, and their thread goes on.
+    fn spares(&self, quantum: &Quantum) -> bool
+        ensures { OnTrue result (AreSpared self.now.watched.items quantum.now) }
+    {
+        if has_ended_by(quantum.paused()) {
+            return false;
+        }
+        self.leaves(quantum.views())
+    }
+
+    // Whether nothing was stored to views of watched frames.
+    fn leaves(&self, views: &[PageView]) -> bool
+        ensures { OnTrue result ((v : View) → Contains views.now v → slice_get self.now.watched.items v.frame.0 ≡ Some true → v.present ≡ v.first) }
+    {
+        for view in views {
+            if self.is_changed(view) {
+                return false;
+            }
+        }
+        true
+    }
+
+    // Whether something was stored to a view of a watched frame.
+    fn is_changed(&self, view: &PageView) -> bool
+        ensures { slice_get self.now.watched.items view.now.frame.0 ≡ Some true → result ≡ false → view.now.present ≡ view.now.first }
+    {
+        if view.is_as_copied() {
+            return false;
+        }
+        self.watches(view.frame())
+    }
+
+    // Whether a frame is watched.
+    fn watches(&self, frame: Frame) -> bool
+        ensures { slice_get self.now.watched.items frame.0 ≡ Some true → result ≡ true }
+    {
+        match self.watched.get(frame.0 as usize) {
+            Some(watched) => *watched,
+            None => false,
         }
     }
 
@@ -108,6 +204,42 @@ impl Order {
             priority: thread.priority,
             last: self.last[no.0 as usize],
         })
+    }
+}
+
+// None of these is so any more.
+fn clear(notes: &mut Vec<bool>)
+    ensures none { KnowsNobody notes.new.items }
+    ensures len { length notes.new.items ≡ length notes.old.items }
+{
+    for n in 0..notes.len() {
+        notes[n] = false;
+    }
+}
+
+// The frames of copies are watched.
+fn watch(watched: &mut Vec<bool>, copies: &[PageView])
+    requires frames { (v : View) → Contains copies.now v → v.frame.0 < length watched.old.items }
+    ensures watched { AreWatched watched.new.items copies.now }
+    ensures more { (f : ℕ) → slice_get watched.old.items f ≡ Some true → slice_get watched.new.items f ≡ Some true }
+    ensures len { length watched.new.items ≡ length watched.old.items }
+{
+    for view in copies {
+        watched[view.frame().0 as usize] = true;
+    }
+}
+
+// Whether steps that paused so ended their thread.
+fn has_ended_by(paused: Option<Paused>) -> bool
+    ensures { result ≡ is_ended (status_by paused) }
+{
+    match paused {
+        Some(Paused::Stopped(_)) => true,
+        Some(Paused::Call)
+        | Some(Paused::Limit)
+        | Some(Paused::Miss { .. })
+        | Some(Paused::Signal)
+        | None => false,
     }
 }
 

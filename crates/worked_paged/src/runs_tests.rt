@@ -1,11 +1,7 @@
 //! Runs with two frames over a store that counts its writes, and fails at the calls that it is told.
 
-ghost use Rattle.std.specs.Prelude.{◌≡◌, ◌∷◌, IfSome, drop};
-ghost use Rattle.flat_state.specs.declared.events.Decl.TheVariants as declaration;
-
-use flat_state::{Decl, Machine};
-use paged_run::{MemStore, PagedFault, run_paged};
-use scenario_reader::read;
+use paged_run::{MemStore, PagedFault, first_machine, run_paged};
+use scenario_reader::read_opening;
 use std::alloc::Global;
 use std::process::Abort;
 use std::test::Fail;
@@ -19,30 +15,25 @@ map 0 23 8 rw\nword 8 0 00000008\ncode 0 0\nlui t0, 16\naddi t1, zero, 8\naddi a
 lw t3, 0(t0)\nadd a0, a0, t3\nadd t0, t0, t2\naddi t1, t1, -1\nbne t1, zero, again\naddi a7, zero, 2\necall\n\
 addi a7, zero, 0\naddi a0, zero, 0\necall\nendcode\nend\n";
 
-// The machine that stands first, if one does.
-fn first_machine(decls: &[Decl]) -> Option<Machine>
-    ensures { IfSome result (λ m. decls.now ≡ declaration.Machine m ∷ drop 1 decls.now) }
-{
-    if decls.is_empty() {
-        return None;
-    }
-    match decls[0] {
-        Decl::Machine { machine } => Some(machine),
-        _ => None,
-    }
+// How many calls of its store a run made, and how many of them were writes.
+#[derive(Clone, Copy)]
+struct Counts {
+    calls: u64,
+    writes: u64,
 }
 
-// How many writes succeeded in a run with two frames over a new store of which these calls fail; and none where one of them was made.
-fn writes_of(alloc: Global, text: &str, fail: &[u64]) -> Result<Option<u64>, Fail> {
-    let scenario = read(alloc, text.as_bytes())?;
-    let Some(machine) = first_machine(scenario.decls()) else {
-        return Err(Fail::new("no machine stands first"));
-    };
+// The counts of a run with two frames over a new store of which these calls fail; and none where one of them was made.
+fn counts_of(alloc: Global, text: &str, fail: &[u64]) -> Result<Option<Counts>, Fail> {
+    let scenario = read_opening(alloc, text.as_bytes())?;
+    let machine = first_machine(scenario.decls());
     let mut store = MemStore::new(alloc, machine.groups, fail)?;
     match run_paged(alloc, scenario.decls(), 2, 1_000, &mut store) {
         Ok(run) => {
             std::mem::forget(run);
-            Ok(Some(store.writes()))
+            Ok(Some(Counts {
+                calls: store.calls(),
+                writes: store.writes(),
+            }))
         }
         Err(PagedFault::StoreFault) => Ok(None),
         Err(PagedFault::NoMemory) => Err(Fail::new("memory ran out")),
@@ -51,14 +42,23 @@ fn writes_of(alloc: Global, text: &str, fail: &[u64]) -> Result<Option<u64>, Fai
 
 #[test]
 fn each_page_is_written_back(rt: HostRuntime) -> Result<(), Fail> {
-    assert!(rt; matches!(writes_of(rt.alloc(), NINE_PAGES, &[])?, Some(9..)));
+    assert!(rt;
+        matches!(
+            counts_of(rt.alloc(), NINE_PAGES, &[])?,
+            Some(Counts { writes: 9.., .. })
+        )
+    );
     Ok(())
 }
 
 #[test]
 fn each_call_of_the_store_fails(rt: HostRuntime) -> Result<(), Fail> {
-    for at in 0..20 {
-        assert!(rt; writes_of(rt.alloc(), NINE_PAGES, &[at])?.is_none());
+    let Some(counts) = counts_of(rt.alloc(), NINE_PAGES, &[])? else {
+        return Err(Fail::new("a call failed that wasn't told to"));
+    };
+    for at in 0..counts.calls {
+        assert!(rt; counts_of(rt.alloc(), NINE_PAGES, &[at])?.is_none());
     }
+    assert!(rt; counts_of(rt.alloc(), NINE_PAGES, &[counts.calls])?.is_some());
     Ok(())
 }

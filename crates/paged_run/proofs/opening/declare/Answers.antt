@@ -7,5 +7,6 @@ returns-clause-adds g c = record {
   entries = c.in_ok-push.ensures.ok;
   machine = c.in_ok-make.ensures.machine;
   quantum = refl;
+  order = refl;
   steps = refl;
 }

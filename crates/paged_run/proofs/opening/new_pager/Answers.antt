@@ -25,5 +25,6 @@ returns c =
       memory = c.in_ok-new.ensures.memory (replicate (524288 * m.groups) 0) (length-replicate (524288 * m.groups) 0 ∙ omega arith);
       room = λ two. subst (λ (a : Ahead). 2 ≤ a.most) (sym c.in_ok-new-2.ensures) (omega (arith, two, c.min.ensures));
       entries = c.in_ok-push.ensures.ok ∙ ap (λ (j : List Entry). j ++ Declared (Machine m) ∷ []) c.new-journal.ensures;
+      nobody = c.new-3.ensures;
       steps = refl;
     }

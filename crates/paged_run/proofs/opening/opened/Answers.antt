@@ -22,6 +22,7 @@ returns-clause-opened g c =
     let did = c.in_ok-declare_all.ensures in
     record {
       entries = opened_entries c.args.decls.now _ c.first_machine-machine.result _ _ _ (whole_tail c.args.decls.now c.first_machine-machine.result c.first_machine-machine.ensures) bare.entries did.adds.entries c.in_ok-push.ensures.ok;
+      nobody = ap (λ o. o.held.items) did.adds.order ∙ bare.nobody;
       steps = did.adds.steps ∙ bare.steps;
       room = subst (λ a. 2 ≤ a.most) (sym did.adds.quantum) (bare.room c.requires.least);
       frames = did.frames;

@@ -1,19 +1,19 @@
-use Rattle.std.proofs.Common.{◌≡◌, ℕ, true, List, length, Some, slice_get}
+use Rattle.std.proofs.Common.{◌≡◌, ◌≤◌, ◌*◌, ℕ, List, length}
 use Rattle.std.specs.Prelude.{count_by, not}
-use Rattle.flat_state.specs.declared.records.FlatThread.{FlatThread}
-use Rattle.flat_state.specs.Signals.{is_held}
 use Rattle.memory_laws.specs.Apart.{over}
 use Rattle.page_store.specs.Kept.{Means}
+use Rattle.paged_steps.specs.Knowing.{Knows}
 use Rattle.paged_steps.specs.Pages.{HasFrames}
 use Rattle.paged_steps.proofs.finding.find.Given as goal
 
--- who was found held is
+-- who is known to be held is
 abbrev pub invariant-loop-no : goal.invariant-loop-no
 invariant-loop-no g l =
     let store = g.K.Store in
     record {
-      held : (n : ℕ) (t : FlatThread) → slice_get l.order.held.items n ≡ Some true → slice_get l.tables.threads n ≡ Some t → (m : List ℕ) → Means l.initial.paged (store.bytes_held l.initial.store) m → is_held (over l.tables m) t ≡ true;
+      known : (m : List ℕ) → Means l.initial.paged (store.bytes_held l.initial.store) m → Knows (over l.tables m) l.initial.order → Knows (over l.tables m) l.order;
       memory : (m : List ℕ) → Means l.initial.paged (store.bytes_held l.initial.store) m → Means l.paged (store.bytes_held l.store) m;
+      watched : length l.tables.memory ≤ 4096 * length l.order.watched.items;
       many : length l.order.held.items ≡ length l.initial.order.held.items;
       last : length l.order.last.items ≡ length l.initial.order.last.items;
       room : l.quantum.most ≡ l.initial.quantum.most;

@@ -1,5 +1,5 @@
-use Rattle.std.proofs.Common.{◌≡◌, ℕ, List, length, take, Contains, refl, ap, sym, ◌∙◌, subst, arith}
-use Rattle.std.proofs.lemmas.List.Elements.{Contains-get_or}
+use Rattle.std.proofs.Common.{◌≡◌, ℕ, List, length, take, Contains, refl, ap, sym, ◌∙◌, subst, inl, inr, arith}
+use Rattle.std.proofs.lemmas.List.Elements.{Contains-get_or, Contains-push_cases}
 use Rattle.phys_groups.specs.Memory.{HasFrame}
 use Rattle.quantum.proofs.OneStep.{contains_filter}
 use Rattle.flat_state.specs.State.{FlatState}
@@ -7,7 +7,7 @@ use Rattle.page_store.specs.Kept.{Means}
 use Rattle.quantum.specs.page_views.specs.Views.{View}
 use Rattle.quantum.specs.LocalRun.{touched_views, with_views}
 use Rattle.paged_steps.specs.Aheads.{IsPutIf}
-use Rattle.paged_steps.proofs.Taking.{memory_kept, memory_more, no_marks, put_first, put_later, row_frame, rows_kept, rows_more}
+use Rattle.paged_steps.proofs.Taking.{memory_kept, memory_more, no_marks, put_first, put_later, row_frame, rows_kept, rows_more, touched_so_far, untouched_so_far}
 use Rattle.paged_steps.proofs.happening.take_views.Goals as goal
 use Rattle.paged_steps.proofs.happening.take_views.Goals.{then-touched+in_ok-take_view, else-touched}
 
@@ -16,6 +16,7 @@ loop-view-init g c = record {
   tables = no_marks c.args.tables.now;
   memory = λ m means copies. means;
   put = λ m means copies. put_first c.args.views.now m copies;
+  whole = λ v there. absurd (let lt = there.1 in omega (arith, lt));
   frames = c.requires.frames;
   faultless = refl;
 }
@@ -57,6 +58,10 @@ loop-view-preserved g c =
                 let there_too : HasFrame (now m) v.frame = omega arith in
                 subst (λ (n : List ℕ). (u : View) → Contains (touched_views views) u → IsPutIf u n) (sym (more m))
                 (put_later views m (now m) v c.requires.contents copies there there_too did.whole_page (before.put m means copies));
+            whole = λ u u_there. elim (Contains-push_cases (touched_views (take i views)) v u (subst (λ (xs : List View). Contains xs u) (touched_so_far views i v c.loop-view-test.true c.view-item.is touched) u_there)) [
+              | inl earlier ↦ before.whole u earlier
+              | inr same ↦ subst (λ (x : View). length x.present ≡ 4096) same did.whole_page
+            ];
             frames = rw (w.tables-is, w.paged-is, w.store-is) did.frames;
             faultless = rw w.store-is (did.faultless ∙ before.faultless);
           }
@@ -67,6 +72,7 @@ loop-view-preserved g c =
             tables = w.tables-is ∙ rows_kept views i v c.loop-view-test.true c.view-item.is c.args.space c.args.tables.now c.loop-view.tables before.tables untouched;
             memory = λ m means copies. rw (w.paged-is, w.store-is) (subst (λ (n : List ℕ). Means c.loop-view.paged (store.bytes_held c.loop-view.store) n) (sym (kept m)) (before.memory m means copies));
             put = λ m means copies. subst (λ (n : List ℕ). (u : View) → Contains (touched_views views) u → IsPutIf u n) (sym (kept m)) (before.put m means copies);
+            whole = λ u u_there. before.whole u (subst (λ (xs : List View). Contains xs u) (untouched_so_far views i v c.loop-view-test.true c.view-item.is untouched) u_there);
             frames = rw (w.tables-is, w.paged-is, w.store-is) before.frames;
             faultless = rw w.store-is before.faultless;
           }

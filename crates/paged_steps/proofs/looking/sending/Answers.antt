@@ -19,6 +19,22 @@ returns-then-is_some-clause-held c = λ t here m size copies.
     held_so c.args.tables.now t c.args.quantum.now c.args.what ahead (ahead.fresh c.requires.fresh) c.requires.store signal (c.signal_of-signal.ensures t here) m copies (c.requires.ready t here)
     (ap is_some (sym full_is) ∙ sym c.is_some.ensures ∙ c.if-is_some.true)
 
+pub returns-then-is_some-clause-does : goal.returns-then-is_some-clause-does
+returns-then-is_some-clause-does c = λ t here.
+    let signal = c.signal_of-signal.result in
+    let full_is : c.full_among.result ≡ full_among c.args.tables.now.threads (map (λ r. r.0) (receivers_of c.args.tables.now signal.frame)) =
+    c.full_among.ensures ∙ ap (λ (rs : List (ThreadNo × Vpn)). full_among c.args.tables.now.threads (map (λ r. r.0) rs)) (c.deref.ensures.0 ∙ c.receivers_for-receivers.ensures) in
+    record {
+      ready = c.requires.ready t here;
+      ahead = c.requires.ahead t here;
+      first = c.requires.fresh;
+      store = c.args.what;
+      told = c.requires.store;
+      signal = signal;
+      sent = c.signal_of-signal.ensures t here;
+      full = ap is_some (sym full_is) ∙ sym c.is_some.ensures ∙ c.if-is_some.true;
+    }
+
 pub returns-clause-does : goal.returns-clause-does
 returns-clause-does c = λ t here.
     let signal = c.signal_of-signal.result in
