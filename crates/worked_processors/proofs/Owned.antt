@@ -1,7 +1,5 @@
 -- Boards keep their owners, whatever is called.
-use Rattle.std.proofs.Common.{ℕ, List, Some, sym, subst}
-use Rattle.cache_ident.specs.declared.idents.Ident.{Ident}
-use Rattle.flat_state.specs.declared.events.Decl.{Decl}
+use Rattle.std.proofs.Common.{ℕ, List, sym, subst}
 use Rattle.run_journal.specs.declared.entries.Entry.{Entry}
 use Rattle.run_journal.specs.Legal.{IsLegal}
 use Rattle.alone_run.specs.board_core.specs.Core.{Recorded}

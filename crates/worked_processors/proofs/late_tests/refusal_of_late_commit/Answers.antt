@@ -6,12 +6,12 @@ pub commit-requires : goal.commit-requires
 commit-requires c =
     let out = c.checkout.new.self in
     let ran = c.has_run_ahead in
-    views_on 1 out c.unload-_unloaded.new.self c.in_some-ticket.ticket.thread ran.new.quantum c.unload-_unloaded.ensures.event ran.ensures
+    record { views = views_on 1 out c.unload-unloaded.new.self c.in_ok-ticket.ticket.thread ran.new.quantum c.unload-unloaded.ensures.event ran.ensures }
 
 pub returns : goal.returns
 returns c = λ known was.
     let before = c.args.board.now in
     let out = c.checkout.new.self in
-    let gone = c.unload-_unloaded.new.self in
-    owned_on 0 gone c.commit.new.self known c.commit.ensures.event
-    (owned_on 1 out gone known c.unload-_unloaded.ensures.event (owned_on 0 before out known c.checkout.ensures.event was))
+    let gone = c.unload-unloaded.new.self in
+    owned_on c.in_ok-ticket.ticket.cpu gone c.commit.new.self known c.commit.ensures.event
+    (owned_on 1 out gone known c.unload-unloaded.ensures.event (owned_on 0 before out known c.checkout.ensures.event was))

@@ -1,4 +1,4 @@
-use Rattle.processors.specs.alone_run.specs.board_turns.specs.cache_board.proofs.PastLaws.{made_by_numbers}
+use Rattle.alone_run.specs.cache_board.proofs.PastLaws.{made_by_numbers}
 use Rattle.worked_processors.proofs.stop_tests.run_behind_the_lock.Goals as goal
 
 pub new-requires : goal.new-requires
