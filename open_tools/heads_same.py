@@ -1,5 +1,5 @@
 import sys; sys.path.insert(0,'/work/tools'); import heads,re,os
-a,b=heads.Tree('/tmp/hK/old'),heads.Tree('/work/hK')
+a,b=heads.Tree('/tmp/hK/old'),heads.Tree('/work/main')
 n=bad=0
 def steps(t,name,path):
     """Each step of the path is listed or handed on."""
@@ -11,7 +11,7 @@ def steps(t,name,path):
         c,w=w[1],w[2:]
     return True
 for c in a.names:
-    A=dict((f.replace('/tmp/hK/old',''),t) for f,t in heads.texts(a.top,c)); B=dict((f.replace('/work/hK',''),t) for f,t in heads.texts(b.top,c))
+    A=dict((f.replace('/tmp/hK/old',''),t) for f,t in heads.texts(a.top,c)); B=dict((f.replace('/work/main',''),t) for f,t in heads.texts(b.top,c))
     assert A.keys()==B.keys(),c
     for f in A:
         if f.endswith('specs/Lib.antt'):

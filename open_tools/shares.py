@@ -1,6 +1,6 @@
 # chain and gate runs get autogroup nice -8; helpers' checks 5
 import os, time
-RULES = [('/work/ci/', -8), ('/tmp/rt-copy-', -8), ('/work/hS', 8), ('/work/hT', 9), ('/tmp/hT', 9), ('/tmp/hS', 8), ('/work/h', 4), ('/tmp/h', 5)]
+RULES = [('/work/ci/ed', -7), ('/work/ci/', -14), ('/tmp/rt-copy-', -14), ('/work/hP', -4), ('/tmp/hP', -4), ('/work/hT', -6), ('/tmp/hT', -6), ('/work/hG', -4), ('/tmp/hG', -4), ('/work/hL', 10), ('/tmp/hL', 10), ('/work/hE', 9), ('/tmp/hE', 9), ('/work/hS', 9), ('/tmp/hS', 9), ('/work/h', 4), ('/tmp/h', 5)]
 done = {}
 while True:
     try:
@@ -16,10 +16,10 @@ while True:
         try: cwd = os.readlink(f'/proc/{p}/cwd')
         except OSError: continue
         if any(cwd.startswith(f'/tmp/rt-edit-{r}-') or cwd.startswith(f'/tmp/rt-copy-{r}-') or cwd.startswith(f'/tmp/rt-edits-{r}-') for r in low):
-            if done.get(p) != 6:
-                try: open(f'/proc/{p}/autogroup', 'w').write('6')
+            if done.get(p) != -7:
+                try: open(f'/proc/{p}/autogroup', 'w').write('-7')
                 except OSError: pass
-                done[p] = 6
+                done[p] = -7
             continue
         for k, v in RULES:
             if cwd.startswith(k):
