@@ -29,18 +29,6 @@ runs=15
 failed=0
 steps=1000000
 
-# own_loop: rows and words of a thread that adds the words of a page and stores the sum.
-own_loop() {
-    cat << 'WORDS'
-thread 0 0 65536
-map 0 16 0 rx
-map 0 17 1 rw
-word 0 0 000110b7 00008113 7fc08193 00012203 004282b3 00512023 00410113 fe3168e3
-word 0 32 fe5ff06f
-word 1 0 00000001 00000002 00000003 00000004 00000005 00000006 00000007 00000008
-WORDS
-}
-
 # apart COUNT: so many threads of the loop in the file loop, each with a space and frames of its own.
 apart() {
     echo 'mem 1'
@@ -266,7 +254,7 @@ if [[ -n ${1:-} ]]; then
     peer="$place/peers/rvi_paged"
     cp "$1/loops/mix.scn" "$place/loop"
 else
-    own_loop > "$place/loop"
+    cp "$top/bench/loops/adding.scn" "$place/loop"
 fi
 apart 4 > "$place/scenario"
 compare 'four threads of one loop, each by itself' '2:1.8 4:3.0' 1 2 4

@@ -37,14 +37,7 @@ scenario() {
     fi
     # x1 = 0x11000; again: x2 = x1, x3 = x1 + 2044; word: x4 = [x2], x5 += x4, [x2] = x5, x2 += 4, to word while
     # x2 < x3; to again
-    cat <<'WORDS'
-thread 0 0 65536
-map 0 16 0 rx
-map 0 17 1 rw
-word 0 0 000110b7 00008113 7fc08193 00012203 004282b3 00512023 00410113 fe3168e3
-word 0 32 fe5ff06f
-word 1 0 00000001 00000002 00000003 00000004 00000005 00000006 00000007 00000008
-WORDS
+    cat "$top/bench/loops/adding.scn"
 }
 
 # The rows and the words as constants.

@@ -11,7 +11,7 @@ source "$top/scripts/usage.sh"
 
 programs=(v_run v_drive v_show)
 about_trying='a minute or two each time'
-about_proving='about 15 minutes on four processors from nothing'
+about_proving='about 40 minutes on four processors from nothing'
 proved_folder="$top/out/proved"
 
 # The statuses of these scripts that are no program's.
