@@ -16,10 +16,10 @@ use Rattle.phys_groups.specs.Memory.{page_at}
 use Rattle.thread_cache.specs.rv32_exec.specs.declared.contexts.Context.{Context}
 use Rattle.board_threads.specs.flat_laws.proofs.Members.{Contains-behind, Contains-cases, Contains-here, Contains-map, contains_nothing}
 use Rattle.flat_rules.specs.flat_state.specs.Events.{flat}
-use Rattle.board_threads.specs.page_views.specs.Views.{all_dated, dated, filled, if_since, is_touched_of, kept_since, next_kept, Dated, View}
+use Rattle.board_threads.specs.page_views.specs.Views.{all_dated, dated, filled, AreKept, Dated, View}
 use Rattle.board_threads.specs.run_journal.specs.declared.entries.Entry.{Entry}
 use Rattle.board_threads.specs.run_journal.specs.Entries.{erase}
-use Rattle.board_threads.specs.quantum.specs.Ahead.{again_with, begun, more_with, unbegun, Ahead}
+use Rattle.board_threads.specs.quantum.specs.Ahead.{begun, more_with, unbegun, Ahead, HasRefilled, HasReordered}
 use Rattle.board_threads.specs.board_core.specs.Core.{Recorded}
 use Rattle.board_threads.specs.board_core.specs.Stamps.{IsSince}
 use Rattle.board_commits.specs.Commits.{HasPage}
@@ -39,66 +39,43 @@ module _ (j : List Entry) (memory : List ℕ) (frame : Frame) (stamp : ℕ) (sin
 
 -- ---- a page that a quantum keeps
 
-pub record IsFound (kept : List (Option Dated)) (frame : Frame) (place : ℕ) (d : Dated) : Type 0 where
-  pub there : Contains kept (Some d)
-  pub of : d.frame ≡ frame
-  pub since : place ≤ d.place
-
-found_next : (kept : List (Option Dated)) (frame : Frame) (place : ℕ) (d : Dated) → if_since frame place (next_kept kept) ≡ Some d → IsFound kept frame place d
-found_next [] frame place d is = absurd (cc)
-found_next (None ∷ kept) frame place d is = absurd (cc)
-found_next (Some e ∷ kept) frame place d is = by ((e.frame.0 == frame.0) && nat_le place e.place) refl is
-  where
-    by : (b : Bool) → ((e.frame.0 == frame.0) && nat_le place e.place) ≡ b → (if b then Some e else None) ≡ Some d → IsFound (Some e ∷ kept) frame place d
-    by false other is = absurd (cc)
-    by true passes is =
-        let same : e ≡ d = cc in
-        let parts = and_parts (e.frame.0 == frame.0) (nat_le place e.place) passes in
-        subst (IsFound (Some e ∷ kept) frame place) same (record {
-          there = Contains-here (Some e) kept;
-          of = ap (λ (n : ℕ). let f : Frame = record { 0 = n } in f) (eqb-true e.frame.0 frame.0 parts.0);
-          since = leb-true place e.place parts.1;
-        })
-
-found_since : (vs : List View) (kept : List (Option Dated)) (frame : Frame) (place : ℕ) (d : Dated) → kept_since vs kept frame place ≡ Some d → IsFound kept frame place d
-found_since vs kept frame place d is = by (is_some (find (is_touched_of frame) vs)) is
-  where
-    by : (b : Bool) → (if b then None else if_since frame place (next_kept kept)) ≡ Some d → IsFound kept frame place d
-    by true is = absurd (cc)
-    by false is = found_next kept frame place d is
-
--- what is kept since the frame's stamp is what the frame has
-module _ (b : Recorded) (vpn : Vpn) (frame : Frame) (flags : Flags) (row : Ident) (old new : Ahead) (stamp : ℕ) (since : IsSince b.journal.entries b.machine.memory frame stamp) where
-  pub has_kept : AreAllAsOf b.journal.entries old → (o : Option Dated) → kept_since old.views old.kept frame stamp ≡ o → is_some o ≡ true → new ≡ again_with vpn frame flags row o old → HasPage b vpn frame flags row old new
-  has_kept kept None is some fill = absurd (cc)
-  has_kept kept (Some d) is some fill =
-      let found = found_since old.views old.kept frame stamp d is in
-      let its = kept (Some d) (Contains-append_right (map dated old.views) old.kept (Some d) found.there) in
-      let of_frame : IsDated b.journal.entries (record { frame = frame; bytes = d.bytes; place = d.place }) = subst (λ (f : Frame). IsDated b.journal.entries (record { frame = f; bytes = d.bytes; place = d.place })) found.of its in
-      let same = still_has b.journal.entries b.machine.memory frame stamp since d.bytes d.place found.since of_frame in
-      record {
-        place = d.place;
-        dated = dated_now b.journal.entries b.machine.memory frame stamp since d.place found.since its.within;
-        views = fill ∙ ap (λ (bytes : List ℕ). more_with (filled old.views vpn frame flags row bytes (Some d.place)) old) same;
-      }
-
-  pub has_copied : (bytes : List ℕ) (place : ℕ) → bytes ≡ page_at b.machine.memory frame → place ≡ length b.journal.entries → new ≡ more_with (filled old.views vpn frame flags row bytes (Some place)) old → HasPage b vpn frame flags row old new
-  has_copied bytes place page end fill =
-      let low = since.within in
-      record {
-        place = place;
-        dated = dated_now b.journal.entries b.machine.memory frame stamp since place (omega arith) (omega arith);
-        views = fill ∙ ap (λ (bytes : List ℕ). more_with (filled old.views vpn frame flags row bytes (Some place)) old) page;
-      }
-
--- ---- with a view more
-
 behind_first : (kept : List (Option Dated)) (o : Option Dated) → Contains (drop 1 kept) o → Contains kept o
 behind_first [] o there = there
 behind_first (k ∷ kept) o there = Contains-behind k kept o there
 
-from_more : (vs : List View) (v : View) (kept : List (Option Dated)) (o : Option Dated) → Contains (all_dated (vs ++ v ∷ []) (drop 1 kept)) o → Contains (all_dated vs kept) o ⊎ (dated v ≡ o)
-from_more vs v kept o there = elim (Contains-append_cases (map dated (vs ++ v ∷ [])) (drop 1 kept) o there) [
+-- what is kept since the frame's stamp is what the frame has
+module _ (b : Recorded) (vpn : Vpn) (frame : Frame) (flags : Flags) (row : Ident) (old new : Ahead) (stamp : ℕ) (since : IsSince b.journal.entries b.machine.memory frame stamp) where
+  pub has_kept : AreAllAsOf b.journal.entries old → HasRefilled vpn frame flags row stamp old new → HasPage b vpn frame flags row old new
+  has_kept kept has =
+      let d = has.d in
+      let its = kept (Some d) (Contains-append_right (map dated old.views) old.kept (Some d) has.was.there) in
+      let of_frame : IsDated b.journal.entries (record { frame = frame; bytes = d.bytes; place = d.place }) = subst (λ (f : Frame). IsDated b.journal.entries (record { frame = f; bytes = d.bytes; place = d.place })) has.was.of its in
+      let same = still_has b.journal.entries b.machine.memory frame stamp since d.bytes d.place has.was.late of_frame in
+      record {
+        place = d.place;
+        dated = dated_now b.journal.entries b.machine.memory frame stamp since d.place has.was.late its.within;
+        views = has.is ∙ ap (λ (bytes : List ℕ). record (more_with (filled old.views vpn frame flags row bytes (Some d.place)) old) { kept = new.kept }) same;
+        kept = has.kept;
+      }
+
+  -- so is what was copied, of a quantum that kept nothing of it
+  pub has_copied : (between : Ahead) → HasReordered old between → (bytes : List ℕ) (place : ℕ) → bytes ≡ page_at b.machine.memory frame → place ≡ length b.journal.entries
+      → new ≡ more_with (filled between.views vpn frame flags row bytes (Some place)) between → HasPage b vpn frame flags row old new
+  has_copied between same bytes place page end fill =
+      let low = since.within in
+      let kept : new.kept ≡ drop 1 between.kept = ap (λ (a : Ahead). a.kept) fill in
+      record {
+        place = place;
+        dated = dated_now b.journal.entries b.machine.memory frame stamp since place (omega arith) (omega arith);
+        views = fill ∙ ap₂ (λ (a : Ahead) (bytes : List ℕ). record (more_with (filled a.views vpn frame flags row bytes (Some place)) a) { kept = drop 1 between.kept }) same.is page
+            ∙ ap (λ (ks : List (Option Dated)). record (more_with (filled old.views vpn frame flags row (page_at b.machine.memory frame) (Some place)) old) { kept = ks }) (sym kept);
+        kept = λ o there. same.kept o (behind_first between.kept o (subst (λ (ks : List (Option Dated)). Contains ks o) kept there));
+      }
+
+-- ---- with a view more
+
+from_more : (vs : List View) (v : View) (kept now : List (Option Dated)) (o : Option Dated) → AreKept kept now → Contains (all_dated (vs ++ v ∷ []) now) o → Contains (all_dated vs kept) o ⊎ (dated v ≡ o)
+from_more vs v kept now o were there = elim (Contains-append_cases (map dated (vs ++ v ∷ [])) now o there) [
   | inl viewed ↦ elim (Contains-append_cases (map dated vs) (dated v ∷ []) o (subst (λ (os : List (Option Dated)). Contains os o) (map-append dated vs (v ∷ [])) viewed)) [
     | inl before ↦ inl (Contains-append_left (map dated vs) kept o before)
     | inr now ↦ elim (Contains-cases (dated v) [] o now) [
@@ -106,13 +83,13 @@ from_more vs v kept o there = elim (Contains-append_cases (map dated (vs ++ v �
       | inr none ↦ absurd (contains_nothing o none)
     ]
   ]
-  | inr behind ↦ inl (Contains-append_right (map dated vs) kept o (behind_first kept o behind))
+  | inr behind ↦ inl (Contains-append_right (map dated vs) kept o (were o behind))
 ]
 
-pub kept_more : (j : List Entry) (a : Ahead) (v : View) → IsAsOf j (dated v) → AreAllAsOf j a → AreAllAsOf j (more_with v a)
-kept_more j a v its kept o there = elim (from_more a.views v a.kept o there) [
+pub kept_more : (j : List Entry) (a : Ahead) (v : View) (now : List (Option Dated)) → IsAsOf j (dated v) → AreKept a.kept now → AreAllAsOf j a → AreAllAsOf j (record (more_with v a) { kept = now })
+kept_more j a v now its were kept o there = elim (from_more a.views v a.kept now o were there) [
   | inl before ↦ kept o before
-  | inr now ↦ subst (IsAsOf j) now its
+  | inr last ↦ subst (IsAsOf j) last its
 ]
 
 -- each view's are among them
@@ -146,10 +123,6 @@ none_kept j (suc n) o there = elim (Contains-cases None (replicate n None) o the
 
 pub kept_unbegun : (j : List Entry) (most : ℕ) → AreAllAsOf j (unbegun most)
 kept_unbegun j most o there = none_kept j most o there
-
-pub not_again : (vpn : Vpn) (frame : Frame) (flags : Flags) (row : Ident) (o : Option Dated) (a : Ahead) → is_some o ≡ false → again_with vpn frame flags row o a ≡ a
-not_again vpn frame flags row None a none = refl
-not_again vpn frame flags row (Some d) a none = absurd (cc)
 
 -- ---- a comparison
 

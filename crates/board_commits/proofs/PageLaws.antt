@@ -48,6 +48,7 @@ module _ (b : Recorded) (sound : IsSound b) (one : IsExactlyOne (contents_of b))
       there = sym at;
       place = has.place;
       views = has.views;
+      kept = has.kept;
     }
 
     abbrev view : View
@@ -61,7 +62,7 @@ module _ (b : Recorded) (sound : IsSound b) (one : IsExactlyOne (contents_of b))
     }
 
     pub all_kept : AreAllAsOf b.journal.entries old → AreAllAsOf b.journal.entries new
-    all_kept kept = subst (AreAllAsOf b.journal.entries) (sym has.views) (kept_more b.journal.entries old view has.dated kept)
+    all_kept kept = subst (AreAllAsOf b.journal.entries) (sym has.views) (kept_more b.journal.entries old view new.kept has.dated has.kept kept)
 
     pub all_of_ticket : AreOfTicket b.journal.entries ticket.thread old → AreOfTicket b.journal.entries ticket.thread new
     all_of_ticket are = record {

@@ -13,7 +13,7 @@ use Rattle.phys_groups.specs.Translation.{row_of}
 use Rattle.flat_rules.specs.flat_state.specs.declared.records.FlatThread.{FlatThread}
 use Rattle.flat_rules.specs.flat_state.specs.WellFormed.{IsWellFormed}
 use Rattle.flat_rules.specs.Readings.{OfThread}
-use Rattle.board_threads.specs.page_views.specs.Views.{filled}
+use Rattle.board_threads.specs.page_views.specs.Views.{filled, AreKept}
 use Rattle.board_threads.specs.quantum.specs.Ahead.{more_with, Ahead}
 use Rattle.board_threads.specs.quantum.specs.LocalRun.{committed, state_after, status_by, touched_views, CouldRun, GoesThrough}
 use Rattle.board_threads.specs.desc_stores.specs.Contents.{residents_of}
@@ -26,14 +26,16 @@ use Rattle.board_threads.specs.board_checks.specs.Identifiers.{thread_as}
 use Rattle.board_threads.specs.declared.tickets.Ticket.{Ticket}
 use Rattle.board_commits.specs.Tickets.{IsDated}
 
--- the quantum has one view more, of the bytes that the frame has, with a place of the journal as of which it has them
+-- The quantum has one view more, of the bytes that the frame has, with a place of the journal as of which it has them. What is kept
+-- now was kept before.
 pub record HasPage (b : Recorded) (vpn : Vpn) (frame : Frame) (flags : Flags) (row : Ident) (old new : Ahead) : Type 0 where
   pub place : ℕ
   pub dated : IsDated b.journal.entries (record { frame = frame; bytes = page_at b.machine.memory frame; place = place })
-  pub views : new ≡ more_with (filled old.views vpn frame flags row (page_at b.machine.memory frame) (Some place)) old
+  pub views : new ≡ record (more_with (filled old.views vpn frame flags row (page_at b.machine.memory frame) (Some place)) old) { kept = new.kept }
+  pub kept : AreKept old.kept new.kept
 
 -- The quantum has one view more, which is a copy of the loaded row of the page in the space of the ticket's thread. It carries a
--- place of the journal.
+-- place of the journal. What is kept now was kept before.
 pub record IsPaged (b : Recorded) (ticket : Ticket) (vpn : Vpn) (old new : Ahead) : Type 0 where
   pub thread : FlatThread
   pub its : thread_as (contents_of b) ticket.thread ≡ Some thread
@@ -42,7 +44,8 @@ pub record IsPaged (b : Recorded) (ticket : Ticket) (vpn : Vpn) (old new : Ahead
   pub row : Row
   pub there : row_of (state_of b.machine).rows thread.space vpn.0 ≡ Some row
   pub place : ℕ
-  pub views : new ≡ more_with (filled old.views vpn row.frame row.flags ident (page_at b.machine.memory row.frame) (Some place)) old
+  pub views : new ≡ record (more_with (filled old.views vpn row.frame row.flags ident (page_at b.machine.memory row.frame) (Some place)) old) { kept = new.kept }
+  pub kept : AreKept old.kept new.kept
 
 -- the thread is loaded with the ticket's identifier, it could have taken the steps as the machine is now, which events can make,
 -- through rows that are loaded, and so many steps are left

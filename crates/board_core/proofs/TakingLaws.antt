@@ -12,6 +12,8 @@ use Rattle.flat_state.specs.State.{FlatState}
 use Rattle.board_ops.specs.page_views.specs.Views.{View}
 use Rattle.cached_machine.specs.shown_state.specs.Shown.{shown}
 use Rattle.cached_machine.specs.Cached.{state_of, Cached}
+use Rattle.board_ops.specs.page_views.specs.declared.part.Part.{Part}
+use Rattle.board_ops.specs.page_views.specs.Parts.{AreAlikeBut}
 use Rattle.board_core.specs.Growth.{with_all_views, with_view, AreInMemory, HoldAlike, IsAsCopiedOrNow, IsPutIn}
 use Rattle.board_core.specs.Stamps.{stamped_at, AreStamped, HaveStamps}
 use Rattle.board_core.proofs.OpeningLaws.{memory_shown}
@@ -105,6 +107,13 @@ held_later vs w memory after alike of within put held v there =
             | inr now ↦ inr (kept ∙ now)
           ]
     ]
+
+-- what the frame holds differs from what the view does at most where this differs from what was copied
+pub alike_now : (v : View) (memory : List ℕ) (part : Part) → AreAlikeBut part v.first v.present → IsAsCopiedOrNow memory v → AreAlikeBut part (page_at memory v.frame) v.present
+alike_now v memory part alike found = elim found [
+  | inl first ↦ subst (λ (bytes : List ℕ). AreAlikeBut part bytes v.present) (sym first) alike
+  | inr now ↦ subst (λ (bytes : List ℕ). AreAlikeBut part bytes v.present) (sym now) (record { before = refl; behind = refl })
+]
 
 -- what is copied into its frame is put in, and so is what stands there already
 pub put_copied : (v : View) (before memory after : List ℕ) (page : List ℕ) → memory ≡ before → HasFrame before v.frame → length page ≡ 4096 → page ≡ v.present → after ≡ with_page memory v.frame page → IsPutIn v before after

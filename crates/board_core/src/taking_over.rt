@@ -95,7 +95,7 @@ fn take_view(
 {
     machine.mark_near(space, view.vpn(), Some(view.row()), view.written());
     if !view.is_as_copied() {
-        machine.copy_in(view.frame(), view.present());
+        machine.copy_part_in(view.frame(), view.changed(), view.present());
         put_stamp(stamps, Some(view.frame()), at);
     }
 }

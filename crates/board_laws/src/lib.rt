@@ -20,6 +20,6 @@ pub use leaving::a_group_that_leaves_is_told;
 pub use loading::{a_load_is_told, the_seal_is_told};
 pub use locking::a_lock_is_told;
 pub use opening::the_first_kernel_stays;
-pub use quantum::{PageView, Paused, Quantum};
+pub use quantum::{PageView, Part, Paused, Quantum};
 pub use running::{a_call_is_told, a_quantum_is_told, steps_are_told};
 pub use telling::{what_is_told_is_so, what_shows_nothing_new_is_told};

@@ -58,11 +58,12 @@ impl Processor for Alone<'_> {
     fn commit(
         &mut self,
         ticket: &Ticket,
-        quantum: &Quantum,
+        quantum: &mut Quantum,
         look: Option<bool>,
     ) -> Result<Committed, NoMemory> {
+        let steps = quantum.steps();
         let committed = commit(self.board, ticket, quantum, look)?;
-        self.brought = brought_by(committed, quantum.steps(), self.brought);
+        self.brought = brought_by(committed, steps, self.brought);
         Ok(committed)
     }
 

@@ -91,7 +91,7 @@ fn look_if(board: &mut Board, want_first: Option<bool>) -> Option<Found>
 pub fn commit_steps(
     board: &mut Board,
     ticket: &Ticket,
-    quantum: &Quantum,
+    quantum: &mut Quantum,
 ) -> Result<Committed, NoMemory>
     requires views { AreOfTicket board.old.journal.entries ticket.now.thread quantum.now }
     ensures committed { IfOk result (HasCommitted ticket.now quantum.now None board.old board.new) }
@@ -102,7 +102,10 @@ pub fn commit_steps(
     // Fewer steps are left than these where they are too many.
     let _steps = quantum.steps();
     match board.commit(ticket, quantum) {
-        Ok(_) => Ok(Committed::Taken(None)),
+        Ok(_) => {
+            quantum.happened(board.journal().len());
+            Ok(Committed::Taken(None))
+        }
         Err(Refused::Over { left }) if left > 0 => Ok(Committed::TooMany(left as u32)),
         Err(refused) => {
             board.leave(ticket);
@@ -118,7 +121,7 @@ pub fn commit_steps(
 pub(crate) fn commit(
     board: &mut Board,
     ticket: &Ticket,
-    quantum: &Quantum,
+    quantum: &mut Quantum,
     want_first: Option<bool>,
 ) -> Result<Committed, NoMemory>
     requires own { ticket.now.cpu ≡ 0 }

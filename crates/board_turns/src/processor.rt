@@ -75,7 +75,7 @@ pub trait Processor: Port {
     fn commit(
         &mut self,
         ticket: &Ticket,
-        quantum: &Quantum,
+        quantum: &mut Quantum,
         look: Option<bool>,
     ) -> Result<Committed, NoMemory>
         requires own { is_so self.old (Found.Out ticket.now) }

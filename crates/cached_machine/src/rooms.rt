@@ -4,7 +4,8 @@ ghost use Rattle.std.specs.Prelude.{◌≡◌, ℕ, ◌+◌, ◌<◌, ◌≤◌,
 ghost use Rattle.cache_ident.specs.declared.idents.Ident.{Ident};
 ghost use Rattle.board_laws.specs.depend_lists.specs.declared.nodes.Node.{Node};
 ghost use Rattle.board_laws.specs.depend_lists.specs.Pairs.{count_of};
-ghost use Rattle.phys_groups.specs.Memory.{with_page, HasFrame};
+ghost use Rattle.phys_groups.specs.Memory.{page_at, with_page, HasFrame};
+ghost use Rattle.board_laws.specs.page_views.specs.Parts.{AreAlikeBut, IsWithinPage};
 ghost use Rattle.board_laws.specs.desc_groups.specs.Moves.{HasPlaces};
 ghost use Rattle.board_laws.specs.desc_stores.specs.Changes.{room_of};
 ghost use Rattle.board_laws.specs.desc_stores.specs.Contents.{residents_of};
@@ -14,7 +15,7 @@ ghost use Rattle.cached_machine.specs.Moved.{OnlyRoom};
 ghost use Rattle.thread_sets.specs.SetsOf.{AreSetsOf};
 
 use crate::machine::CachedMachine;
-use board_laws::Tables;
+use board_laws::{Part, Tables};
 use cache_ident::{Frame, NoMemory};
 use thread_sets::ThreadSets;
 
@@ -87,5 +88,16 @@ impl CachedMachine {
         ensures { self.new ≡ record self.old { memory = with_page self.old.memory frame bytes.now } }
     {
         self.memory.copy_in(frame, bytes);
+    }
+
+    /// The same of 4,096 bytes from which those of the frame differ at most in a part.
+    pub fn copy_part_in(&mut self, frame: Frame, part: Part, bytes: &[u8])
+        requires frame { HasFrame self.old.memory frame }
+        requires page { length bytes.now ≡ 4096 }
+        requires within { IsWithinPage part }
+        requires alike { AreAlikeBut part (page_at self.old.memory frame) bytes.now }
+        ensures { self.new ≡ record self.old { memory = with_page self.old.memory frame bytes.now } }
+    {
+        self.memory.copy_part_in(frame, part.from, part.to, bytes);
     }
 }

@@ -1,54 +1,41 @@
 -- What is kept behind the views.
-use Rattle.std.proofs.Common.{◌≡◌, ℕ, zero, suc, ◌+◌, ◌<◌, ◌==◌, ◌&&◌, Bool, true, false, List, [], ◌∷◌, ◌++◌, map, length, take, drop, set, slice_get, Option, Some, None, refl, ap, ap₂, sym, ◌∙◌, arith, drop-drop, eqb-true, take-append-drop, is_some, ◌-◌, ◌≤◌, length-drop}
-use Rattle.std.specs.Prelude.{if◌then◌else◌, nat_le, replicate}
-use Rattle.std.specs.List.{find}
+use Rattle.std.proofs.Common.{◌≡◌, ℕ, zero, suc, ◌+◌, ◌-◌, ◌<◌, ◌≤◌, List, [], ◌∷◌, ◌++◌, map, length, take, drop, set, slice_get, Contains, Option, Some, None, find, refl, ap, ap₂, sym, ◌∙◌, subst, arith, drop-drop, length-append, length-drop, take-append-drop}
+use Rattle.std.specs.Prelude.{replicate}
+use Rattle.std.specs.List.{swap}
+use Rattle.std.specs.List.Sorted.{IsPermutation}
 use Rattle.std.specs.Option.{option_map}
-use Rattle.std.proofs.lemmas.Bool.{and_parts}
 use Rattle.std.proofs.lemmas.Grind.{replicate_next}
-use Rattle.std.proofs.lemmas.List.{append_assoc, drop_all, drop-set-lt, length_push, map-append, replicate-append-replicate, take-append-le, take_more_set}
-use Rattle.std.proofs.lemmas.Option.{slice_get_within}
-use Rattle.std.proofs.Math.ListN.{length-set}
+use Rattle.std.proofs.lemmas.List.{drop-set-lt, length-take-le, map-append, take-append-le, take_all, take_more_set}
+use Rattle.std.proofs.lemmas.List.Edits.{swapped_from_swap}
+use Rattle.std.proofs.lemmas.List.Sorted.{Contains-permutation, IsPermutation-map, IsPermutation-sym, length_permutation}
+use Rattle.std.proofs.lemmas.Option.{slice_get-get_or}
 use Rattle.std.proofs.Math.Seq.{drop-append_seam}
 use Rattle.cache_ident.specs.declared.idents.Ident.{Ident}
 use Rattle.cache_ident.specs.declared.names.Frame.{Frame}
 use Rattle.cache_ident.specs.declared.names.Vpn.{Vpn}
 use Rattle.phys_groups.specs.declared.rows.Flags.{Flags}
-use Rattle.page_views.specs.Views.{all_dated, dated, filled, if_since, is_touched_of, kept_since, next_kept, nothing_kept, present_in, table_of, with_filled, Dated, Table, View}
-
--- what is kept in slots that were never used
-abbrev pub unused : ℕ → List View → List (Option Dated)
-unused most slots = replicate (most - length slots) None
+use Rattle.page_views.specs.declared.page.Origin.{Origin}
+use Rattle.page_views.specs.Origins.{viewed}
+use Rattle.page_views.specs.Views.{all_dated, as_happened, dated, filled, is_touched_of, nothing_kept, present_in, table_of, with_filled, AreKept, Dated, IsExchanged, IsKeptSince, IsRefilled, IsReordered, IsSlotSince, Table, View}
+use Rattle.page_views.proofs.Indexing.{view_there}
 
 -- what the slots keep, once none of them is a view
-pub all_slots : (most count : ℕ) (slots : List View) → map dated slots ++ unused most slots ≡ all_dated (table_of most count slots).views (table_of most count slots).kept
-all_slots most count slots =
-    ap (λ (ks : List (Option Dated)). ks ++ unused most slots) (sym (ap (map dated) (take-append-drop count slots)) ∙ map-append dated (take count slots) (drop count slots))
-    ∙ append_assoc (map dated (take count slots)) (map dated (drop count slots)) (unused most slots)
+pub all_slots : (most count : ℕ) (slots : List View) → map dated slots ≡ all_dated (table_of most count slots).views (table_of most count slots).kept
+all_slots most count slots = sym (ap (map dated) (take-append-drop count slots)) ∙ map-append dated (take count slots) (drop count slots)
 
-behind_next : (slots : List View) (ks : List (Option Dated)) → 0 < length slots → map dated (drop 1 slots) ++ ks ≡ drop 1 (map dated slots ++ ks)
-behind_next [] ks some = absurd (omega (arith, some))
-behind_next (v ∷ slots) ks some = refl
+-- .. and once the steps of those that are views happened
+pub all_happened : (most count place : ℕ) (slots after : List View) → after ≡ map (as_happened place) (take count slots) ++ drop count slots → map dated after ≡ all_dated (map (as_happened place) (table_of most count slots).views) (table_of most count slots).kept
+all_happened most count place slots after is = ap (map dated) is ∙ map-append dated (map (as_happened place) (take count slots)) (drop count slots)
+
+behind_next : (slots : List View) → map dated (drop 1 slots) ≡ drop 1 (map dated slots)
+behind_next [] = refl
+behind_next (v ∷ slots) = refl
 
 -- with a view more
 pub table_with : (most count : ℕ) (slots : List View) (v : View) → count < length slots → table_of most (count + 1) (set slots count v) ≡ with_filled (table_of most count slots) v
 table_with most count slots v below =
-    let some : 0 < length (drop count slots) = omega (arith, below, length-drop count slots) in
     ap₂ (λ (vs : List View) (ks : List (Option Dated)). let t : Table = record { most = most; views = vs; kept = ks } in t) (take_more_set slots count v below)
-    (ap₂ (λ (ws : List View) (n : ℕ). map dated ws ++ replicate (most - n) None) (drop-set-lt (count + 1) slots count v (omega arith) ∙ sym (drop-drop 1 count slots)) (length-set slots count v)
-    ∙ behind_next (drop count slots) (unused most slots) some)
-
--- a slot more behind those that are all views
-pub table_reaching : (most : ℕ) (slots : List View) (v : View) → v.taken ≡ None → length slots < most → table_of most (length slots) (slots ++ v ∷ []) ≡ table_of most (length slots) slots
-table_reaching most slots v none few =
-    let count = length slots in
-    let longer : length (slots ++ v ∷ []) ≡ count + 1 = length_push slots v in
-    let one : dated v ≡ None = ap (option_map (λ place. record { frame = v.frame; bytes = v.first; place = place })) none in
-    let left : most - count ≡ suc (most - length (slots ++ v ∷ [])) = omega (arith, few, longer) in
-    ap₂ (λ (vs : List View) (ks : List (Option Dated)). let t : Table = record { most = most; views = vs; kept = ks } in t)
-    (take-append-le count slots (v ∷ []) (omega arith))
-    (ap (λ (ws : List View). map dated ws ++ replicate (most - length (slots ++ v ∷ [])) None) (drop-append_seam slots (v ∷ []))
-    ∙ ap (λ (o : Option Dated). o ∷ replicate (most - length (slots ++ v ∷ [])) None) one
-    ∙ sym (ap₂ (λ (ws : List View) (n : ℕ). map dated ws ++ replicate n None) (drop_all count slots (omega arith)) left))
+    (ap (map dated) (drop-set-lt (count + 1) slots count v (omega arith) ∙ sym (drop-drop 1 count slots)) ∙ behind_next (drop count slots))
 
 -- one slot more that keeps nothing
 pub none_kept : (slots : List View) (i : ℕ) (v : View) → i < length slots → v.taken ≡ None → map dated (take i slots) ≡ replicate i None → map dated (take (i + 1) (set slots i v)) ≡ replicate (i + 1) None
@@ -58,106 +45,96 @@ none_kept slots i v below none before =
     ∙ sym (replicate_next i None)
 
 -- where no slot keeps anything, nothing is kept
-pub none_of : (most : ℕ) (slots : List View) → map dated slots ≡ replicate (length slots) None → length slots ≤ most → map dated slots ++ unused most slots ≡ nothing_kept most
-none_of most slots none few =
-    let whole : length slots + (most - length slots) ≡ most = omega (arith, few) in
-    ap (λ (ks : List (Option Dated)). ks ++ unused most slots) none ∙ replicate-append-replicate (length slots) (most - length slots) None
-    ∙ ap (λ (n : ℕ). replicate n None) whole
-
-next_unused : (n : ℕ) → next_kept (replicate n None) ≡ None
-next_unused zero = refl
-next_unused (suc n) = refl
-
--- what is kept behind the views, by the slot there
-abbrev pub dated_at : Option View → Option Dated
-dated_at None = None
-dated_at (Some v) = dated v
-
-pub next_is : (count : ℕ) (slots : List View) (n : ℕ) → next_kept (map dated (drop count slots) ++ replicate n None) ≡ dated_at (slice_get slots count)
-next_is zero [] n = next_unused n
-next_is zero (v ∷ slots) n = refl
-next_is (suc count) [] n = next_unused n
-next_is (suc count) (v ∷ slots) n = next_is count slots n
-
--- without a slot there nothing is
-pub nothing_since : (vs slots : List View) (count n : ℕ) (frame : Frame) (since : ℕ) → slice_get slots count ≡ None
-    → None ≡ option_map (λ (d : Dated). d.place) (kept_since vs (map dated (drop count slots) ++ replicate n None) frame since)
-nothing_since vs slots count n frame since none = by (is_some (find (is_touched_of frame) vs))
-  where
-    by : (b : Bool) → None ≡ option_map (λ (d : Dated). d.place) (if b then None else if_since frame since (next_kept (map dated (drop count slots) ++ replicate n None)))
-    by true = refl
-    by false = ap (λ (o : Option Dated). option_map (λ (d : Dated). d.place) (if_since frame since o)) (sym (next_is count slots n ∙ ap dated_at none))
+pub none_of : (most : ℕ) (slots : List View) → map dated slots ≡ replicate (length slots) None → length slots ≡ most → map dated slots ≡ nothing_kept most
+none_of most slots none all = none ∙ ap (λ (n : ℕ). replicate n None) all
 
 -- ---- a slot that becomes a view again
 
--- the slot behind the views, of which something is kept
-pub record IsKeptThere (vs slots : List View) (n : ℕ) (frame : Frame) (since place : ℕ) : Type 0 where
-  pub slot : View
-  pub rest : List View
-  pub there : slots ≡ slot ∷ rest
-  pub of : slot.frame ≡ frame
-  pub untouched : find (is_touched_of frame) vs ≡ None
-  pub is : kept_since vs (map dated slots ++ replicate n None) frame since ≡ Some (record { frame = frame; bytes = slot.first; place = place })
+-- what a slot keeps is among what the slots from there on keep
+from_there : (n : ℕ) (slots : List View) (v : View) → slice_get slots n ≡ Some v → Contains (map dated (drop n slots)) (dated v)
+from_there n [] v is = absurd (cc)
+from_there zero (w ∷ slots) v is = let same : w ≡ v = cc in subst (λ (x : View). Contains (dated w ∷ map dated slots) (dated x)) same (zero, omega arith, refl)
+from_there (suc n) (w ∷ slots) v is = from_there n slots v is
 
-module _ (frame : Frame) (since place : ℕ) where
-  abbrev pub place_of : Option Dated → Option ℕ
-  place_of o = option_map (λ (d : Dated). d.place) o
+behind_first : (kept : List (Option Dated)) (o : Option Dated) → Contains (drop 1 kept) o → Contains kept o
+behind_first [] o there = there
+behind_first (k ∷ kept) o there = (suc there.0, let lt = there.1 in omega arith, there.2)
 
-  of_frame : (f : Frame) → (f.0 == frame.0) ≡ true → f ≡ frame
-  of_frame f same = ap (λ (n : ℕ). record { 0 = n }) (eqb-true f.0 frame.0 same)
+-- the slot at a place behind the first so many
+get_behind : (n : ℕ) (slots : List View) (i : ℕ) → slice_get (drop n slots) i ≡ slice_get slots (n + i)
+get_behind zero slots i = refl
+get_behind (suc n) [] i = refl
+get_behind (suc n) (v ∷ slots) i = get_behind n slots i
 
-  since_then : (v : View) (o : Option ℕ) → (taken : v.taken ≡ o) → Some place ≡ place_of (if_since frame since (option_map (λ p. record { frame = v.frame; bytes = v.first; place = p }) o))
-      → (v.frame ≡ frame) × (if_since frame since (option_map (λ p. record { frame = v.frame; bytes = v.first; place = p }) o) ≡ Some (record { frame = frame; bytes = v.first; place = place }))
-  since_then v None taken is = absurd (cc)
-  since_then v (Some p) taken is = by ((v.frame.0 == frame.0) && nat_le since p) refl is
-    where
-      by : (c : Bool) → ((v.frame.0 == frame.0) && nat_le since p) ≡ c → Some place ≡ place_of (if c then Some (record { frame = v.frame; bytes = v.first; place = p }) else None)
-          → (v.frame ≡ frame) × (if_since frame since (Some (record { frame = v.frame; bytes = v.first; place = p })) ≡ Some (record { frame = frame; bytes = v.first; place = place }))
-      by false other is = absurd (cc)
-      by true passes is =
-          let of = of_frame v.frame (and_parts (v.frame.0 == frame.0) (nat_le since p) passes).0 in
-          let same : p ≡ place = cc in (
-            of,
-            ap (λ (c : Bool). if c then Some (record { frame = v.frame; bytes = v.first; place = p }) else None) passes
-                ∙ ap₂ (λ (f : Frame) (n : ℕ). Some (record { frame = f; bytes = v.first; place = n })) of same,
-          )
+get_seam : (front after : List View) → slice_get (front ++ after) (length front) ≡ slice_get after 0
+get_seam [] after = refl
+get_seam (v ∷ front) after = get_seam front after
 
-  pub kept_there : (vs slots : List View) (n : ℕ) → Some place ≡ place_of (kept_since vs (map dated slots ++ replicate n None) frame since) → IsKeptThere vs slots n frame since place
-  kept_there vs slots n is = by (find (is_touched_of frame) vs) refl slots is
-    where
-      by : (o : Option View) → find (is_touched_of frame) vs ≡ o → (slots : List View) → Some place ≡ place_of (if is_some o then None else if_since frame since (next_kept (map dated slots ++ replicate n None))) → IsKeptThere vs slots n frame since place
-      by (Some v) found slots is = absurd (cc)
-      by None none [] is =
-          let nothing : Some place ≡ place_of (if_since frame since None) = is ∙ ap (λ (o : Option Dated). place_of (if_since frame since o)) (next_unused n) in
-          absurd (cc)
-      by None none (v ∷ rest) is =
-          let parts = since_then v v.taken refl is in
-          record {
-            slot = v;
-            rest = rest;
-            there = refl;
-            of = parts.0;
-            untouched = none;
-            is = ap (λ (o : Option View). if is_some o then None else if_since frame since (dated v)) none ∙ parts.1;
-          }
+first_swapped : (back after : List View) (i : ℕ) (d : View) → i < length back → after ≡ swap back 0 i → length after ≡ length back → slice_get after 0 ≡ slice_get back i
+first_swapped back after i d within is size =
+    slice_get-get_or after 0 d (omega (arith, within, size)) ∙ ap (λ (v : View). Some v) (swapped_from_swap back after 0 i d (omega (arith, within)) within is).0
+    ∙ sym (slice_get-get_or back i d within)
 
--- the view that it becomes holds what it was copied from
-module _ (vs slots : List View) (n : ℕ) (vpn : Vpn) (frame : Frame) (flags : Flags) (row : Ident) (since place : ℕ) (kept : IsKeptThere vs slots n frame since place) where
-  abbrev pub again : View
-  again = record { vpn = vpn; frame = frame; flags = flags; row = row; first = kept.slot.first; present = kept.slot.first; touched = false; written = false; taken = Some place }
+-- a slot and the first one behind so many change their places
+pub exchanged : (count slot : ℕ) (slots front back after : List View) → count ≤ slot → slot < length slots → front ≡ take count slots → back ≡ drop count slots → after ≡ swap back 0 (slot - count) → IsPermutation back after → IsExchanged count slot slots (front ++ after)
+exchanged count slot slots front back after behind within fronts backs is permuted =
+    let size : length after ≡ length back = length_permutation back after permuted in
+    let front_size : length front ≡ count = ap length fronts ∙ length-take-le count slots (omega (arith, behind, within)) in
+    let back_size : length back ≡ length slots - count = ap length backs ∙ length-drop count slots in
+    let at : slot - count < length back = omega (arith, back_size, behind, within) in
+    let d = (view_there slots slot within).0 in
+    record {
+      size = omega (arith, length-append front after, size, front_size, back_size, behind, within);
+      views = take-append-le count front after (omega (arith, front_size)) ∙ take_all count front (omega (arith, front_size)) ∙ fronts;
+      there = ap (slice_get (front ++ after)) (sym front_size) ∙ get_seam front after ∙ first_swapped back after (slot - count) d at is size
+          ∙ ap (λ (xs : List View). slice_get xs (slot - count)) backs ∙ get_behind count slots (slot - count) ∙ ap (slice_get slots) (omega (arith, behind));
+      others = subst (λ (xs : List View). IsPermutation (drop count slots) xs) (sym (ap (λ (n : ℕ). drop n (front ++ after)) (sym front_size) ∙ drop-append_seam front after)) (subst (λ (xs : List View). IsPermutation xs after) backs permuted);
+    }
 
-  pub again_filled : again ≡ filled vs vpn frame flags row kept.slot.first (Some place)
-  again_filled =
-      ap (λ (o : Option View). let v : View = record { vpn = vpn; frame = frame; flags = flags; row = row; first = kept.slot.first; present = present_in o kept.slot.first; touched = false; written = false; taken = Some place } in v) (sym kept.untouched)
+module _ (count slot : ℕ) (slots mid : List View) (ex : IsExchanged count slot slots mid) where
+  -- what is kept is so still
+  pub still_kept : AreKept (map dated (drop count slots)) (map dated (drop count mid))
+  still_kept o there = Contains-permutation (map dated (drop count mid)) (map dated (drop count slots)) o (IsPermutation-sym (map dated (drop count slots)) (map dated (drop count mid)) (IsPermutation-map dated (drop count slots) (drop count mid) ex.others)) there
 
-pub at_drop : (n : ℕ) (xs : List View) (x : View) (rest : List View) → drop n xs ≡ x ∷ rest → slice_get xs n ≡ Some x
-at_drop n [] x rest is = absurd (ends n is)
-  where
-    ends : (n : ℕ) → drop n [] ≡ x ∷ rest → ⊥
-    ends zero is = cc
-    ends (suc n) is = cc
-at_drop zero (y ∷ xs) x rest is = let same : y ≡ x = cc in ap (λ (z : View). Some z) same
-at_drop (suc n) (y ∷ xs) x rest is = at_drop n xs x rest is
+  pub reordered : (most : ℕ) (written : List View) → written ≡ mid → (t : Table) → table_of most count slots ≡ t → IsReordered t (table_of most count written)
+  reordered most written same t is =
+      subst (λ (u : Table). IsReordered u (table_of most count written)) is
+      (subst (λ (ws : List View). IsReordered (table_of most count slots) (table_of most count ws)) (sym same) (record { views = ex.views; most = refl; kept = still_kept }))
 
-pub below_drop : (n : ℕ) (xs : List View) (x : View) (rest : List View) → drop n xs ≡ x ∷ rest → n < length xs
-below_drop n xs x rest is = slice_get_within xs n x (at_drop n xs x rest is)
+  module _ (vpn : Vpn) (frame : Frame) (flags : Flags) (row : Ident) (since place : ℕ) (at : IsSlotSince slots count slot frame since place) where
+    abbrev origin : Origin
+    origin = record { vpn = vpn; frame = frame; flags = flags; row = row; taken = Some place }
+
+    -- the view that it becomes
+    abbrev pub again : View
+    again = viewed origin at.view.first at.view.first
+
+    pub at_count : slice_get mid count ≡ Some at.view
+    at_count = ex.there ∙ at.there
+
+    abbrev pub its : Dated
+    its = record { frame = frame; bytes = at.view.first; place = place }
+
+    dated_is : dated at.view ≡ Some its
+    dated_is =
+        ap (option_map (λ n. record { frame = at.view.frame; bytes = at.view.first; place = n })) at.taken
+        ∙ ap (λ (f : Frame). let d : Dated = record { frame = f; bytes = at.view.first; place = place } in Some d) at.of
+
+    was : IsKeptSince (map dated (drop count slots)) frame since its
+    was = record {
+      there = subst (Contains (map dated (drop count slots))) dated_is (still_kept (dated at.view) (from_there count mid at.view at_count));
+      of = refl;
+      late = at.late;
+    }
+
+    pub refilled : (most : ℕ) → count < length mid → find (is_touched_of frame) (take count slots) ≡ None → IsRefilled vpn frame flags row since (table_of most count slots) (table_of most (count + 1) (set mid count again))
+    refilled most below untouched =
+        let more : table_of most (count + 1) (set mid count again) ≡ with_filled (table_of most count mid) again = table_with most count mid again below in
+        record {
+          d = its;
+          was = was;
+          views = ap (λ (t : Table). t.views) more ∙ ap₂ (λ (vs : List View) (bytes : List ℕ). vs ++ (record again { present = bytes }) ∷ []) ex.views
+              (ap (λ (o : Option View). present_in o at.view.first) (sym untouched));
+          most = refl;
+          kept = λ o there. still_kept o (behind_first (map dated (drop count mid)) o (subst (λ (ks : List (Option Dated)). Contains ks o) (ap (λ (t : Table). t.kept) more) there));
+        }

@@ -1,4 +1,5 @@
 pub mod Tables
 pub mod Indexing
 pub mod Keeping
+pub mod Parts
 pub mod Spotting

@@ -18,7 +18,7 @@ use Rattle.rv32_exec.specs.declared.spaces.Width.TheVariants.{Byte, Half, Word}
 use Rattle.rv32_exec.specs.Pages.{Page, allows, where_allowed, translation, translates, read_through, number_at, stored_through, stored, touched_at, put_bytes, put_in_frame, mark, mark_page, size_of}
 use Rattle.flat_rules.specs.flat_state.specs.Translation.{wants}
 use Rattle.flat_rules.specs.flat_state.proofs.Finding.{find-passes}
-use Rattle.page_views.specs.Views.{View, page_of, pages_of_views, Copied, copied, copies_of, has_message, is_of_page, can_fill, put_in_view, mark_view, mark_view_of, where_flagged, view_through, table_of, dated, Dated, HaveOneViewAFrame, HaveOneViewAPage, IsReached, IsTable, Table}
+use Rattle.page_views.specs.Views.{View, page_of, pages_of_views, Copied, copied, copies_of, has_message, is_of_page, can_fill, put_in_view, mark_view, mark_view_of, where_flagged, view_through, table_of, dated, Dated, HaveOneViewAFrame, HaveOneViewAPage, IsTable, Table}
 
 pub pages_mapped : (f : View → View) (g : Page → Page) → ((v : View) → page_of (f v) ≡ g (page_of v)) → (vs : List View) → pages_of_views (map f vs) ≡ map g (pages_of_views vs)
 pages_mapped f g same [] = refl
@@ -127,7 +127,7 @@ table_changed f same most count xs ys table became =
     let size : length ys ≡ length xs = ap length became ∙ length-mapped f count xs table.within in
     record {
       bounded = table.bounded;
-      few = omega (arith, size, table.few);
+      all = omega (arith, size, table.all);
       within = omega (arith, size, table.within);
       one_a_page = subst HaveOneViewAPage (sym (ap (take count) became ∙ first_mapped f count xs table.within)) (one_mapped f same (take count xs) table.one_a_page);
     }
@@ -238,11 +238,10 @@ put_there count at value n i xs v new one most within is put =
 -- the table, once its views were changed
 pub table_after : (f : View → View) (most count : ℕ) (xs ys : List View) → count ≤ length xs → ys ≡ map f (take count xs) ++ drop count xs → table_of most count ys ≡ record (table_of most count xs) { views = map f (take count xs) }
 table_after f most count xs ys within became =
-    let size : length ys ≡ length xs = ap length became ∙ length-mapped f count xs within in
     let front : length (map f (take count xs)) ≡ count = omega (arith, length-map f (take count xs), length-take-le count xs within) in
     let behind : drop count ys ≡ drop count xs = ap (drop count) became ∙ ap (λ (n : ℕ). drop n (map f (take count xs) ++ drop count xs)) (sym front) ∙ drop-append_seam (map f (take count xs)) (drop count xs) in
     ap₂ (λ (vs : List View) (ks : List (Option Dated)). let t : Table = record { most = most; views = vs; kept = ks } in t) (ap (take count) became ∙ first_mapped f count xs within)
-    (ap₂ (λ (ws : List View) (n : ℕ). map dated ws ++ replicate (most - n) None) behind size)
+    (ap (map dated) behind)
 
 pub first_true : (a b : Bool) → (a && b) ≡ true → a ≡ true
 first_true true b e = refl
@@ -270,20 +269,13 @@ free_place most count xs vpn table room =
     let taken : length (take count xs) ≡ count = length-take-le count xs table.within in
     omega (arith, ltb-true (length (take count xs)) most (first_true _ _ room), taken)
 
+-- .. and so there is a slot behind them
+pub slot_behind : (most count : ℕ) (slots : List View) (vpn : Vpn) → IsTable most slots count → can_fill most (take count slots) vpn ≡ true → count < length slots
+slot_behind most count slots vpn table room = omega (arith, free_place most count slots vpn table room, table.all)
+
 -- without views the count is 0
 pub cleared_count : (count : ℕ) (slots : List View) → count ≤ length slots → take count slots ≡ [] → count ≡ 0
 cleared_count count slots within none = omega (arith, length-take-le count slots within, ap length none)
-
--- a table is still one with a slot behind its views
-pub table_reached : (most count : ℕ) (old new : List View) → IsReached most count old new → IsTable most old count → IsTable most new count
-table_reached most count old new reached table =
-    let same : take count new ≡ take count old = ap (λ (t : Table). t.views) reached.same in
-    record {
-      bounded = table.bounded;
-      few = reached.few;
-      within = omega (arith, reached.behind);
-      one_a_page = subst HaveOneViewAPage (sym same) table.one_a_page;
-    }
 
 pub table_filled : (most n count : ℕ) (xs ys : List View) (v : View) → n ≡ length xs → count < length xs → IsTable most xs count → can_fill most (take count xs) v.vpn ≡ true → ys ≡ set xs count v
     → IsTable most (take n (ys ++ drop (length ys) xs)) (count + 1)
@@ -291,7 +283,7 @@ table_filled most n count xs ys v whole below table room became =
     let size : length ys ≡ length xs = ap length became ∙ length-set xs count v in
     rw (written_over n xs ys whole size) (record {
       bounded = table.bounded;
-      few = omega (arith, size, table.few);
+      all = omega (arith, size, table.all);
       within = omega (arith, size, below);
       one_a_page = subst HaveOneViewAPage (sym (ap (take (count + 1)) became ∙ take_more_set xs count v below))
           (one_filled most (take count xs) v room table.one_a_page);

@@ -1,5 +1,6 @@
 pub mod Views
 pub mod Origins
 pub mod Lines
+pub mod Parts
 pub mod Index
 pub mod Spots

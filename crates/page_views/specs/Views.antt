@@ -1,7 +1,8 @@
 -- Copied pages: what one is, and the pages that a step sees in them.
-use Rattle.std.specs.Prelude.{◌≡◌, ◌≢◌, ℕ, ◌-◌, ◌/◌, ◌<◌, ◌≤◌, Bool, true, false, ◌&&◌, ◌||◌, ◌==◌, if◌then◌else◌, List, [], ◌∷◌, ◌++◌, map, find, length, take, drop, replicate, Option, Some, None, is_some, nat_le, nat_lt, not}
+use Rattle.std.specs.Prelude.{◌≡◌, ◌≢◌, ℕ, ◌/◌, ◌<◌, ◌≤◌, Bool, true, false, ◌&&◌, ◌||◌, ◌==◌, if◌then◌else◌, List, [], ◌∷◌, ◌++◌, map, find, length, take, drop, replicate, slice_get, Contains, Option, Some, None, is_some, nat_lt, not}
 use Rattle.std.specs.Option.{option_map}
 use Rattle.std.specs.List.{AllPairs}
+use Rattle.std.specs.List.Sorted.{IsPermutation}
 use Rattle.cache_ident.specs.declared.idents.Ident.{Ident}
 use Rattle.cache_ident.specs.declared.names.Vpn.{Vpn}
 use Rattle.cache_ident.specs.declared.names.Frame.{Frame}
@@ -104,16 +105,16 @@ pub record Dated : Type 0 where
 abbrev pub dated : View → Option Dated
 dated v = option_map (λ place. record { frame = v.frame; bytes = v.first; place = place }) v.taken
 
--- How many views there may be, the views, and for each place behind them what is kept there of an earlier view: the bytes that
--- were copied, where they carry a place.
+-- How many views there may be, the views, and what is kept of earlier ones in the slots behind them: the bytes that were copied,
+-- where they carry a place.
 pub record Table : Type 0 where
   pub most : ℕ
   pub views : List View
   pub kept : List (Option Dated)
 
--- Of the slots that were ever used, so many are views. Up to the most that there may be, the others keep nothing.
+-- the first so many of the slots are views, and the others keep what they can
 abbrev pub table_of : ℕ → ℕ → List View → Table
-table_of most count slots = record { most = most; views = take count slots; kept = map dated (drop count slots) ++ replicate (most - length slots) None }
+table_of most count slots = record { most = most; views = take count slots; kept = map dated (drop count slots) }
 
 -- what no access changes of a table
 abbrev pub rest_of : Table → ℕ × List Copied × List (Option Dated)
@@ -131,24 +132,33 @@ nothing_kept most = replicate most None
 abbrev pub with_filled : Table → View → Table
 with_filled t v = record t { views = t.views ++ v ∷ []; kept = drop 1 t.kept }
 
-abbrev pub next_kept : List (Option Dated) → Option Dated
-next_kept [] = None
-next_kept (o ∷ os) = o
+-- what is kept afterwards was kept before
+abbrev pub AreKept : List (Option Dated) → List (Option Dated) → Type 0
+AreKept before after = (o : Option Dated) → Contains after o → Contains before o
 
--- the bytes, where they are those of the frame as of the place or a later one
-abbrev pub if_since : Frame → ℕ → Option Dated → Option Dated
-if_since frame place None = None
-if_since frame place (Some d) = if (d.frame.0 == frame.0) && nat_le place d.place then Some d else None
+-- these bytes of the frame are kept, as of the place or a later one
+pub record IsKeptSince (kept : List (Option Dated)) (frame : Frame) (since : ℕ) (d : Dated) : Type 0 where
+  pub there : Contains kept (Some d)
+  pub of : d.frame ≡ frame
+  pub late : since ≤ d.place
 
--- what is kept of the frame in the place behind the views, as of that place of a journal or a later one. Nothing, where a view
--- of the frame was touched
-abbrev pub kept_since : List View → List (Option Dated) → Frame → ℕ → Option Dated
-kept_since vs kept frame place = if is_some (find (is_touched_of frame) vs) then None else if_since frame place (next_kept kept)
+-- with a view more, of bytes that were kept of its frame as of the place or a later one
+pub record IsRefilled (vpn : Vpn) (frame : Frame) (flags : Flags) (row : Ident) (since : ℕ) (before after : Table) : Type 0 where
+  pub d : Dated
+  pub was : IsKeptSince before.kept frame since d
+  pub views : after.views ≡ before.views ++ filled before.views vpn frame flags row d.bytes (Some d.place) ∷ []
+  pub most : after.most ≡ before.most
+  pub kept : AreKept before.kept after.kept
 
--- with a view more of what is kept, if it is
-abbrev pub refilled : Table → Vpn → Frame → Flags → Ident → Option Dated → Table
-refilled t vpn frame flags row None = t
-refilled t vpn frame flags row (Some d) = with_filled t (filled t.views vpn frame flags row d.bytes (Some d.place))
+-- nothing changed but the order of what is kept
+pub record IsReordered (before after : Table) : Type 0 where
+  pub views : after.views ≡ before.views
+  pub most : after.most ≡ before.most
+  pub kept : AreKept before.kept after.kept
+
+-- a view once its steps happened at a place of a journal: if it was touched, its frame has what it holds, as of that place
+abbrev pub as_happened : ℕ → View → View
+as_happened place v = if v.touched then record v { first = v.present; taken = Some place } else v
 
 -- no page has two views
 abbrev pub HaveOneViewAPage : List View → Type 0
@@ -176,18 +186,28 @@ has_message (v ∷ vs) = v.flags.m || has_message vs
 abbrev pub HaveOneViewAFrame : List View → Type 0
 HaveOneViewAFrame vs = AllPairs (λ a b. a.frame.0 ≢ b.frame.0) vs
 
--- up to the most slots, of which the first so many are views
+-- as many slots as there may be views, of which the first so many are these
 pub record IsTable (most : ℕ) (slots : List View) (count : ℕ) : Type 0 where
   pub bounded : most ≤ 64
-  pub few : length slots ≤ most
+  pub all : length slots ≡ most
   pub within : count ≤ length slots
   pub one_a_page : HaveOneViewAPage (take count slots)
 
--- there is a slot behind the first so many, and nothing else is new
-pub record IsReached (most count : ℕ) (old new : List View) : Type 0 where
-  pub behind : count < length new
-  pub few : length new ≤ most
-  pub same : table_of most count new ≡ table_of most count old
+-- a slot changed its place with the one behind the first so many
+pub record IsExchanged (count slot : ℕ) (old new : List View) : Type 0 where
+  pub size : length new ≡ length old
+  pub views : take count new ≡ take count old
+  pub there : slice_get new count ≡ slice_get old slot
+  pub others : IsPermutation (drop count old) (drop count new)
+
+-- a slot behind the first so many is of the frame, and keeps its bytes as of this place, which isn't before the other
+pub record IsSlotSince (slots : List View) (count slot : ℕ) (frame : Frame) (since place : ℕ) : Type 0 where
+  pub behind : count ≤ slot
+  pub view : View
+  pub there : slice_get slots slot ≡ Some view
+  pub of : view.frame ≡ frame
+  pub taken : view.taken ≡ Some place
+  pub late : since ≤ place
 
 abbrev pub where_flagged : Access → Option View → Option View
 where_flagged access None = None

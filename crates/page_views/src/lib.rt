@@ -4,9 +4,12 @@
 mod index;
 mod lines;
 mod page;
+mod part;
+mod slots;
 mod space;
 mod spots;
 mod table;
 
 pub use page::PageView;
+pub use part::Part;
 pub use table::{MOST_VIEWS, PageViews};

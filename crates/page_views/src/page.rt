@@ -1,15 +1,18 @@
 //! One copied page.
 
-ghost use Rattle.std.specs.Prelude.{◌≡◌, ◌+◌, ◌<◌, if◌then◌else◌, length, true};
+ghost use Rattle.std.specs.Prelude.{◌≡◌, ◌+◌, ◌<◌, length, None, Some, IfOk};
 ghost use Rattle.std.specs.Bool.{OnTrue};
 ghost use Rattle.rv32_exec.specs.Pages.{number_at, put_bytes, size_of};
 ghost use Rattle.std.specs.Option.{option_copied};
 ghost use Rattle.page_views.specs.Views.{mark_view, present_in};
 ghost use Rattle.page_views.specs.Origins.{viewed};
+ghost use Rattle.page_views.specs.Parts.{AreAlikeBut, IsWithinPage};
 
-use cache_ident::{Frame, Ident, Vpn};
+use crate::part::{Part, copy_part};
+use cache_ident::{Frame, Ident, NoMemory, Vpn};
 use phys_groups::{Flags, PAGE_LENGTH};
 use rv32_exec::{Access, Width};
+use std::alloc::Global;
 use std::marker::Model;
 
 /// Where a copied page comes from: its number, its frame, and the flags and the identifier of the row that it was copied
@@ -29,29 +32,31 @@ pub(crate) struct Origin {
 /// no memory.
 #[derive(Drop)]
 pub struct PageView {
-    // They come first, so that a word is aligned.
-    present: [u8; PAGE_LENGTH],
-    first: [u8; PAGE_LENGTH],
+    // They stand beside it, so that a view changes its place without them.
+    present: Box<[u8; PAGE_LENGTH]>,
+    first: Box<[u8; PAGE_LENGTH]>,
+    // Where the present contents may differ from the first ones.
+    changed: Part,
     origin: Origin,
     touched: bool,
     written: bool,
-    // Whether the first contents are kept apart. Where they aren't, the present ones are still these.
-    apart: bool,
 }
 
 impl Model for PageView {
-    ghost use Rattle.std.specs.Prelude.{if◌then◌else◌};
+    ghost use Rattle.page_views.specs.Parts.{AreAlikeBut, IsWithinPage};
     ghost use Rattle.page_views.specs.Views.{View};
 
     ghost Value = { View };
 
-    ghost view = { λ v. record { vpn = v.origin.vpn; frame = v.origin.frame; flags = v.origin.flags; row = v.origin.row; first = if v.apart then v.first else v.present; present = v.present; touched = v.touched; written = v.written; taken = v.origin.taken } };
+    ghost view = { λ v. record { vpn = v.origin.vpn; frame = v.origin.frame; flags = v.origin.flags; row = v.origin.row; first = v.first.value; present = v.present.value; touched = v.touched; written = v.written; taken = v.origin.taken } };
+
+    ghost invariant = { λ v. AreAlikeBut v.changed v.first.value v.present.value × IsWithinPage v.changed };
 }
 
 impl PageView {
     // A view of zeros, which nothing was copied to yet.
-    pub(crate) fn empty() -> PageView
-        ensures { result.taken ≡ None }
+    pub(crate) fn empty(alloc: Global) -> Result<PageView, NoMemory>
+        ensures { IfOk result (λ view. view.taken ≡ None) }
     {
         let origin = Origin {
             vpn: Vpn(0),
@@ -60,14 +65,14 @@ impl PageView {
             row: Ident::default(),
             taken: None,
         };
-        PageView {
-            present: [0; PAGE_LENGTH],
-            first: [0; PAGE_LENGTH],
+        Ok(PageView {
+            present: Box::new(alloc, [0; PAGE_LENGTH])?,
+            first: Box::new(alloc, [0; PAGE_LENGTH])?,
+            changed: Part::none(),
             origin,
             touched: false,
             written: false,
-            apart: false,
-        }
+        })
     }
 
     /// The page.
@@ -106,11 +111,7 @@ impl PageView {
         ensures bytes { result.now ≡ self.now.first }
         ensures whole_page { length result.now ≡ 4096 }
     {
-        if self.apart {
-            &self.first
-        } else {
-            &self.present
-        }
+        &*self.first
     }
 
     /// The place of a journal as of which the frame had the bytes that were copied, where they carry one.
@@ -126,7 +127,7 @@ impl PageView {
     pub fn is_as_copied(&self) -> bool
         ensures { OnTrue result (self.now.present ≡ self.now.first) }
     {
-        !self.apart
+        self.changed.is_none()
     }
 
     /// The bytes as they are now.
@@ -134,7 +135,7 @@ impl PageView {
         ensures bytes { result.now ≡ self.now.present }
         ensures whole_page { length result.now ≡ 4096 }
     {
-        &self.present
+        &*self.present
     }
 
     /// Whether an access went through it.
@@ -173,24 +174,8 @@ impl PageView {
         requires { at + size_of width < 4097 }
         ensures { self.new ≡ record self.old { present = put_bytes (size_of width) self.old.present at value } }
     {
-        part(&mut self.apart, &mut self.first, &self.present);
-        let bytes = &mut self.present;
-        // All bytes of a number are written in one place, so that they are one move.
-        match width {
-            Width::Byte => {
-                bytes[at] = (value & 0xff) as u8;
-            }
-            Width::Half => {
-                bytes[at] = (value & 0xff) as u8;
-                bytes[at + 1] = ((value >> 8) & 0xff) as u8;
-            }
-            Width::Word => {
-                bytes[at] = (value & 0xff) as u8;
-                bytes[at + 1] = ((value >> 8) & 0xff) as u8;
-                bytes[at + 2] = ((value >> 16) & 0xff) as u8;
-                bytes[at + 3] = ((value >> 24) & 0xff) as u8;
-            }
-        }
+        self.changed.reach(at, at + width.size() as usize);
+        put_number(&mut self.present, at, width, value);
     }
 
     // Leaves the mark of an access.
@@ -210,15 +195,15 @@ impl PageView {
         ensures { self.new ≡ viewed origin bytes.now (present_in (option_copied touched.entry) bytes.now) }
     {
         self.renew(origin);
+        self.first.copy_from_slice(bytes);
         match touched {
             Some(view) => {
-                self.first.copy_from_slice(bytes);
-                self.present.copy_from_slice(&view.present);
-                self.apart = true;
+                self.present.copy_from_slice(&*view.present);
+                self.changed = Part::all();
             }
             None => {
                 self.present.copy_from_slice(bytes);
-                self.apart = false;
+                self.changed = Part::none();
             }
         }
     }
@@ -227,11 +212,27 @@ impl PageView {
     pub(crate) fn recall(&mut self, origin: Origin)
         ensures { self.new ≡ viewed origin self.old.first self.old.first }
     {
-        if self.apart {
-            self.present.copy_from_slice(&self.first);
-            self.apart = false;
-        }
+        copy_part(&mut self.present, &self.first, self.changed);
+        self.changed = Part::none();
         self.renew(origin);
+    }
+
+    // What it holds now is what it was copied from, as of a place of a journal.
+    pub(crate) fn happen(&mut self, place: u64)
+        ensures { self.new ≡ record self.old { first = self.old.present; taken = Some place } }
+    {
+        copy_part(&mut self.first, &self.present, self.changed);
+        self.changed = Part::none();
+        self.origin.taken = Some(place);
+    }
+
+    /// Where the present bytes may differ from those that were copied.
+    #[inline]
+    pub fn changed(&self) -> Part
+        ensures alike { AreAlikeBut result self.now.first self.now.present }
+        ensures within { IsWithinPage result }
+    {
+        self.changed
     }
 
     // Makes it an untouched view of a page, with the contents that it has.
@@ -251,23 +252,25 @@ impl PageView {
     }
 }
 
-// Keeps the first contents apart from now on.
+// Puts the low bytes of a number from a place on. They are written in one place, so that they are one move.
 #[inline]
-fn part(apart: &mut bool, first: &mut [u8; PAGE_LENGTH], present: &[u8; PAGE_LENGTH])
-    ensures apart { apart.new ≡ true }
-    ensures first { first.new ≡ (if apart.old then first.old else present.now) }
+fn put_number(bytes: &mut [u8; PAGE_LENGTH], at: usize, width: Width, value: u32)
+    requires { at + size_of width < 4097 }
+    ensures { bytes.new ≡ put_bytes (size_of width) bytes.old at value }
 {
-    if !*apart {
-        keep(first, present);
-        *apart = true;
+    match width {
+        Width::Byte => {
+            bytes[at] = (value & 0xff) as u8;
+        }
+        Width::Half => {
+            bytes[at] = (value & 0xff) as u8;
+            bytes[at + 1] = ((value >> 8) & 0xff) as u8;
+        }
+        Width::Word => {
+            bytes[at] = (value & 0xff) as u8;
+            bytes[at + 1] = ((value >> 8) & 0xff) as u8;
+            bytes[at + 2] = ((value >> 16) & 0xff) as u8;
+            bytes[at + 3] = ((value >> 24) & 0xff) as u8;
+        }
     }
-}
-
-// It stays a call, so that a store is short.
-#[cold]
-#[inline(never)]
-fn keep(first: &mut [u8; PAGE_LENGTH], present: &[u8; PAGE_LENGTH])
-    ensures { first.new ≡ present.now }
-{
-    first.copy_from_slice(present);
 }

@@ -1,16 +1,18 @@
 //! Copied pages.
 
-ghost use Rattle.std.specs.Prelude.{◌≡◌, ◌+◌, ◌/◌, ◌<◌, ◌≤◌, [], ◌++◌, length, map, find, take, drop, replicate, slice_get, slice_set, vec_capacity, Some, None, is_some, IfOk, IfSome, IsTrue};
+ghost use Rattle.std.specs.Prelude.{◌≡◌, ◌+◌, ◌/◌, ◌<◌, ◌≤◌, [], ◌++◌, length, map, find, take, drop, replicate, slice_get, slice_set, Some, None, is_some, IfOk, IfSome, IsTrue};
+ghost use Rattle.std.specs.Bool.{OnFalse, OnTrue};
 ghost use Rattle.std.specs.List.{position};
-ghost use Rattle.std.specs.Option.{option_copied, option_map};
+ghost use Rattle.std.specs.Option.{option_copied};
 ghost use Rattle.rv32_exec.specs.Pages.{size_of};
 ghost use Rattle.page_views.specs.Lines.{seen_at};
 ghost use Rattle.page_views.specs.Origins.{viewed, viewed_beside};
 ghost use Rattle.page_views.specs.Spots.{noted_if};
-ghost use Rattle.page_views.specs.Views.{all_dated, can_fill as can_fill_def, dated, filled, has_message as has_message_def, if_since, is_of_frame, is_of_page, is_touched_of, kept_since as kept_since_def, mark_view_of, nothing_kept, put_in_view, refilled, view_through, where_flagged, with_filled, HaveOneViewAPage, IsReached, View};
+ghost use Rattle.page_views.specs.Views.{all_dated, as_happened, can_fill as can_fill_def, dated, filled, has_message as has_message_def, is_of_frame, is_of_page, is_touched_of, mark_view_of, nothing_kept, put_in_view, view_through, where_flagged, with_filled, HaveOneViewAPage, IsExchanged, IsRefilled, IsReordered, IsSlotSince, View};
 
 use crate::index::Index;
 use crate::page::{Origin, PageView};
+use crate::slots::LastSlots;
 use crate::spots::Marked;
 use cache_ident::{Frame, Ident, NoMemory, Vpn};
 use flat_rules::wants;
@@ -31,18 +33,21 @@ pub const MOST_VIEWS: usize = 64;
 /// number modulo 128: then each view may be looked at. So it is at a store once two views are of one frame.
 #[derive(Drop)]
 pub struct PageViews {
-    // The slots that were ever used, of which the first ones are views. The others keep what they were copied from. There is room for
-    // the most that there may be, and a slot is written when it is first used.
+    // As many slots as there may be views, of which the first ones are views. The others keep what they were copied from.
     views: Vec<PageView>,
     most: usize,
     index: Index,
     // Views that are found without a search, and are marked already.
     marked: Marked,
+    // Where a page may be found that is kept.
+    slots: LastSlots,
+    // How often a slot was given up that may have kept a page.
+    given_up: usize,
     pub(crate) decoded: DecodedWords,
 }
 
 impl Model for PageViews {
-    ghost use Rattle.std.specs.Prelude.{◌≤◌, take, vec_capacity};
+    ghost use Rattle.std.specs.Prelude.{take};
     ghost use Rattle.page_views.specs.Views.{table_of, IsTable, Table};
     ghost use Rattle.page_views.specs.Index.{IsIndex};
     ghost use Rattle.page_views.specs.Spots.{AreAllMarkedAt};
@@ -51,19 +56,21 @@ impl Model for PageViews {
 
     ghost view = { λ table. table_of table.most table.index.count table.views.items };
 
-    ghost invariant = { λ table. IsTable table.most table.views.items table.index.count × IsIndex (take table.index.count table.views.items) table.index × (table.most ≤ vec_capacity table.views) × AreAllMarkedAt (take table.index.count table.views.items) table.marked };
+    ghost invariant = { λ table. IsTable table.most table.views.items table.index.count × IsIndex (take table.index.count table.views.items) table.index × AreAllMarkedAt (take table.index.count table.views.items) table.marked };
 }
 
 impl PageViews {
     /// No view, with room for so many, and nothing kept. The one call that takes memory: some 8 KiB for each of them and 32 KiB
-    /// for words. None of it is written before it is used.
+    /// for words.
     pub fn new(alloc: Global, most: usize) -> Result<PageViews, NoMemory>
         requires { most ≤ MOST_VIEWS }
         ensures { IfOk result (λ table. table ≡ record { most = most; views = []; kept = nothing_kept most }) }
     {
         Ok(PageViews {
-            views: Vec::with_capacity(alloc, most)?,
+            views: empty_slots(alloc, most)?,
             most,
+            slots: LastSlots::none(),
+            given_up: 0,
             index: Index::none(),
             marked: Marked::none(),
             decoded: DecodedWords::new(alloc)?,
@@ -159,21 +166,27 @@ impl PageViews {
         ensures { self.new ≡ with_filled self.old (viewed_beside self.old.views origin bytes.now) }
     {
         let shared = self.has_frame(origin.frame);
-        reach(&mut self.views, self.index.count, self.most);
+        self.slots.note(origin.vpn, self.index.count);
         fill_at(&mut self.views, self.index.count, origin, bytes, shared);
         self.index.add(&origin, shared);
     }
 
-    /// Adds an untouched view of a page, where its place keeps the bytes of the frame as of the place `since` of a journal, or
-    /// a later one, and no view of the frame was touched; and answers whether it did. Nothing is copied, unless a store went to
-    /// what is kept.
+    /// Adds an untouched view of a page, where its page is found among what is kept, with the bytes of the frame as of the place `since`
+    /// of a journal, or a later one; and answers whether it did. Not found is a page once a view of the frame was touched. Only what
+    /// was stored to what is kept is copied.
     pub fn refill(&mut self, vpn: Vpn, frame: Frame, flags: Flags, row: Ident, since: u64) -> bool
         requires room { IsTrue (can_fill_def self.old.most self.old.views vpn) }
-        ensures answer { result ≡ is_some (kept_since_def self.old.views self.old.kept frame since) }
-        ensures table { self.new ≡ refilled self.old vpn frame flags row (kept_since_def self.old.views self.old.kept frame since) }
+        ensures refilled { OnTrue result (IsRefilled vpn frame flags row since self.old self.new) }
+        ensures not { OnFalse result (IsReordered self.old self.new) }
     {
         let shared = self.has_frame(frame);
-        let Some(place) = self.kept_since(frame, since, shared) else {
+        if touched_of(self.as_slice(), frame, shared).is_some() {
+            return false;
+        }
+        let count = self.index.count;
+        let slot = self.slots.slot(vpn);
+        let Some(place) = kept_in(&self.views, count, slot, frame, since) else {
+            self.make_way();
             return false;
         };
         let origin = Origin {
@@ -183,25 +196,41 @@ impl PageViews {
             row,
             taken: Some(place),
         };
-        recall_at(&mut self.views, self.index.count, origin);
+        exchange(&mut self.views, &mut self.slots, count, slot);
+        recall_at(&mut self.views, count, origin);
         self.index.add(&origin, shared);
         true
     }
 
-    // The place of what is kept of a frame behind the views, where it isn't before `since` and no view of the frame was touched.
-    // `shared` says whether a view is of it.
-    fn kept_since(&self, frame: Frame, since: u64, shared: bool) -> Option<u64>
-        requires shared { shared ≡ is_some (find (is_of_frame frame) self.now.views) }
-        requires room { length self.now.views < self.now.most }
-        ensures { result ≡ option_map (λ d. d.place) (kept_since_def self.now.views self.now.kept frame since) }
+    // Brings another slot behind the views, whose bytes are given up next. It isn't always the one that was a view the longest ago: of
+    // pages that are gone over again and again, and are one more than the slots, that would be the next one.
+    fn make_way(&mut self)
+        requires { length self.old.views < self.old.most }
+        ensures { IsReordered self.old self.new }
     {
-        if touched_of(self.as_slice(), frame, shared).is_some() {
-            return None;
+        let count = self.index.count;
+        self.given_up = self.given_up.wrapping_add(1);
+        let slot = count + self.given_up % (self.views.len() - count);
+        exchange(&mut self.views, &mut self.slots, count, slot);
+    }
+
+    /// Gives up every view, once the steps that went through them happened at a place of a journal: what was touched is kept as it is
+    /// now, as of this place, and else as it was copied, where it carries a place.
+    pub fn happened(&mut self, place: u64)
+        ensures { self.new ≡ record self.old { views = []; kept = all_dated (map (as_happened place) self.old.views) self.old.kept } }
+    {
+        happen_each(&mut self.views, self.index.count, place);
+        self.index = Index::none();
+        self.marked = Marked::none();
+    }
+
+    /// The identifier of the row that a page was copied through last, as far as it is known. Any may be answered, and whoever takes it
+    /// looks which row it is.
+    pub fn near(&self, vpn: Vpn) -> Option<Ident> {
+        match self.views.get(self.slots.slot(vpn)) {
+            Some(view) if view.vpn() == vpn => Some(view.row()),
+            _ => None,
         }
-        let Some(slot) = self.views.get(self.index.count) else {
-            return None;
-        };
-        place_since(slot, frame, since)
     }
 
     /// The view that an access goes through: that of the page of `va`, where its flags let the access through.
@@ -335,18 +364,16 @@ fn find_of(views: &[PageView], frame: Frame) -> Option<&PageView>
     views.iter().find(|view| view.frame() == frame)
 }
 
-// Writes the slot behind the first `count`, where it was never used.
-fn reach(views: &mut Vec<PageView>, count: usize, most: usize)
-    requires within { count ≤ length views.old.items }
-    requires few { count < most }
-    requires most { length views.old.items ≤ most }
-    requires room { most ≤ vec_capacity views.old }
-    ensures reached { IsReached most count views.old.items views.new.items }
-    ensures capacity { vec_capacity views.new ≡ vec_capacity views.old }
+// So many slots that keep nothing.
+fn empty_slots(alloc: Global, most: usize) -> Result<Vec<PageView>, NoMemory>
+    requires { most ≤ MOST_VIEWS }
+    ensures { IfOk result (λ slots. map dated slots.items ≡ replicate most None) }
 {
-    if count == views.len() {
-        views.push_reserved(PageView::empty());
+    let mut slots = Vec::with_capacity(alloc, most)?;
+    for _i in 0..most {
+        slots.push(PageView::empty(alloc)?)?;
     }
+    Ok(slots)
 }
 
 // Copies a page into the view behind the first `count`. `shared` says whether one of these is of its frame.
@@ -361,6 +388,34 @@ fn fill_at(views: &mut [PageView], count: usize, origin: Origin, bytes: &[u8], s
     free[0].copy(origin, bytes, touched);
 }
 
+// Exchanges a slot with the one behind the first `count`.
+fn exchange(views: &mut [PageView], slots: &mut LastSlots, count: usize, slot: usize)
+    requires behind { count ≤ slot }
+    requires within { slot < length views.old }
+    ensures { IsExchanged count slot views.old views.new }
+{
+    slots.note(views[count].vpn(), slot);
+    slots.note(views[slot].vpn(), count);
+    let (_, behind) = views.split_at_mut(count);
+    behind.swap(0, slot - count);
+}
+
+// The place as of which a slot behind the first `count` has a frame's bytes, where it isn't before `since`.
+fn kept_in(
+    views: &[PageView],
+    count: usize,
+    slot: usize,
+    frame: Frame,
+    since: u64,
+) -> Option<u64>
+    ensures { IfSome result (IsSlotSince views.now count slot frame since) }
+{
+    if slot < count || views.len() <= slot {
+        return None;
+    }
+    place_since(&views[slot], frame, since)
+}
+
 // Makes a view of what a slot was copied from.
 fn recall_at(views: &mut [PageView], at: usize, origin: Origin)
     requires { at < length views.old }
@@ -371,11 +426,29 @@ fn recall_at(views: &mut [PageView], at: usize, origin: Origin)
 
 // The place as of which a slot has a frame's bytes, where it isn't before `since`.
 fn place_since(view: &PageView, frame: Frame, since: u64) -> Option<u64>
-    ensures { result ≡ option_map (λ d. d.place) (if_since frame since (dated view.now)) }
+    ensures { IfSome result (λ place. (view.now.frame ≡ frame) × (view.now.taken ≡ Some place) × (since ≤ place)) }
 {
     match view.taken() {
         Some(place) if view.frame() == frame && since <= place => Some(place),
         _ => None,
+    }
+}
+
+// Of the first `count` each touched view is from now on copied from what it holds, as of a place.
+fn happen_each(views: &mut [PageView], count: usize, place: u64)
+    requires { count ≤ length views.old }
+    ensures { views.new ≡ map (as_happened place) (take count views.old) ++ drop count views.old }
+{
+    for i in 0..count {
+        happen_if(&mut views[i], place);
+    }
+}
+
+fn happen_if(view: &mut PageView, place: u64)
+    ensures { view.new ≡ as_happened place view.old }
+{
+    if view.touched() {
+        view.happen(place);
     }
 }
 

@@ -1,6 +1,6 @@
 //! Physical memory.
 
-ghost use Rattle.std.specs.Prelude.{◌≡◌, ◌≢◌, ℕ, [], ◌+◌, ◌*◌, ◌%◌, ◌<◌, ◌≤◌, ◌⊎◌, ◌↔◌, IsTrue, IfOk, length, replicate, slice_index, slice_set, vec_capacity};
+ghost use Rattle.std.specs.Prelude.{◌≡◌, ◌≢◌, ℕ, [], ◌+◌, ◌*◌, ◌%◌, ◌<◌, ◌≤◌, ◌⊎◌, ◌↔◌, IsTrue, IfOk, drop, length, replicate, slice_index, slice_set, take, vec_capacity};
 ghost use Rattle.cache_ident.specs.declared.names.Frame.{Frame};
 ghost use Rattle.phys_groups.specs.Memory.{HasFrame, half_at, half_bytes, page_at, page_end, reaching, with_page, word_at, word_bytes, written};
 
@@ -189,6 +189,26 @@ impl Memory {
         let start = frame.0 as usize * PAGE_LENGTH;
         reach(&mut self.bytes, start);
         self.bytes[start..start + PAGE_LENGTH].copy_from_slice(bytes);
+    }
+
+    /// The same of 4,096 bytes which the frame has already before one place and from another one on.
+    pub fn copy_part_in(&mut self, frame: Frame, from: usize, to: usize, bytes: &[u8])
+        requires in_memory { HasFrame self.old frame }
+        requires whole_page { length bytes.now ≡ 4096 }
+        requires within { to ≤ 4096 }
+        requires before { take from (page_at self.old frame) ≡ take from bytes.now }
+        requires behind { drop to (page_at self.old frame) ≡ drop to bytes.now }
+        ensures after { self.new ≡ with_page self.old frame bytes.now }
+        ensures size { length self.new ≡ length self.old }
+        ensures holds { page_at self.new frame ≡ bytes.now }
+        ensures same { bytes.now ≡ page_at self.old frame → self.new ≡ self.old }
+        ensures others { (f : Frame) → f.0 ≢ frame.0 → page_at self.new f ≡ page_at self.old f }
+    {
+        if from < to {
+            let start = frame.0 as usize * PAGE_LENGTH;
+            reach(&mut self.bytes, start);
+            self.bytes[start + from..start + to].copy_from_slice(&bytes[from..to]);
+        }
     }
 
     /// The 4,096 bytes of a frame, without a copy.

@@ -64,7 +64,7 @@ fn look_if(board: &mut Board, cpu: u32, limit: u64, want_first: Option<bool>) ->
 pub(crate) fn commit(
     board: &mut Board,
     ticket: &Ticket,
-    quantum: &Quantum,
+    quantum: &mut Quantum,
     limit: u64,
     want_first: Option<bool>,
 ) -> Result<Committed, NoMemory>

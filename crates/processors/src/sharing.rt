@@ -246,14 +246,15 @@ impl<R: Wait, G: Gate> Processor for Sharing<'_, R, G> {
     fn commit(
         &mut self,
         ticket: &Ticket,
-        quantum: &Quantum,
+        quantum: &mut Quantum,
         look: Option<bool>,
     ) -> Result<Committed, NoMemory> {
+        let steps = quantum.steps();
         let mut held = hold(self.rt, self.lock, &mut self.pass);
         let answer = commit(held.value_mut(), ticket, quantum, self.limit, look);
         self.pass = Some(held.release());
         let committed = answer?;
-        self.brought = brought_by(committed, quantum.steps(), self.brought);
+        self.brought = brought_by(committed, steps, self.brought);
         Ok(committed)
     }
 

@@ -1,6 +1,7 @@
 -- How a run ahead comes to be: begun, with a view more, with a step more.
 use Rattle.std.proofs.Common.{◌≡◌, ◌≢◌, ℕ, zero, suc, ◌+◌, ◌%◌, ◌<◌, Bool, true, false, ◌&&◌, ◌||◌, cond, List, [], ◌∷◌, ◌++◌, map, Option, Some, None, slice_get, Contains, refl, ap, ap₂, sym, ◌∙◌, subst, inl, inr, ◌⊎◌, arith}
 use Rattle.std.specs.Prelude.{◌==◌, if◌then◌else◌, replicate, slice_set, unwrap_or, is_some}
+use Rattle.std.specs.Bool.{OnFalse, OnTrue}
 use Rattle.std.specs.List.{find}
 use Rattle.std.proofs.lemmas.Bool.{cases_lt, eq-eqb, eqb-true, and_parts}
 use Rattle.std.proofs.lemmas.List.{set-set}
@@ -31,11 +32,11 @@ use Rattle.flat_laws.specs.flat_state.proofs.Finding.{find-contains, find-passes
 use Rattle.std.proofs.lemmas.Option.{same_Some}
 use Rattle.flat_laws.specs.flat_state.proofs.Places.{get-set_same}
 use Rattle.flat_laws.proofs.Members.{Contains-cases, Contains-here, Contains-behind, Contains-filter, Contains-map, Contains-from_map, contains_nothing}
-use Rattle.page_views.specs.Views.{can_fill, filled, is_of_page, is_touched_of, pages_of_views, present_in, refilled, Copied, Dated, Table, View}
+use Rattle.page_views.specs.Views.{can_fill, filled, is_of_page, is_touched_of, pages_of_views, present_in, Copied, Dated, IsRefilled, IsReordered, Table, View}
 use Rattle.page_views.proofs.Tables.{no_view, one_filled, one_mapped}
 use Rattle.quantum.specs.declared.paused.Paused.{Paused}
 use Rattle.quantum.specs.declared.paused.Paused.TheVariants as pauses
-use Rattle.quantum.specs.Ahead.{Ahead, again_with, more_with, outcome, one_ahead, pause_after, pause_before, pause_if_missed, signals_next, standing, views_with}
+use Rattle.quantum.specs.Ahead.{Ahead, HasRefilled, HasReordered, more_with, outcome, one_ahead, pause_after, pause_before, pause_if_missed, signals_next, standing, views_with}
 use Rattle.quantum.specs.LocalRun.{touched_views, CouldRun, HaveOneContents, GoesThrough, Shows, state_after, status_by}
 use Rattle.quantum.specs.Made.{put_on, has_mark, has_store_mark, AreOf, changed_memory, changed_rows, changed_state, IsView, IsMade}
 use Rattle.quantum.proofs.StepsIn.{step_acts}
@@ -187,16 +188,53 @@ made_filled a vpn frame flags row bytes taken made room =
       ahead = λ s n t formed here could. made.ahead s n t formed here (could_before a b s t refl grows could);
     }
 
--- with a view more of what was kept, if it was
-pub made_again : (a : Ahead) (vpn : Vpn) (frame : Frame) (flags : Flags) (row : Ident) (o : Option Dated) → IsMade a → can_fill a.most a.views vpn ≡ true → IsMade (again_with vpn frame flags row o a)
-made_again a vpn frame flags row None made room = made
-made_again a vpn frame flags row (Some d) made room = made_filled a vpn frame flags row d.bytes (Some d.place) made room
+-- whatever is kept
+made_keeping : (a : Ahead) (kept : List (Option Dated)) → IsMade a → IsMade (record a { kept = kept })
+made_keeping a kept made = record {
+  aligned = made.aligned;
+  one_a_page = made.one_a_page;
+  changes = made.changes;
+  of = made.of;
+  views = made.views;
+  each = λ s n t formed here could. made.each s n t formed here (record { ready = could.ready; context = could.context; views = could.views });
+  ahead = λ s n t formed here could. made.ahead s n t formed here (record { ready = could.ready; context = could.context; views = could.views });
+}
 
--- .. as the table has it
-pub again_so : (a : Ahead) (vpn : Vpn) (frame : Frame) (flags : Flags) (row : Ident) (o : Option Dated) → let t : Table = record { most = a.most; views = a.views; kept = a.kept } in
-    record a { most = (refilled t vpn frame flags row o).most; views = (refilled t vpn frame flags row o).views; kept = (refilled t vpn frame flags row o).kept } ≡ again_with vpn frame flags row o a
-again_so a vpn frame flags row None = refl
-again_so a vpn frame flags row (Some d) = refl
+-- with a view more of what was kept, or with this in another order, as the table has it
+module _ (a : Ahead) (vpn : Vpn) (frame : Frame) (flags : Flags) (row : Ident) (since : ℕ) (t : Table) where
+  abbrev pub table_of : Ahead → Table
+  table_of b = record { most = b.most; views = b.views; kept = b.kept }
+
+  abbrev pub with_table : Ahead
+  with_table = record a { most = t.most; views = t.views; kept = t.kept }
+
+  has_refilled : IsRefilled vpn frame flags row since (table_of a) t → HasRefilled vpn frame flags row since a with_table
+  has_refilled is = record {
+    d = is.d;
+    was = is.was;
+    is = ap₂ (λ (most : ℕ) (vs : List View). record a { most = most; views = vs; kept = t.kept }) is.most is.views;
+    kept = is.kept;
+  }
+
+  has_reordered : IsReordered (table_of a) t → HasReordered a with_table
+  has_reordered is = record {
+    is = ap₂ (λ (most : ℕ) (vs : List View). record a { most = most; views = vs; kept = t.kept }) is.most is.views;
+    kept = is.kept;
+  }
+
+  pub made_again : (r : Bool) → OnTrue r (IsRefilled vpn frame flags row since (table_of a) t) → OnFalse r (IsReordered (table_of a) t) → IsMade a → can_fill a.most a.views vpn ≡ true → IsMade with_table
+  made_again true is not made room =
+      let has = has_refilled is in
+      subst IsMade (sym has.is) (made_keeping (more_with (filled a.views vpn frame flags row is.d.bytes (Some is.d.place)) a) t.kept (made_filled a vpn frame flags row is.d.bytes (Some is.d.place) made room))
+  made_again false is not made room = subst IsMade (sym (has_reordered not).is) (made_keeping a t.kept made)
+
+  pub refilled_so : (r : Bool) → OnTrue r (IsRefilled vpn frame flags row since (table_of a) t) → (b : Ahead) → a ≡ b → OnTrue r (HasRefilled vpn frame flags row since b with_table)
+  refilled_so true is b same = subst (λ (c : Ahead). HasRefilled vpn frame flags row since c with_table) same (has_refilled is)
+  refilled_so false is b same = tt
+
+  pub reordered_so : (r : Bool) → OnFalse r (IsReordered (table_of a) t) → (b : Ahead) → a ≡ b → OnFalse r (HasReordered b with_table)
+  reordered_so true is b same = tt
+  reordered_so false is b same = subst (λ (c : Ahead). HasReordered c with_table) same (has_reordered is)
 
 -- the touched views of a frame that were copied alike hold the same: the first contents with all that was put there
 pub one_contents : (a : Ahead) → IsMade a → HaveOneContents a.views

@@ -1,5 +1,5 @@
 -- A run ahead: what it has come to, what a step makes of it, and where it pauses.
-use Rattle.std.specs.Prelude.{◌≡◌, ℕ, zero, suc, ◌+◌, ◌*◌, ◌/◌, ◌%◌, ◌<◌, ◌&&◌, Bool, true, false, if◌then◌else◌, nat_le, List, [], ◌∷◌, ◌++◌, drop, replicate, Option, Some, None}
+use Rattle.std.specs.Prelude.{◌≡◌, ℕ, zero, suc, ◌+◌, ◌*◌, ◌/◌, ◌%◌, ◌<◌, ◌&&◌, Bool, true, false, if◌then◌else◌, nat_le, List, [], ◌∷◌, ◌++◌, drop, map, replicate, Option, Some, None}
 use Rattle.std.specs.Option.{option_or}
 use Rattle.cache_ident.specs.declared.idents.Ident.{Ident}
 use Rattle.cache_ident.specs.declared.names.Frame.{Frame}
@@ -17,7 +17,7 @@ use Rattle.rv32_exec.specs.Pages.{Page, stored, touched_at}
 use Rattle.rv32_exec.specs.Registers.{next_of}
 use Rattle.rv32_exec.specs.Steps.{After, after_step}
 use Rattle.flat_laws.specs.flat_state.specs.Signals.{next_action}
-use Rattle.page_views.specs.Views.{all_dated, copies_of, filled, nothing_kept, pages_of_views, view_through, Dated, View}
+use Rattle.page_views.specs.Views.{all_dated, as_happened, copies_of, filled, nothing_kept, pages_of_views, view_through, AreKept, Dated, IsKeptSince, View}
 use Rattle.quantum.specs.declared.paused.Paused.{Paused}
 use Rattle.quantum.specs.declared.paused.SignalStore.{SignalStore}
 use Rattle.quantum.specs.declared.paused.Paused.TheVariants.{Limit, Call, Stopped, Miss, Signal}
@@ -54,10 +54,22 @@ begun context a = record a { first = context; context = context; views = []; kep
 abbrev pub more_with : View → Ahead → Ahead
 more_with v a = record a { views = a.views ++ v ∷ []; kept = drop 1 a.kept }
 
--- with a view more of what was kept, if it was
-abbrev pub again_with : Vpn → Frame → Flags → Ident → Option Dated → Ahead → Ahead
-again_with vpn frame flags row None a = a
-again_with vpn frame flags row (Some d) a = more_with (filled a.views vpn frame flags row d.bytes (Some d.place)) a
+-- with a view more, of bytes that were kept of its frame as of the place or a later one. What is kept now was kept before
+pub record HasRefilled (vpn : Vpn) (frame : Frame) (flags : Flags) (row : Ident) (since : ℕ) (before after : Ahead) : Type 0 where
+  pub d : Dated
+  pub was : IsKeptSince before.kept frame since d
+  pub is : after ≡ record (more_with (filled before.views vpn frame flags row d.bytes (Some d.place)) before) { kept = after.kept }
+  pub kept : AreKept before.kept after.kept
+
+-- nothing changed but the order of what is kept
+pub record HasReordered (before after : Ahead) : Type 0 where
+  pub is : after ≡ record before { kept = after.kept }
+  pub kept : AreKept before.kept after.kept
+
+-- Once the steps happened at a place of a journal there are none, and no view: what was touched is kept as it is now, as of this
+-- place.
+abbrev pub happened : ℕ → Ahead → Ahead
+happened place a = begun a.context (record a { views = map (as_happened place) a.views })
 
 -- nothing of what was copied changed: not what the views were copied from, and not what is kept
 pub record HasSameCopies (before after : Ahead) : Type 0 where

@@ -1,10 +1,11 @@
 //! Steps of one thread, taken on copied pages.
 
 ghost use Rattle.std.specs.Prelude.{◌≡◌, ◌+◌, ◌%◌, ◌^◌, ◌<◌, ◌≤◌, None, Some, is_some, length, IfOk, IfSome, IsTrue};
-ghost use Rattle.page_views.specs.Views.{can_fill, filled, kept_since, pages_of_views, HaveOneViewAPage};
+ghost use Rattle.std.specs.Bool.{OnFalse, OnTrue};
+ghost use Rattle.page_views.specs.Views.{can_fill, filled, pages_of_views, HaveOneViewAPage};
 ghost use Rattle.rv32_exec.specs.Steps.{after_step, OnMiss};
 ghost use Rattle.flat_laws.specs.flat_state.specs.Signals.{next_action};
-ghost use Rattle.quantum.specs.Ahead.{advanced, again_with, answer_of, begun, more_with, pause_after as pause_after_def, pause_before, is_signal as is_signal_def, signal_store as signal_store_def, signals_by, standing as standing_def, store_by, unbegun, views_with, HasGone, HasSameCopies, IsRun, IsStoreAhead};
+ghost use Rattle.quantum.specs.Ahead.{advanced, answer_of, begun, happened, more_with, pause_after as pause_after_def, pause_before, is_signal as is_signal_def, signal_store as signal_store_def, signals_by, standing as standing_def, store_by, unbegun, views_with, HasGone, HasRefilled, HasReordered, HasSameCopies, IsRun, IsStoreAhead};
 ghost use Rattle.quantum.specs.LocalRun.{HaveOneContents, IsLocalRun};
 
 use crate::paused::{Paused, SignalStore};
@@ -116,15 +117,32 @@ impl Quantum {
         self.views.fill_as_of(vpn, frame, flags, row, bytes, place);
     }
 
-    /// Adds an untouched view of a page, where its place keeps the bytes of the frame as of the place `since` of a journal, or
-    /// a later one, and no view of the frame was touched; and answers whether it did. So the pages that are asked for in the
-    /// same order each time aren't copied again.
+    /// Adds an untouched view of a page, where its page is found among what is kept, with the bytes of the frame as of the place `since`
+    /// of a journal, or a later one; and answers whether it did. Not found is a page once a view of the frame was touched. So pages
+    /// that are gone over again and again aren't copied again.
     pub fn refill(&mut self, vpn: Vpn, frame: Frame, flags: Flags, row: Ident, since: u64) -> bool
         requires room { IsTrue (can_fill self.old.most self.old.views vpn) }
-        ensures answer { result ≡ is_some (kept_since self.old.views self.old.kept frame since) }
-        ensures views { self.new ≡ again_with vpn frame flags row (kept_since self.old.views self.old.kept frame since) self.old }
+        ensures refilled { OnTrue result (HasRefilled vpn frame flags row since self.old self.new) }
+        ensures not { OnFalse result (HasReordered self.old self.new) }
     {
         self.views.refill(vpn, frame, flags, row, since)
+    }
+
+    /// Its steps happened at a place of a journal: it begins anew with the context that they came to, and of each view that was touched
+    /// it keeps what that holds now, as of this place.
+    pub fn happened(&mut self, place: u64)
+        ensures { self.new ≡ happened place self.old }
+    {
+        self.first = self.context;
+        self.views.happened(place);
+        self.steps = 0;
+        self.paused = None;
+    }
+
+    /// The identifier of the row that a page was copied through last, as far as it is known. Any may be answered, and whoever takes it
+    /// looks which row it is.
+    pub fn near(&self, vpn: Vpn) -> Option<Ident> {
+        self.views.near(vpn)
     }
 
     /// The views in the order of their filling.

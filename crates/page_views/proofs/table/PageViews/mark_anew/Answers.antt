@@ -22,8 +22,7 @@ invariant_of-self c =
     rw c.note_if.ensures (
       table_changed f same q.most q.index.count q.views.items _ table became,
       index_within f same q.index.count q.views.items _ q.index table.within became c.self.invariant.1,
-      c.self.invariant.2,
-      marked_noted_if c.wants-allowed.result c.args.page c.args.access q.index.count c.in-Some.place q.views.items _ c.index.result.now q.marked table.within below found c.index.ensures (c.wants-allowed.ensures ∙ ap (wants c.args.access) c.flags.ensures) became c.self.invariant.3,
+      marked_noted_if c.wants-allowed.result c.args.page c.args.access q.index.count c.in-Some.place q.views.items _ c.index.result.now q.marked table.within below found c.index.ensures (c.wants-allowed.ensures ∙ ap (wants c.args.access) c.flags.ensures) became c.self.invariant.2,
     )
 
 pub returns-in-Some : goal.returns-in-Some

@@ -20,8 +20,7 @@ invariant_of-self c =
     rw (written_over q.views.len q.views.items c.put_in.new.views q.views.ok.0 size) (
       table_changed f same q.most q.index.count q.views.items c.put_in.new.views table became,
       index_within f same q.index.count q.views.items c.put_in.new.views q.index table.within became c.self.invariant.1,
-      c.self.invariant.2,
-      marked_put c.frame-frame.result count c.args.at c.args.value q.index.count q.views.items c.put_in.new.views q.marked table.within became c.self.invariant.3,
+      marked_put c.frame-frame.result count c.args.at c.args.value q.index.count q.views.items c.put_in.new.views q.marked table.within became c.self.invariant.2,
     )
 
 pub returns-then-self : goal.returns-then-self
@@ -50,8 +49,7 @@ invariant_of-self-else-self c =
     let became = put_there count c.args.at c.args.value q.index.count c.args.place q.views.items v c.put.new.self (c.self.invariant.1.apart c.if-self.false) table.within below c.index_mut.ensures.value c.put.ensures in (
       table_changed f same q.most q.index.count q.views.items _ table became,
       index_within f same q.index.count q.views.items _ q.index table.within became c.self.invariant.1,
-      c.self.invariant.2,
-      marked_put v.frame count c.args.at c.args.value q.index.count q.views.items _ q.marked table.within became c.self.invariant.3,
+      marked_put v.frame count c.args.at c.args.value q.index.count q.views.items _ q.marked table.within became c.self.invariant.2,
     )
 
 pub returns-else-self : goal.returns-else-self
