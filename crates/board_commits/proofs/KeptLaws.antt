@@ -1,5 +1,5 @@
 -- What carries a place of the journal: what it says of a frame now, and that it stays.
-use Rattle.std.proofs.Common.{◌≡◌, ℕ, zero, suc, ◌≤◌, ◌==◌, ◌&&◌, not, Bool, true, false, List, [], ◌∷◌, ◌++◌, length, map, drop, replicate, Contains, Option, Some, None, is_some, refl, ap, sym, ◌∙◌, subst, inl, inr, ◌⊎◌, arith, eqb-true}
+use Rattle.std.proofs.Common.{◌≡◌, ℕ, zero, suc, ◌<◌, ◌≤◌, ◌==◌, ◌&&◌, not, Bool, true, false, List, [], ◌∷◌, ◌++◌, length, map, drop, replicate, Contains, Option, Some, None, is_some, refl, ap, ap₂, sym, ◌∙◌, subst, inl, inr, ◌⊎◌, arith, eqb-true}
 use Rattle.std.specs.Prelude.{if◌then◌else◌, nat_le, bytes_eq}
 use Rattle.std.specs.Bool.{OnTrue}
 use Rattle.std.specs.List.{find}
@@ -14,15 +14,19 @@ use Rattle.cache_ident.specs.declared.names.Vpn.{Vpn}
 use Rattle.phys_groups.specs.declared.rows.Flags.{Flags}
 use Rattle.phys_groups.specs.Memory.{page_at}
 use Rattle.thread_cache.specs.rv32_exec.specs.declared.contexts.Context.{Context}
-use Rattle.board_threads.specs.flat_laws.proofs.Members.{Contains-behind, Contains-cases, Contains-here, Contains-map, contains_nothing}
+use Rattle.board_threads.specs.flat_laws.proofs.Members.{Contains-behind, Contains-from_map, Contains-cases, Contains-here, Contains-map, contains_nothing}
 use Rattle.flat_rules.specs.flat_state.specs.Events.{flat}
-use Rattle.board_threads.specs.page_views.specs.Views.{all_dated, dated, filled, AreKept, Dated, View}
+use Rattle.board_threads.specs.page_views.specs.Views.{all_dated, as_happened, dated, filled, AreKept, Dated, View}
 use Rattle.board_threads.specs.run_journal.specs.declared.entries.Entry.{Entry}
 use Rattle.board_threads.specs.run_journal.specs.Entries.{erase}
-use Rattle.board_threads.specs.quantum.specs.Ahead.{begun, more_with, unbegun, Ahead, HasRefilled, HasReordered}
-use Rattle.board_threads.specs.board_core.specs.Core.{Recorded}
+use Rattle.board_threads.specs.quantum.specs.Ahead.{begun, happened, more_with, unbegun, Ahead, HasRefilled, HasReordered}
+use Rattle.board_threads.specs.board_core.specs.Core.{IsSound, Recorded}
 use Rattle.board_threads.specs.board_core.specs.Stamps.{IsSince}
-use Rattle.board_commits.specs.Commits.{HasPage}
+use Rattle.board_threads.specs.quantum.specs.LocalRun.{touched_views}
+use Rattle.board_threads.specs.quantum.proofs.OneStep.{contains_filter}
+use Rattle.board_threads.specs.board_core.specs.Growth.{entries_of_run}
+use Rattle.board_threads.specs.declared.tickets.Ticket.{Ticket}
+use Rattle.board_commits.specs.Commits.{HasPage, IsCommitted}
 use Rattle.board_commits.specs.Refusals.{is_changed}
 use Rattle.board_commits.specs.Tickets.{AreAsOf, AreAllAsOf, IsAsOf, IsDated}
 
@@ -113,6 +117,36 @@ kept_stays j es a kept o there = dated_stays j es o (kept o there)
 
 pub kept_begun : (j : List Entry) (context : Context) (a : Ahead) → AreAllAsOf j a → AreAllAsOf j (begun context a)
 kept_begun j context a kept o there = kept o there
+
+-- once its steps happened
+module _ (ticket : Ticket) (a : Ahead) (old new : Recorded) (sound : IsSound new) (done : IsCommitted ticket a old new) (some : 0 < a.steps) (kept : AreAllAsOf old.journal.entries a) where
+  abbrev end : ℕ
+  end = length new.journal.entries
+
+  later : (o : Option Dated) → Contains (all_dated a.views a.kept) o → IsAsOf new.journal.entries o
+  later o there = subst (λ (j : List Entry). IsAsOf j o) (sym done.entries.entries) (dated_stays old.journal.entries (entries_of_run done.whom a.steps ticket.cpu) o (kept o there))
+
+  -- a touched view's frame holds what the view does
+  now_holds : (v : View) → Contains (touched_views a.views) v → IsDated new.journal.entries (record { frame = v.frame; bytes = v.present; place = end })
+  now_holds v there =
+      let held = done.held some v there in
+      let stamp = sound.stamps v.frame held.0 in
+      let low = stamp.since.within in
+      let now = dated_now new.journal.entries new.machine.memory v.frame stamp.stamp stamp.since end low (omega arith) in
+      record { within = now.within; bytes = now.bytes ∙ held.1 }
+
+  of_view : (v : View) → Contains a.views v → (b : Bool) → v.touched ≡ b → IsAsOf new.journal.entries (dated (if b then record v { first = v.present; taken = Some end } else v))
+  of_view v there true touched = now_holds v (contains_filter (λ (w : View). w.touched) a.views v there touched)
+  of_view v there false untouched = later (dated v) (Contains-append_left (map dated a.views) a.kept (dated v) (Contains-map dated a.views v there))
+
+  pub kept_happened : AreAllAsOf new.journal.entries (happened end a)
+  kept_happened o there = elim (Contains-append_cases (map dated (map (as_happened end) a.views)) a.kept o there) [
+    | inl viewed ↦
+        let w = Contains-from_map dated (map (as_happened end) a.views) o viewed in
+        let v = Contains-from_map (as_happened end) a.views w.0 w.1 in
+        subst (IsAsOf new.journal.entries) (ap dated v.2 ∙ w.2) (of_view v.0 v.1 v.0.touched refl)
+    | inr behind ↦ later o (Contains-append_right (map dated a.views) a.kept o behind)
+  ]
 
 none_kept : (j : List Entry) (n : ℕ) (o : Option Dated) → Contains (replicate n None) o → IsAsOf j o
 none_kept j zero o there = absurd (contains_nothing o there)

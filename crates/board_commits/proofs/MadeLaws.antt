@@ -10,12 +10,12 @@ use Rattle.flat_rules.specs.flat_state.specs.State.{FlatState}
 use Rattle.flat_rules.specs.flat_state.proofs.Places.{get-set_same}
 use Rattle.board_threads.specs.run_journal.specs.Entries.{erase}
 use Rattle.board_threads.specs.quantum.specs.Ahead.{Ahead}
-use Rattle.board_threads.specs.quantum.specs.LocalRun.{committed, state_after, status_by, CouldRun, IsLocalRun}
+use Rattle.board_threads.specs.quantum.specs.LocalRun.{committed, state_after, status_by, touched_views, CouldRun, IsLocalRun}
 use Rattle.board_threads.specs.board_laws.specs.Moves.{KeepsLoaded}
 use Rattle.board_threads.specs.cached_machine.specs.Cached.{state_of}
 use Rattle.board_threads.specs.cached_machine.specs.Posts.{but_at, last_of, mark_of}
 use Rattle.board_threads.specs.board_core.specs.Core.{contents_of, Recorded}
-use Rattle.board_threads.specs.board_core.specs.Growth.{entries_of_run, GrowsBy, IsRoomMade}
+use Rattle.board_threads.specs.board_core.specs.Growth.{entries_of_run, AreHeld, GrowsBy, IsRoomMade}
 use Rattle.board_threads.specs.board_core.proofs.RoomLaws.{grows_before, same_checkouts, same_sealed}
 use Rattle.board_threads.specs.declared.tickets.Ticket.{Ticket}
 use Rattle.board_commits.specs.Commits.{IsCommitted, MayBeCommitted}
@@ -41,8 +41,9 @@ module _ (ticket : Ticket) (a : Ahead) (old mid new : Recorded) (room : IsRoomMa
       → ((other : ThreadNo) → last_of (contents_of new) other ≡ last_of (contents_of mid) other)
       → new.steps ≡ mid.steps + a.steps → new.sealed ≡ mid.sealed → new.checkouts ≡ mid.checkouts
       → (contents_of new).spare ≡ (contents_of mid).spare
+      → (0 < a.steps → AreHeld new.machine.memory (touched_views a.views))
       → IsCommitted ticket a old new
-  committed_before grows loaded marks lasts steps sealed checkouts issues =
+  committed_before grows loaded marks lasts steps sealed checkouts issues held =
       let grown = grows_before old mid room (entries_of_run no a.steps ticket.cpu) new grows in
       let state : state_of new.machine ≡ state_after s no.0 a.steps = grown.state ∙ ap (λ (es : List Event). after_events s es) (events_of_run no a.steps ticket.cpu) in
       let taken : FlatThread = record may.thread { context = a.context; status = status_by a.paused } in
@@ -63,4 +64,5 @@ module _ (ticket : Ticket) (a : Ahead) (old mid new : Recorded) (room : IsRoomMa
         sealed = sealed ∙ same_sealed old mid room;
         checkouts = checkouts ∙ same_checkouts old mid room;
         spare = let more = room.only.spare in omega arith;
+        held = held;
       }

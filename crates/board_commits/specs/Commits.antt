@@ -21,7 +21,7 @@ use Rattle.board_threads.specs.board_laws.specs.Moves.{KeepsLoaded}
 use Rattle.board_threads.specs.cached_machine.specs.Cached.{state_of}
 use Rattle.board_threads.specs.cached_machine.specs.Posts.{but_at, last_of, mark_of}
 use Rattle.board_threads.specs.board_core.specs.Core.{contents_of, Recorded}
-use Rattle.board_threads.specs.board_core.specs.Growth.{entries_of_run, AreOfLoaded, GrowsBy}
+use Rattle.board_threads.specs.board_core.specs.Growth.{entries_of_run, AreHeld, AreOfLoaded, GrowsBy}
 use Rattle.board_threads.specs.board_checks.specs.Identifiers.{thread_as}
 use Rattle.board_threads.specs.declared.tickets.Ticket.{Ticket}
 use Rattle.board_commits.specs.Tickets.{IsDated}
@@ -62,7 +62,7 @@ pub record MayBeCommitted (b : Recorded) (ticket : Ticket) (a : Ahead) (whom : T
 -- The quantum's steps happened to the thread that is loaded with the ticket's identifier, one after another on the machine as it
 -- was: each fits there, and goes through views that were touched. So the thread has the quantum's context, and the status that the
 -- pause names; the frames and the marks of the touched views are theirs, and all else that is shown is as it was. Where there are
--- steps, they are one entry. The thread came away from its processor. No fewer identifiers can be issued without memory.
+-- steps, they are one entry, and each frame whose view was touched holds what the view does. The thread came away from its processor. No fewer identifiers can be issued without memory.
 pub record IsCommitted (ticket : Ticket) (a : Ahead) (old new : Recorded) : Type 0 where
   pub whom : ThreadNo
   pub named : IsResident (residents_of (contents_of old)) ticket.thread (name.Thread whom)
@@ -80,3 +80,4 @@ pub record IsCommitted (ticket : Ticket) (a : Ahead) (old new : Recorded) : Type
   pub sealed : new.sealed ≡ old.sealed
   pub checkouts : new.checkouts ≡ old.checkouts
   pub spare : (contents_of old).spare ≤ (contents_of new).spare
+  pub held : 0 < a.steps → AreHeld new.machine.memory (touched_views a.views)

@@ -39,7 +39,10 @@ pub fn page(core: &Core, ticket: &Ticket, vpn: Vpn, quantum: &mut Quantum) -> Re
     ensures kept { AreAllAsOf core.now.journal.entries quantum.new }
 {
     let space = thread_of(core, ticket)?.space;
-    let Some(ident) = core.tables().resident_near(Name::Mapping(space, vpn), quantum.near(vpn)) else {
+    let Some(ident) = core
+        .tables()
+        .resident_near(Name::Mapping(space, vpn), quantum.near(vpn))
+    else {
         return Err(Refused::NotLoaded { vpn });
     };
     let row = row_loaded(core, space, vpn, ident);

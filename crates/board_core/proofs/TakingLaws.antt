@@ -1,7 +1,9 @@
 -- Views that are taken over, one after another.
-use Rattle.std.proofs.Common.{◌≡◌, ℕ, ◌<◌, Bool, true, false, List, [], ◌∷◌, ◌++◌, length, map, Contains, Some, refl, ap, sym, ◌∙◌, subst, inl, inr, arith}
+use Rattle.std.proofs.Common.{◌≡◌, ℕ, ◌+◌, ◌<◌, Bool, true, false, List, [], ◌∷◌, ◌++◌, length, map, take, drop, get_or, cond, Contains, Some, refl, ap, sym, ◌∙◌, subst, inl, inr, arith, take-append-drop}
 use Rattle.std.specs.Prelude.{if◌then◌else◌}
 use Rattle.std.proofs.lemmas.Bool.{cases_eq}
+use Rattle.std.proofs.lemmas.List.{append-nil}
+use Rattle.std.proofs.lemmas.List.Elements.{Contains-append_left, Contains-push_cases, filter-append, filter_more}
 use Rattle.cache_ident.specs.declared.names.Frame.{Frame}
 use Rattle.cache_ident.specs.declared.names.SpaceNo.{SpaceNo}
 use Rattle.cache_ident.specs.declared.names.Vpn.{Vpn}
@@ -14,6 +16,7 @@ use Rattle.cached_machine.specs.shown_state.specs.Shown.{shown}
 use Rattle.cached_machine.specs.Cached.{state_of, Cached}
 use Rattle.board_ops.specs.page_views.specs.declared.part.Part.{Part}
 use Rattle.board_ops.specs.page_views.specs.Parts.{AreAlikeBut}
+use Rattle.cached_machine.specs.quantum.specs.LocalRun.{touched_views}
 use Rattle.board_core.specs.Growth.{with_all_views, with_view, AreInMemory, HoldAlike, IsAsCopiedOrNow, IsPutIn}
 use Rattle.board_core.specs.Stamps.{stamped_at, AreStamped, HaveStamps}
 use Rattle.board_core.proofs.OpeningLaws.{memory_shown}
@@ -107,6 +110,39 @@ held_later vs w memory after alike of within put held v there =
             | inr now ↦ inr (kept ∙ now)
           ]
     ]
+
+-- .. and the frame of each that was put in before holds what the view does still
+pub done_later : (vs : List View) (w : View) (memory after : List ℕ) → HoldAlike vs → Contains vs w → AreInMemory memory vs → IsPutIn w memory after → (v : View) → Contains vs v → page_at memory v.frame ≡ v.present → page_at after v.frame ≡ v.present
+done_later vs w memory after alike of within put v there held =
+    elim (cases_eq v.frame.0 w.frame.0) [
+      | inl same ↦
+          let frames : v.frame ≡ w.frame = ap (λ (n : ℕ). let f : Frame = record { 0 = n } in f) same in
+          ap (λ (f : Frame). page_at after f) frames ∙ put.its ∙ alike w v of there (sym frames)
+      | inr apart ↦ put.others v.frame (within v there) (λ same. apart (ap (λ (f : Frame). f.0) same)) ∙ held
+    ]
+
+touched_within : (n : ℕ) (views : List View) (v : View) → Contains (touched_views (take n views)) v → Contains (touched_views views) v
+touched_within n views v there =
+    subst (λ (vs : List View). Contains (touched_views vs) v) (take-append-drop n views)
+    (subst (λ (vs : List View). Contains vs v) (sym (filter-append (λ (w : View). w.touched) (take n views) (drop n views))) (Contains-append_left (touched_views (take n views)) (touched_views (drop n views)) v there))
+
+-- the first so many touched views and one more
+touched_more : (views : List View) (i : ℕ) (v : View) → i < length views → v ≡ get_or views i v → touched_views (take (i + 1) views) ≡ touched_views (take i views) ++ cond v.touched (v ∷ []) []
+touched_more views i v within is =
+    filter_more (λ (w : View). w.touched) views i v within ∙ ap (λ (w : View). touched_views (take i views) ++ cond w.touched (w ∷ []) []) (sym is)
+
+pub done_more : (views : List View) (i : ℕ) (v : View) (memory after : List ℕ) → i < length views → v ≡ get_or views i v → v.touched ≡ true → HoldAlike (touched_views views) → Contains (touched_views views) v → AreInMemory memory (touched_views views) → IsPutIn v memory after
+    → ((u : View) → Contains (touched_views (take i views)) u → page_at memory u.frame ≡ u.present) → (u : View) → Contains (touched_views (take (i + 1) views)) u → page_at after u.frame ≡ u.present
+done_more views i v memory after within is touched alike of in_memory put before u there =
+    let more = touched_more views i v within is ∙ ap (λ (b : Bool). touched_views (take i views) ++ cond b (v ∷ []) []) touched in
+    elim (Contains-push_cases (touched_views (take i views)) v u (subst (λ (vs : List View). Contains vs u) more there)) [
+      | inl earlier ↦ done_later (touched_views views) v memory after alike of in_memory put u (touched_within i views u earlier) (before u earlier)
+      | inr last ↦ subst (λ (w : View). page_at after w.frame ≡ w.present) last put.its
+    ]
+
+pub done_skipped : (views : List View) (i : ℕ) (v : View) → i < length views → v ≡ get_or views i v → v.touched ≡ false → touched_views (take (i + 1) views) ≡ touched_views (take i views)
+done_skipped views i v within is untouched =
+    touched_more views i v within is ∙ ap (λ (b : Bool). touched_views (take i views) ++ cond b (v ∷ []) []) untouched ∙ append-nil (touched_views (take i views))
 
 -- what the frame holds differs from what the view does at most where this differs from what was copied
 pub alike_now : (v : View) (memory : List ℕ) (part : Part) → AreAlikeBut part v.first v.present → IsAsCopiedOrNow memory v → AreAlikeBut part (page_at memory v.frame) v.present

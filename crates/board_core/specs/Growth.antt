@@ -112,6 +112,10 @@ pub record IsPutIn (v : View) (memory after : List ℕ) : Type 0 where
   pub its : page_at after v.frame ≡ v.present
   pub others : (frame : Frame) → HasFrame memory frame → frame ≢ v.frame → page_at after frame ≡ page_at memory frame
 
+-- the frame of each view is in memory, and holds what the view does
+abbrev pub AreHeld : List ℕ → List View → Type 0
+AreHeld memory vs = (v : View) → Contains vs v → HasFrame memory v.frame × (page_at memory v.frame ≡ v.present)
+
 -- the frames of all views are in memory
 abbrev pub AreInMemory : List ℕ → List View → Type 0
 AreInMemory memory vs = (v : View) → Contains vs v → HasFrame memory v.frame

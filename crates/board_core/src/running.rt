@@ -19,7 +19,7 @@ ghost use Rattle.cached_machine.specs.board_laws.specs.Moves.{KeepsLoaded};
 ghost use Rattle.cached_machine.specs.Cached.{state_of};
 ghost use Rattle.cached_machine.specs.Posts.{but_at, last_of, mark_of};
 ghost use Rattle.board_core.specs.Core.{contents_of};
-ghost use Rattle.board_core.specs.Growth.{entries_of_run, entry_of_step as entry_of_step_def, AreOfLoaded, GrowsBy, KeepsPlaces, MayWrite, IsRoomMade};
+ghost use Rattle.board_core.specs.Growth.{entries_of_run, entry_of_step as entry_of_step_def, AreHeld, AreOfLoaded, GrowsBy, IsRoomMade, KeepsPlaces, MayWrite};
 ghost use Rattle.board_core.specs.Stamps.{frame_stored as frame_stored_def};
 
 use crate::core_record::{Core, known, note, put_stamp};
@@ -76,6 +76,7 @@ impl Core {
         ensures checkouts { self.new.checkouts ≡ self.old.checkouts }
         ensures sealed { self.new.sealed ≡ self.old.sealed }
         ensures spare { (contents_of self.new).spare ≡ (contents_of self.old).spare }
+        ensures held { 0 < quantum.now.steps → AreHeld self.new.machine.memory (touched_views quantum.now.views) }
     {
         self.holds();
         self.check_in(no, near);
@@ -96,6 +97,7 @@ impl Core {
         ensures entries { GrowsBy (Ran no quantum.now.steps cpu ∷ []) self.old self.new }
         ensures places { KeepsPlaces self.old self.new }
         ensures steps { self.new.steps ≡ self.old.steps + quantum.now.steps }
+        ensures held { AreHeld self.new.machine.memory (touched_views quantum.now.views) }
     {
         let steps = quantum.steps();
         self.steps += u64::from(steps);

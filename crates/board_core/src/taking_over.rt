@@ -7,7 +7,7 @@ ghost use Rattle.cached_machine.specs.quantum.specs.LocalRun.{committed, status_
 ghost use Rattle.cached_machine.specs.shown_state.specs.Shown.{flat_thread};
 ghost use Rattle.cached_machine.specs.Aside.{aside_of};
 ghost use Rattle.cached_machine.specs.Cached.{state_of};
-ghost use Rattle.board_core.specs.Growth.{with_all_views, with_view, AreAsCopied, AreInMemory, HoldAlike, IsAsCopiedOrNow, IsPutIn};
+ghost use Rattle.board_core.specs.Growth.{with_all_views, with_view, AreAsCopied, AreHeld, AreInMemory, HoldAlike, IsAsCopiedOrNow, IsPutIn};
 ghost use Rattle.board_core.specs.Stamps.{AreStamped, HaveStamps};
 
 use crate::core_record::put_stamp;
@@ -32,6 +32,7 @@ pub(crate) fn take_over(
     requires local_run { IsLocalRun quantum.now }
     requires places { HaveStamps machine.old.memory stamps.old.items }
     ensures state { OfThread (state_of machine.old) no.0 (λ t. state_of machine.new ≡ committed (state_of machine.old) no.0 t quantum.now) }
+    ensures held { AreHeld machine.new.memory (touched_views quantum.now.views) }
     ensures rest { aside_of machine.new ≡ aside_of machine.old }
     ensures stamps { AreStamped at machine.old.memory stamps.old.items machine.new.memory stamps.new.items }
 {
@@ -65,6 +66,7 @@ fn take_views(
     requires alike { HoldAlike (touched_views views.now) }
     requires places { HaveStamps machine.old.memory stamps.old.items }
     ensures state { state_of machine.new ≡ with_all_views space (state_of machine.old) views.now }
+    ensures held { AreHeld machine.new.memory (touched_views views.now) }
     ensures rest { aside_of machine.new ≡ aside_of machine.old }
     ensures stamps { AreStamped at machine.old.memory stamps.old.items machine.new.memory stamps.new.items }
 {

@@ -2,7 +2,7 @@
 
 ghost use Rattle.std.specs.Prelude.{◌≡◌, ◌<◌, ◌≤◌, ◌+◌, None, IfNone, IfOk, IfSome, OnErr, OnOk};
 ghost use Rattle.std.specs.Bool.{OnTrue};
-ghost use Rattle.cache_board.specs.board_commits.specs.Tickets.{AreOfTicket};
+ghost use Rattle.cache_board.specs.board_commits.specs.Tickets.{AreAllAsOf, AreOfTicket};
 ghost use Rattle.cache_board.specs.board_core.specs.Core.{IsSound};
 ghost use Rattle.cache_board.specs.board_core.specs.Going.{IsOneEvent};
 ghost use Rattle.cache_board.specs.board_threads.specs.Tests.{IsWanted};
@@ -93,17 +93,20 @@ pub fn commit_steps(
     ticket: &Ticket,
     quantum: &mut Quantum,
 ) -> Result<Committed, NoMemory>
-    requires views { AreOfTicket board.old.journal.entries ticket.now.thread quantum.now }
-    ensures committed { IfOk result (HasCommitted ticket.now quantum.now None board.old board.new) }
-    ensures fewer { IfOk result (AreFewer quantum.now.steps) }
-    ensures taken { IfOk result (λ committed. board.old.steps + taken_by committed quantum.now.steps ≤ board.new.steps) }
+    requires views { AreOfTicket board.old.journal.entries ticket.now.thread quantum.old }
+    ensures committed { IfOk result (HasCommitted ticket.now quantum.old None board.old board.new) }
+    ensures fewer { IfOk result (AreFewer quantum.old.steps) }
+    ensures taken { IfOk result (λ committed. board.old.steps + taken_by committed quantum.old.steps ≤ board.new.steps) }
     ensures event { IsOneEvent ticket.now.cpu board.old board.new }
+    ensures kept { AreAllAsOf board.new.journal.entries quantum.new }
 {
     // Fewer steps are left than these where they are too many.
     let _steps = quantum.steps();
     match board.commit(ticket, quantum) {
-        Ok(_) => {
-            quantum.happened(board.journal().len());
+        Ok(steps) => {
+            if steps > 0 {
+                quantum.happened(board.journal().len());
+            }
             Ok(Committed::Taken(None))
         }
         Err(Refused::Over { left }) if left > 0 => Ok(Committed::TooMany(left as u32)),
@@ -125,12 +128,13 @@ pub(crate) fn commit(
     want_first: Option<bool>,
 ) -> Result<Committed, NoMemory>
     requires own { ticket.now.cpu ≡ 0 }
-    requires views { AreOfTicket board.old.journal.entries ticket.now.thread quantum.now }
-    ensures committed { IfOk result (HasCommitted ticket.now quantum.now want_first board.old board.new) }
+    requires views { AreOfTicket board.old.journal.entries ticket.now.thread quantum.old }
+    ensures committed { IfOk result (HasCommitted ticket.now quantum.old want_first board.old board.new) }
     ensures so { IfOk result (λ committed. IfSome (found_by committed) (IsSoAlone board.new)) }
-    ensures fewer { IfOk result (AreFewer quantum.now.steps) }
-    ensures taken { IfOk result (λ committed. board.old.steps + taken_by committed quantum.now.steps ≤ board.new.steps) }
+    ensures fewer { IfOk result (AreFewer quantum.old.steps) }
+    ensures taken { IfOk result (λ committed. board.old.steps + taken_by committed quantum.old.steps ≤ board.new.steps) }
     ensures event { IsOneEvent 0 board.old board.new }
+    ensures kept { AreAllAsOf board.new.journal.entries quantum.new }
 {
     match commit_steps(board, ticket, quantum)? {
         Committed::Taken(_) => Ok(Committed::Taken(look_if(board, want_first))),

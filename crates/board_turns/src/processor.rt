@@ -71,7 +71,7 @@ pub trait Processor: Port {
         ensures continued { continues self.old self.new };
 
     /// Makes the steps of the quantum happen, and gives the thread back, but where they are too many; and then looks for the next
-    /// thread in the given order, if one is given.
+    /// thread in the given order, if one is given. A quantum whose steps happened keeps what they left of the pages.
     fn commit(
         &mut self,
         ticket: &Ticket,
@@ -79,10 +79,11 @@ pub trait Processor: Port {
         look: Option<bool>,
     ) -> Result<Committed, NoMemory>
         requires own { is_so self.old (Found.Out ticket.now) }
-        requires views { AreOfTicket (seen self.old) ticket.now.thread quantum.now }
-        ensures told { OnTold (Self.board self.old) (Self.board self.new) (λ old new. IfOk result (HasCommitted ticket.now quantum.now look old new)) }
+        requires views { AreOfTicket (seen self.old) ticket.now.thread quantum.old }
+        ensures told { OnTold (Self.board self.old) (Self.board self.new) (λ old new. IfOk result (HasCommitted ticket.now quantum.old look old new)) }
         ensures so { IfOk result (λ committed. IfSome (found_by committed) (is_so self.new)) }
-        ensures fewer { IfOk result (AreFewer quantum.now.steps) }
+        ensures fewer { IfOk result (AreFewer quantum.old.steps) }
+        ensures kept { AreAllAsOf (seen self.new) quantum.new }
         ensures continued { continues self.old self.new };
 
     /// Gives the ticket's thread back, where there is a ticket, and heals the next step of a thread.

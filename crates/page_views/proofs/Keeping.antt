@@ -16,7 +16,7 @@ use Rattle.cache_ident.specs.declared.names.Vpn.{Vpn}
 use Rattle.phys_groups.specs.declared.rows.Flags.{Flags}
 use Rattle.page_views.specs.declared.page.Origin.{Origin}
 use Rattle.page_views.specs.Origins.{viewed}
-use Rattle.page_views.specs.Views.{all_dated, as_happened, dated, filled, is_touched_of, nothing_kept, present_in, table_of, with_filled, AreKept, Dated, IsExchanged, IsKeptSince, IsRefilled, IsReordered, IsSlotSince, Table, View}
+use Rattle.page_views.specs.Views.{all_dated, as_happened, dated, filled, is_touched_of, nothing_kept, present_in, table_of, with_filled, AreKept, Dated, IsExchanged, IsKeptSince, IsRefilled, IsReordered, IsSlotSince, HaveOneViewAPage, IsTable, Table, View}
 use Rattle.page_views.proofs.Indexing.{view_there}
 
 -- what the slots keep, once none of them is a view
@@ -95,6 +95,18 @@ module _ (count slot : ℕ) (slots mid : List View) (ex : IsExchanged count slot
   -- what is kept is so still
   pub still_kept : AreKept (map dated (drop count slots)) (map dated (drop count mid))
   still_kept o there = Contains-permutation (map dated (drop count mid)) (map dated (drop count slots)) o (IsPermutation-sym (map dated (drop count slots)) (map dated (drop count mid)) (IsPermutation-map dated (drop count slots) (drop count mid) ex.others)) there
+
+  -- it is a table still
+  pub table_exchanged : (most : ℕ) → IsTable most slots count → IsTable most mid count
+  table_exchanged most table =
+      let size = ex.size in
+      let within = table.within in
+      record {
+        bounded = table.bounded;
+        all = size ∙ table.all;
+        within = omega (arith, size, within);
+        one_a_page = subst HaveOneViewAPage (sym ex.views) table.one_a_page;
+      }
 
   pub reordered : (most : ℕ) (written : List View) → written ≡ mid → (t : Table) → table_of most count slots ≡ t → IsReordered t (table_of most count written)
   reordered most written same t is =

@@ -401,13 +401,7 @@ fn exchange(views: &mut [PageView], slots: &mut LastSlots, count: usize, slot: u
 }
 
 // The place as of which a slot behind the first `count` has a frame's bytes, where it isn't before `since`.
-fn kept_in(
-    views: &[PageView],
-    count: usize,
-    slot: usize,
-    frame: Frame,
-    since: u64,
-) -> Option<u64>
+fn kept_in(views: &[PageView], count: usize, slot: usize, frame: Frame, since: u64) -> Option<u64>
     ensures { IfSome result (IsSlotSince views.now count slot frame since) }
 {
     if slot < count || views.len() <= slot {

@@ -3,7 +3,7 @@
 ghost use Rattle.std.specs.Prelude.{◌≡◌, ◌<◌, IfOk, IfSome};
 ghost use mathlib.Core.List.{IsPrefix};
 ghost use Rattle.turn_lock.specs.Passes.{found_by, held_lock, holder_end, holder_first, lock_of, value_of};
-ghost use Rattle.alone_run.specs.board_commits.specs.Tickets.{AreOfTicket};
+ghost use Rattle.alone_run.specs.board_commits.specs.Tickets.{AreAllAsOf, AreOfTicket};
 ghost use Rattle.alone_run.specs.board_core.specs.Going.{IsOneEvent};
 ghost use Rattle.alone_run.specs.cache_board.specs.Events.{past_of};
 ghost use Rattle.alone_run.specs.board_turns.specs.Holds.{AreFewer};
@@ -69,10 +69,11 @@ pub(crate) fn commit(
     want_first: Option<bool>,
 ) -> Result<Committed, NoMemory>
     requires processor { ticket.now.cpu < 8 }
-    requires views { AreOfTicket board.old.journal.entries ticket.now.thread quantum.now }
+    requires views { AreOfTicket board.old.journal.entries ticket.now.thread quantum.old }
     ensures so { IfOk result (λ committed. IfSome (holds.found_by committed) (IsSoOf ticket.now.cpu limit board.new.journal.entries)) }
-    ensures fewer { IfOk result (AreFewer quantum.now.steps) }
+    ensures fewer { IfOk result (AreFewer quantum.old.steps) }
     ensures event { IsOneEvent ticket.now.cpu board.old board.new }
+    ensures kept { AreAllAsOf board.new.journal.entries quantum.new }
 {
     match commit_steps(board, ticket, quantum)? {
         Committed::Taken(_) => Ok(Committed::Taken(look_if(board, ticket.cpu, limit, want_first))),

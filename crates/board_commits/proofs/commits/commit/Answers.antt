@@ -21,4 +21,4 @@ pub returns-clause-committed : goal.returns-clause-committed
 returns-clause-committed c =
     let done = c.run.ensures in
     committed_before c.args.ticket.now c.args.quantum.now c.args.core.now c.make_entries.new.self c.run.new.self c.make_entries.ensures.only c.in_ok-no.no c.in_ok-no.ensures.may c.steps.ensures.local_run
-    done.entries done.loaded done.marks done.lasts done.steps done.sealed done.checkouts done.spare
+    done.entries done.loaded done.marks done.lasts done.steps done.sealed done.checkouts done.spare done.held

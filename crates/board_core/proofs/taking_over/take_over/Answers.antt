@@ -12,7 +12,7 @@ use Rattle.cached_machine.specs.quantum.specs.Ahead.{Ahead}
 use Rattle.cached_machine.specs.quantum.specs.LocalRun.{committed, status_by, touched_views, CouldRun}
 use Rattle.cached_machine.specs.shown_state.specs.Shown.{flat_thread}
 use Rattle.cached_machine.specs.Cached.{state_of, Cached}
-use Rattle.board_core.specs.Growth.{AreAsCopied, HoldAlike}
+use Rattle.board_core.specs.Growth.{AreAsCopied, AreHeld, HoldAlike}
 use Rattle.board_core.specs.Stamps.{AreStamped}
 use Rattle.board_core.proofs.ClearedLaws.{context_aligned}
 use Rattle.board_core.proofs.CommittedLaws.{here_then, taken_over, views_in_memory}
@@ -80,3 +80,10 @@ returns-clause-stamps c =
     let new = c.put_near.new.self in
     let same : new.memory ≡ mid.memory = sym (memory_shown new.machine new.memory new.held.contents) ∙ ap (λ (x : FlatState). x.memory) (put_state c) ∙ memory_shown mid.machine mid.memory mid.held.contents in
     subst (λ (m : List ℕ). AreStamped c.args.at c.args.machine.now.memory c.args.stamps.now.items m c.take_views.new.stamps.items) (sym same) c.take_views.ensures.stamps
+
+pub returns-clause-held : goal.returns-clause-held
+returns-clause-held c =
+    let mid = c.take_views.new.machine in
+    let new = c.put_near.new.self in
+    let same : new.memory ≡ mid.memory = sym (memory_shown new.machine new.memory new.held.contents) ∙ ap (λ (s : FlatState). s.memory) (put_state c) ∙ memory_shown mid.machine mid.memory mid.held.contents in
+    subst (λ (vs : List View). AreHeld new.memory (touched_views vs)) c.views.ensures.views (subst (λ (m : List ℕ). AreHeld m (touched_views c.views.result.now)) (sym same) c.take_views.ensures.held)

@@ -1,7 +1,10 @@
 -- Each view that was touched is taken over, and no other.
-use Rattle.std.proofs.Common.{ℕ, List, take, Contains, refl, ap, sym, ◌∙◌, subst, inl, arith}
+use Rattle.std.proofs.Common.{◌≡◌, ℕ, ◌+◌, List, take, Contains, refl, ap, sym, ◌∙◌, subst, inl, arith}
+use Rattle.std.proofs.lemmas.List.{take_all}
 use Rattle.std.proofs.lemmas.List.Elements.{Contains-get_or}
+use Rattle.phys_groups.specs.Memory.{page_at}
 use Rattle.run_journal.proofs.Others.{Contains-from_filter}
+use Rattle.board_ops.specs.flat_laws.proofs.Members.{contains_nothing}
 use Rattle.board_ops.specs.page_views.specs.Views.{View}
 use Rattle.cached_machine.specs.quantum.specs.LocalRun.{touched_views}
 use Rattle.cached_machine.specs.Aside.{aside_of}
@@ -9,7 +12,7 @@ use Rattle.cached_machine.specs.Cached.{state_of, Cached}
 use Rattle.board_core.specs.Growth.{with_all_views, with_view, AreInMemory, IsAsCopiedOrNow}
 use Rattle.board_core.specs.Stamps.{AreStamped}
 use Rattle.board_core.proofs.CommittedLaws.{one_view_more}
-use Rattle.board_core.proofs.TakingLaws.{have_places_then, held_later, kept_stamps, stamped_again, untouched_view}
+use Rattle.board_core.proofs.TakingLaws.{done_more, done_skipped, have_places_then, held_later, kept_stamps, stamped_again, untouched_view}
 use Rattle.board_core.proofs.taking_over.take_views.Goals as goal
 use Rattle.board_core.proofs.taking_over.take_views.Goals.{then-touched, else-touched}
 
@@ -28,7 +31,7 @@ take_view-requires-clause-found c =
     c.loop-view.invariant.held v (Contains-from_filter (λ (w : View). w.touched) c.args.views.now v within (sym c.touched.ensures ∙ c.if-touched.true))
 
 pub loop-view-init : goal.loop-view-init
-loop-view-init c = record { state = refl; rest = refl; held = λ v there. inl (c.requires.found v there); stamped = kept_stamps c.args.at _ _ _ refl }
+loop-view-init c = record { state = refl; rest = refl; held = λ v there. inl (c.requires.found v there); done = λ v there. absurd (contains_nothing v there); stamped = kept_stamps c.args.at _ _ _ refl }
 
 pub take_view-requires-clause-places : goal.take_view-requires-clause-places
 take_view-requires-clause-places c = have_places_then _ _ _ _ _ c.loop-view.invariant.stamped c.requires.places
@@ -47,6 +50,9 @@ loop-view-preserved c =
         held = subst (λ (m : Cached). (u : View) → Contains (touched_views c.args.views.now) u → IsAsCopiedOrNow m.memory u) (sym w.machine-is)
             (held_later (touched_views c.args.views.now) v c.loop-view.machine.memory w.take_view.new.machine.memory c.requires.alike
             (Contains-from_filter (λ (u : View). u.touched) c.args.views.now v within (sym c.touched.ensures ∙ w.if-touched.true)) in_memory w.take_view.ensures.bytes c.loop-view.invariant.held);
+        done = subst (λ (m : Cached). (u : View) → Contains (touched_views (take (c.loop-view.view-index + 1) c.args.views.now)) u → page_at m.memory u.frame ≡ u.present) (sym w.machine-is)
+            (done_more c.args.views.now c.loop-view.view-index v c.loop-view.machine.memory w.take_view.new.machine.memory c.loop-view-test.true c.view-item.is (sym c.touched.ensures ∙ w.if-touched.true) c.requires.alike
+            (Contains-from_filter (λ (u : View). u.touched) c.args.views.now v within (sym c.touched.ensures ∙ w.if-touched.true)) in_memory w.take_view.ensures.bytes c.loop-view.invariant.done);
         stamped = subst (λ (m : Cached). AreStamped c.args.at c.args.machine.now.memory c.args.stamps.now.items m.memory c.if-touched.stamps.items) (sym w.machine-is)
             (subst (λ (xs : List ℕ). AreStamped c.args.at c.args.machine.now.memory c.args.stamps.now.items w.take_view.new.machine.memory xs) (ap (λ x. x.items) (sym w.stamps-is))
             (stamped_again c.args.at _ _ _ _ _ _ c.loop-view.invariant.stamped w.take_view.ensures.stamps));
@@ -55,7 +61,16 @@ loop-view-preserved c =
         state = ap state_of w.machine-is ∙ c.loop-view.invariant.state ∙ sym (more ∙ untouched_view c.args.space (with_all_views c.args.space (state_of c.args.machine.now) (take c.loop-view.view-index c.args.views.now)) v (sym c.touched.ensures ∙ w.if-touched.false));
         rest = ap aside_of w.machine-is ∙ c.loop-view.invariant.rest;
         held = subst (λ (m : Cached). (u : View) → Contains (touched_views c.args.views.now) u → IsAsCopiedOrNow m.memory u) (sym w.machine-is) c.loop-view.invariant.held;
+        done = subst (λ (m : Cached). (u : View) → Contains (touched_views (take (c.loop-view.view-index + 1) c.args.views.now)) u → page_at m.memory u.frame ≡ u.present) (sym w.machine-is)
+            (subst (λ (vs : List View). (u : View) → Contains vs u → page_at c.loop-view.machine.memory u.frame ≡ u.present) (sym (done_skipped c.args.views.now c.loop-view.view-index v c.loop-view-test.true c.view-item.is (sym c.touched.ensures ∙ w.if-touched.false))) c.loop-view.invariant.done);
         stamped = subst (λ (m : Cached). AreStamped c.args.at c.args.machine.now.memory c.args.stamps.now.items m.memory c.if-touched.stamps.items) (sym w.machine-is)
             (subst (λ (xs : List ℕ). AreStamped c.args.at c.args.machine.now.memory c.args.stamps.now.items c.loop-view.machine.memory xs) (ap (λ x. x.items) (sym w.stamps-is)) c.loop-view.invariant.stamped);
       }
     ]
+
+pub returns-clause-held : goal.returns-clause-held
+returns-clause-held c = λ v there.
+    let low = c.requires.frames v there in
+    let size = c.loop-view.invariant.stamped.size in
+    let all = take_all c.loop-view.view-index c.args.views.now (omega (arith, c.loop-view-test.false)) in
+    (omega arith, c.loop-view.invariant.done v (subst (λ (vs : List View). Contains (touched_views vs) v) (sym all) there))
