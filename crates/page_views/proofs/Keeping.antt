@@ -1,9 +1,10 @@
 -- What is kept behind the views.
-use Rattle.std.proofs.Common.{◌≡◌, ℕ, zero, suc, ◌+◌, ◌-◌, ◌<◌, ◌≤◌, List, [], ◌∷◌, ◌++◌, map, length, take, drop, set, slice_get, Contains, Option, Some, None, find, refl, ap, ap₂, sym, ◌∙◌, subst, arith, drop-drop, length-append, length-drop, take-append-drop}
-use Rattle.std.specs.Prelude.{replicate}
+use Rattle.std.proofs.Common.{◌≡◌, ℕ, zero, suc, ◌+◌, ◌-◌, ◌<◌, ◌≤◌, List, [], ◌∷◌, ◌++◌, map, length, take, drop, set, slice_get, Contains, true, Option, Some, None, find, refl, ap, ap₂, sym, ◌∙◌, subst, arith, drop-drop, length-append, length-drop, take-append-drop}
+use Rattle.std.specs.Prelude.{nat_le, replicate, ◌==◌}
 use Rattle.std.specs.List.{swap}
 use Rattle.std.specs.List.Sorted.{IsPermutation}
 use Rattle.std.specs.Option.{option_map}
+use Rattle.std.proofs.lemmas.Bool.{and_parts, eqb-true, leb-true}
 use Rattle.std.proofs.lemmas.Grind.{replicate_next}
 use Rattle.std.proofs.lemmas.List.{drop-set-lt, length-take-le, map-append, take-append-le, take_all, take_more_set}
 use Rattle.std.proofs.lemmas.List.Edits.{swapped_from_swap}
@@ -14,9 +15,8 @@ use Rattle.cache_ident.specs.declared.idents.Ident.{Ident}
 use Rattle.cache_ident.specs.declared.names.Frame.{Frame}
 use Rattle.cache_ident.specs.declared.names.Vpn.{Vpn}
 use Rattle.phys_groups.specs.declared.rows.Flags.{Flags}
-use Rattle.page_views.specs.declared.page.Origin.{Origin}
 use Rattle.page_views.specs.Origins.{viewed}
-use Rattle.page_views.specs.Views.{all_dated, as_happened, dated, filled, is_touched_of, nothing_kept, present_in, table_of, with_filled, AreKept, Dated, IsExchanged, IsKeptSince, IsRefilled, IsReordered, IsSlotSince, HaveOneViewAPage, IsTable, Table, View}
+use Rattle.page_views.specs.Views.{all_dated, as_happened, dated, filled, is_since, is_touched_of, nothing_kept, present_in, table_of, with_filled, AreKept, Dated, IsExchanged, IsKeptSince, IsRefilled, IsReordered, IsSlotSince, HaveOneViewAPage, IsTable, Table, View}
 use Rattle.page_views.proofs.Indexing.{view_there}
 
 -- what the slots keep, once none of them is a view
@@ -91,6 +91,22 @@ exchanged count slot slots front back after behind within fronts backs is permut
       others = subst (λ (xs : List View). IsPermutation (drop count slots) xs) (sym (ap (λ (n : ℕ). drop n (front ++ after)) (sym front_size) ∙ drop-append_seam front after)) (subst (λ (xs : List View). IsPermutation xs after) backs permuted);
     }
 
+-- the place that bytes carry which are the frame's as of a place or a later one
+pub record IsDatedSince (frame : Frame) (since : ℕ) (v : View) : Type 0 where
+  pub place : ℕ
+  pub taken : v.taken ≡ Some place
+  pub of : v.frame ≡ frame
+  pub late : since ≤ place
+
+dated_since : (frame : Frame) (since : ℕ) (v : View) → is_since frame since (dated v) ≡ true → IsDatedSince frame since v
+dated_since frame since v is = by v.taken refl is
+  where
+    by : (o : Option ℕ) → v.taken ≡ o → is_since frame since (option_map (λ n. record { frame = v.frame; bytes = v.first; place = n }) o) ≡ true → IsDatedSince frame since v
+    by None taken is = absurd (cc)
+    by (Some p) taken is =
+        let parts = and_parts (v.frame.0 == frame.0) (nat_le since p) is in
+        record { place = p; taken = taken; of = ap (λ (n : ℕ). let f : Frame = record { 0 = n } in f) (eqb-true v.frame.0 frame.0 parts.0); late = leb-true since p parts.1 }
+
 module _ (count slot : ℕ) (slots mid : List View) (ex : IsExchanged count slot slots mid) where
   -- what is kept is so still
   pub still_kept : AreKept (map dated (drop count slots)) (map dated (drop count mid))
@@ -113,40 +129,41 @@ module _ (count slot : ℕ) (slots mid : List View) (ex : IsExchanged count slot
       subst (λ (u : Table). IsReordered u (table_of most count written)) is
       (subst (λ (ws : List View). IsReordered (table_of most count slots) (table_of most count ws)) (sym same) (record { views = ex.views; most = refl; kept = still_kept }))
 
-  module _ (vpn : Vpn) (frame : Frame) (flags : Flags) (row : Ident) (since place : ℕ) (at : IsSlotSince slots count slot frame since place) where
-    abbrev origin : Origin
-    origin = record { vpn = vpn; frame = frame; flags = flags; row = row; taken = Some place }
-
+  module _ (vpn : Vpn) (frame : Frame) (flags : Flags) (row : Ident) (since : ℕ) (at : IsSlotSince slots count frame since slot) where
     -- the view that it becomes
     abbrev pub again : View
-    again = viewed origin at.view.first at.view.first
+    again = viewed (record { vpn = vpn; frame = frame; flags = flags; row = row; taken = at.view.taken }) at.view.first at.view.first
 
     pub at_count : slice_get mid count ≡ Some at.view
     at_count = ex.there ∙ at.there
 
-    abbrev pub its : Dated
-    its = record { frame = frame; bytes = at.view.first; place = place }
+    abbrev its : IsDatedSince frame since at.view
+    its = dated_since frame since at.view at.is
 
-    dated_is : dated at.view ≡ Some its
+    abbrev kept_bytes : Dated
+    kept_bytes = record { frame = frame; bytes = at.view.first; place = its.place }
+
+    dated_is : dated at.view ≡ Some kept_bytes
     dated_is =
-        ap (option_map (λ n. record { frame = at.view.frame; bytes = at.view.first; place = n })) at.taken
-        ∙ ap (λ (f : Frame). let d : Dated = record { frame = f; bytes = at.view.first; place = place } in Some d) at.of
+        ap (option_map (λ n. record { frame = at.view.frame; bytes = at.view.first; place = n })) its.taken
+        ∙ ap (λ (f : Frame). let d : Dated = record { frame = f; bytes = at.view.first; place = its.place } in Some d) its.of
 
-    was : IsKeptSince (map dated (drop count slots)) frame since its
+    was : IsKeptSince (map dated (drop count slots)) frame since kept_bytes
     was = record {
       there = subst (Contains (map dated (drop count slots))) dated_is (still_kept (dated at.view) (from_there count mid at.view at_count));
       of = refl;
-      late = at.late;
+      late = its.late;
     }
 
     pub refilled : (most : ℕ) → count < length mid → find (is_touched_of frame) (take count slots) ≡ None → IsRefilled vpn frame flags row since (table_of most count slots) (table_of most (count + 1) (set mid count again))
     refilled most below untouched =
         let more : table_of most (count + 1) (set mid count again) ≡ with_filled (table_of most count mid) again = table_with most count mid again below in
+        let is_filled : again ≡ filled (take count slots) vpn frame flags row at.view.first (Some its.place) =
+        ap₂ (λ (o : Option ℕ) (bytes : List ℕ). record again { taken = o; present = bytes }) its.taken (ap (λ (o : Option View). present_in o at.view.first) (sym untouched)) in
         record {
-          d = its;
+          d = kept_bytes;
           was = was;
-          views = ap (λ (t : Table). t.views) more ∙ ap₂ (λ (vs : List View) (bytes : List ℕ). vs ++ (record again { present = bytes }) ∷ []) ex.views
-              (ap (λ (o : Option View). present_in o at.view.first) (sym untouched));
+          views = ap (λ (t : Table). t.views) more ∙ ap₂ (λ (vs : List View) (v : View). vs ++ v ∷ []) ex.views is_filled;
           most = refl;
           kept = λ o there. still_kept o (behind_first (map dated (drop count mid)) o (subst (λ (ks : List (Option Dated)). Contains ks o) (ap (λ (t : Table). t.kept) more) there));
         }

@@ -1,5 +1,5 @@
 -- Copied pages: what one is, and the pages that a step sees in them.
-use Rattle.std.specs.Prelude.{◌≡◌, ◌≢◌, ℕ, ◌/◌, ◌<◌, ◌≤◌, Bool, true, false, ◌&&◌, ◌||◌, ◌==◌, if◌then◌else◌, List, [], ◌∷◌, ◌++◌, map, find, length, take, drop, replicate, slice_get, Contains, Option, Some, None, is_some, nat_lt, not}
+use Rattle.std.specs.Prelude.{◌≡◌, ◌≢◌, ℕ, ◌/◌, ◌<◌, ◌≤◌, Bool, true, false, ◌&&◌, ◌||◌, ◌==◌, if◌then◌else◌, List, [], ◌∷◌, ◌++◌, map, find, length, take, drop, replicate, slice_get, Contains, Option, Some, None, is_some, nat_le, nat_lt, not}
 use Rattle.std.specs.Option.{option_map}
 use Rattle.std.specs.List.{AllPairs}
 use Rattle.std.specs.List.Sorted.{IsPermutation}
@@ -136,6 +136,15 @@ with_filled t v = record t { views = t.views ++ v ∷ []; kept = drop 1 t.kept }
 abbrev pub AreKept : List (Option Dated) → List (Option Dated) → Type 0
 AreKept before after = (o : Option Dated) → Contains after o → Contains before o
 
+-- the bytes are those of the frame as of the place or a later one
+abbrev pub is_since : Frame → ℕ → Option Dated → Bool
+is_since frame since None = false
+is_since frame since (Some d) = (d.frame.0 == frame.0) && nat_le since d.place
+
+-- such bytes are kept, and no view of the frame was touched
+abbrev pub can_refill : List View → List (Option Dated) → Frame → ℕ → Bool
+can_refill vs kept frame since = not (is_some (find (is_touched_of frame) vs)) && is_some (find (is_since frame since) kept)
+
 -- these bytes of the frame are kept, as of the place or a later one
 pub record IsKeptSince (kept : List (Option Dated)) (frame : Frame) (since : ℕ) (d : Dated) : Type 0 where
   pub there : Contains kept (Some d)
@@ -200,14 +209,12 @@ pub record IsExchanged (count slot : ℕ) (old new : List View) : Type 0 where
   pub there : slice_get new count ≡ slice_get old slot
   pub others : IsPermutation (drop count old) (drop count new)
 
--- a slot behind the first so many is of the frame, and keeps its bytes as of this place, which isn't before the other
-pub record IsSlotSince (slots : List View) (count slot : ℕ) (frame : Frame) (since place : ℕ) : Type 0 where
+-- a slot behind the first so many keeps bytes of the frame as of the place or a later one
+pub record IsSlotSince (slots : List View) (count : ℕ) (frame : Frame) (since slot : ℕ) : Type 0 where
   pub behind : count ≤ slot
   pub view : View
   pub there : slice_get slots slot ≡ Some view
-  pub of : view.frame ≡ frame
-  pub taken : view.taken ≡ Some place
-  pub late : since ≤ place
+  pub is : is_since frame since (dated view) ≡ true
 
 abbrev pub where_flagged : Access → Option View → Option View
 where_flagged access None = None

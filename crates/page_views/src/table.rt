@@ -1,6 +1,6 @@
 //! Copied pages.
 
-ghost use Rattle.std.specs.Prelude.{◌≡◌, ◌+◌, ◌/◌, ◌<◌, ◌≤◌, [], ◌++◌, length, map, find, take, drop, replicate, slice_get, slice_set, Some, None, is_some, IfOk, IfSome, IsTrue};
+ghost use Rattle.std.specs.Prelude.{◌≡◌, ◌+◌, ◌/◌, ◌<◌, ◌≤◌, [], ◌++◌, length, map, find, take, drop, replicate, slice_get, slice_set, Some, None, is_some, IfNone, IfOk, IfSome, IsTrue};
 ghost use Rattle.std.specs.Bool.{OnFalse, OnTrue};
 ghost use Rattle.std.specs.List.{position};
 ghost use Rattle.std.specs.Option.{option_copied};
@@ -8,7 +8,7 @@ ghost use Rattle.rv32_exec.specs.Pages.{size_of};
 ghost use Rattle.page_views.specs.Lines.{seen_at};
 ghost use Rattle.page_views.specs.Origins.{viewed, viewed_beside};
 ghost use Rattle.page_views.specs.Spots.{noted_if};
-ghost use Rattle.page_views.specs.Views.{all_dated, as_happened, can_fill as can_fill_def, dated, filled, has_message as has_message_def, is_of_frame, is_of_page, is_touched_of, mark_view_of, nothing_kept, put_in_view, view_through, where_flagged, with_filled, HaveOneViewAPage, IsExchanged, IsRefilled, IsReordered, IsSlotSince, View};
+ghost use Rattle.page_views.specs.Views.{all_dated, as_happened, can_fill as can_fill_def, can_refill, dated, filled, has_message as has_message_def, is_of_frame, is_of_page, is_since as is_since_def, is_touched_of, mark_view_of, nothing_kept, put_in_view, view_through, where_flagged, with_filled, HaveOneViewAPage, IsExchanged, IsRefilled, IsReordered, IsSlotSince, View};
 
 use crate::index::Index;
 use crate::page::{Origin, PageView};
@@ -171,11 +171,12 @@ impl PageViews {
         self.index.add(&origin, shared);
     }
 
-    /// Adds an untouched view of a page, where its page is found among what is kept, with the bytes of the frame as of the place `since`
-    /// of a journal, or a later one; and answers whether it did. Not found is a page once a view of the frame was touched. Only what
-    /// was stored to what is kept is copied.
+    /// Adds an untouched view of a page, where bytes of its frame are kept as of the place `since` of a journal, or a later one, and no
+    /// view of the frame was touched; and answers whether it did. It takes constant time where the page was a view of late, and else a
+    /// look at all that is kept. Only what was stored to what is kept is copied.
     pub fn refill(&mut self, vpn: Vpn, frame: Frame, flags: Flags, row: Ident, since: u64) -> bool
         requires room { IsTrue (can_fill_def self.old.most self.old.views vpn) }
+        ensures answer { result ≡ can_refill self.old.views self.old.kept frame since }
         ensures refilled { OnTrue result (IsRefilled vpn frame flags row since self.old self.new) }
         ensures not { OnFalse result (IsReordered self.old self.new) }
     {
@@ -184,8 +185,8 @@ impl PageViews {
             return false;
         }
         let count = self.index.count;
-        let slot = self.slots.slot(vpn);
-        let Some(place) = kept_in(&self.views, count, slot, frame, since) else {
+        let near = self.slots.slot(vpn);
+        let Some(slot) = slot_since(&self.views, count, near, frame, since) else {
             self.make_way();
             return false;
         };
@@ -194,7 +195,7 @@ impl PageViews {
             frame,
             flags,
             row,
-            taken: Some(place),
+            taken: self.views[slot].taken(),
         };
         exchange(&mut self.views, &mut self.slots, count, slot);
         recall_at(&mut self.views, count, origin);
@@ -400,14 +401,31 @@ fn exchange(views: &mut [PageView], slots: &mut LastSlots, count: usize, slot: u
     behind.swap(0, slot - count);
 }
 
-// The place as of which a slot behind the first `count` has a frame's bytes, where it isn't before `since`.
-fn kept_in(views: &[PageView], count: usize, slot: usize, frame: Frame, since: u64) -> Option<u64>
-    ensures { IfSome result (IsSlotSince views.now count slot frame since) }
+// A slot behind the first `count` that keeps a frame's bytes as of `since` or later. That is `near`, where it keeps such.
+fn slot_since(
+    views: &[PageView],
+    count: usize,
+    near: usize,
+    frame: Frame,
+    since: u64,
+) -> Option<usize>
+    requires { count ≤ length views.now }
+    ensures found { IfSome result (IsSlotSince views.now count frame since) }
+    ensures none { IfNone result (find (is_since_def frame since) (map dated (drop count views.now)) ≡ None) }
 {
-    if slot < count || views.len() <= slot {
-        return None;
+    if count <= near && near < views.len() && is_since(&views[near], frame, since) {
+        return Some(near);
     }
-    place_since(&views[slot], frame, since)
+    let behind = place_since(&views[count..], frame, since)?;
+    Some(count + behind)
+}
+
+// The first slot that keeps such.
+fn place_since(views: &[PageView], frame: Frame, since: u64) -> Option<usize>
+    ensures place { result ≡ position (λ v. is_since_def frame since (dated v)) views.now }
+    ensures within { IfSome result (λ place. place < length views.now) }
+{
+    views.iter().position(|view| is_since(view, frame, since))
 }
 
 // Makes a view of what a slot was copied from.
@@ -418,31 +436,13 @@ fn recall_at(views: &mut [PageView], at: usize, origin: Origin)
     views[at].recall(origin);
 }
 
-// The place as of which a slot has a frame's bytes, where it isn't before `since`.
-fn place_since(view: &PageView, frame: Frame, since: u64) -> Option<u64>
-    ensures { IfSome result (λ place. (view.now.frame ≡ frame) × (view.now.taken ≡ Some place) × (since ≤ place)) }
+// Whether a slot keeps a frame's bytes as of `since` or later.
+fn is_since(view: &PageView, frame: Frame, since: u64) -> bool
+    ensures { result ≡ is_since_def frame since (dated view.now) }
 {
     match view.taken() {
-        Some(place) if view.frame() == frame && since <= place => Some(place),
-        _ => None,
-    }
-}
-
-// Of the first `count` each touched view is from now on copied from what it holds, as of a place.
-fn happen_each(views: &mut [PageView], count: usize, place: u64)
-    requires { count ≤ length views.old }
-    ensures { views.new ≡ map (as_happened place) (take count views.old) ++ drop count views.old }
-{
-    for i in 0..count {
-        happen_if(&mut views[i], place);
-    }
-}
-
-fn happen_if(view: &mut PageView, place: u64)
-    ensures { view.new ≡ as_happened place view.old }
-{
-    if view.touched() {
-        view.happen(place);
+        Some(place) => view.frame() == frame && since <= place,
+        None => false,
     }
 }
 

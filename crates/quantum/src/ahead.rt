@@ -2,7 +2,7 @@
 
 ghost use Rattle.std.specs.Prelude.{◌≡◌, ◌+◌, ◌%◌, ◌^◌, ◌<◌, ◌≤◌, None, Some, is_some, length, IfOk, IfSome, IsTrue};
 ghost use Rattle.std.specs.Bool.{OnFalse, OnTrue};
-ghost use Rattle.page_views.specs.Views.{can_fill, filled, pages_of_views, HaveOneViewAPage};
+ghost use Rattle.page_views.specs.Views.{can_fill, can_refill, filled, pages_of_views, HaveOneViewAPage};
 ghost use Rattle.rv32_exec.specs.Steps.{after_step, OnMiss};
 ghost use Rattle.flat_laws.specs.flat_state.specs.Signals.{next_action};
 ghost use Rattle.quantum.specs.Ahead.{advanced, answer_of, begun, happened, more_with, pause_after as pause_after_def, pause_before, is_signal as is_signal_def, signal_store as signal_store_def, signals_by, standing as standing_def, store_by, unbegun, views_with, HasGone, HasRefilled, HasReordered, HasSameCopies, IsRun, IsStoreAhead};
@@ -117,11 +117,11 @@ impl Quantum {
         self.views.fill_as_of(vpn, frame, flags, row, bytes, place);
     }
 
-    /// Adds an untouched view of a page, where its page is found among what is kept, with the bytes of the frame as of the place `since`
-    /// of a journal, or a later one; and answers whether it did. Not found is a page once a view of the frame was touched. So pages
-    /// that are gone over again and again aren't copied again.
+    /// Adds an untouched view of a page, where bytes of its frame are kept as of the place `since` of a journal, or a later one, and no
+    /// view of the frame was touched; and answers whether it did. So pages that are gone over again and again aren't copied again.
     pub fn refill(&mut self, vpn: Vpn, frame: Frame, flags: Flags, row: Ident, since: u64) -> bool
         requires room { IsTrue (can_fill self.old.most self.old.views vpn) }
+        ensures answer { result ≡ can_refill self.old.views self.old.kept frame since }
         ensures refilled { OnTrue result (HasRefilled vpn frame flags row since self.old self.new) }
         ensures not { OnFalse result (HasReordered self.old self.new) }
     {

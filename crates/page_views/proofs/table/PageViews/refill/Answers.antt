@@ -14,30 +14,30 @@ use Rattle.page_views.proofs.Tables.{table_filled, written_over}
 use Rattle.page_views.proofs.table.PageViews.refill.Goals as goal
 
 pub exchange-requires-clause-behind : goal.exchange-requires-clause-behind
-exchange-requires-clause-behind c = c.in-Some.ensures.behind
+exchange-requires-clause-behind c = c.in-Some.ensures.found.behind
 
 pub exchange-requires-clause-within : goal.exchange-requires-clause-within
 exchange-requires-clause-within c =
-    let at : IsSlotSince c.self.inside.views.items c.self.inside.index.count c.slot.result c.args.frame c.args.since c.in-Some.place = rw c.deref.ensures.value at c.in-Some.ensures in
-    omega (arith, slice_get_within c.self.inside.views.items c.slot.result at.view at.there, ap length c.deref_mut.ensures.value)
+    let at : IsSlotSince c.self.inside.views.items c.self.inside.index.count c.args.frame c.args.since c.in-Some.slot = rw c.deref.ensures.value at c.in-Some.ensures.found in
+    omega (arith, slice_get_within c.self.inside.views.items c.in-Some.slot at.view at.there, ap length c.deref_mut.ensures.value)
 
 pub recall_at-requires : goal.recall_at-requires
 recall_at-requires c =
     let q = c.self.inside in
-    let at : IsSlotSince q.views.items q.index.count c.slot.result c.args.frame c.args.since c.in-Some.place = rw c.deref.ensures.value at c.in-Some.ensures in
-    let ex : IsExchanged q.index.count c.slot.result q.views.items c.exchange.new.views = rw c.deref_mut.ensures.value at c.exchange.ensures in
-    slice_get_within c.exchange.new.views q.index.count at.view (at_count q.index.count c.slot.result q.views.items c.exchange.new.views ex c.args.vpn c.args.frame c.args.flags c.args.row c.args.since c.in-Some.place at)
+    let at : IsSlotSince q.views.items q.index.count c.args.frame c.args.since c.in-Some.slot = rw c.deref.ensures.value at c.in-Some.ensures.found in
+    let ex : IsExchanged q.index.count c.in-Some.slot q.views.items c.exchange.new.views = rw c.deref_mut.ensures.value at c.exchange.ensures in
+    slice_get_within c.exchange.new.views q.index.count at.view (at_count q.index.count c.in-Some.slot q.views.items c.exchange.new.views ex c.args.vpn c.args.frame c.args.flags c.args.row c.args.since at)
 
 -- the slots once one was recalled
-became : (c : goal.After-recall_at) (at : IsSlotSince c.self.inside.views.items c.self.inside.index.count c.slot.result c.args.frame c.args.since c.in-Some.place)
-    (ex : IsExchanged c.self.inside.index.count c.slot.result c.self.inside.views.items c.exchange.new.views)
-    → c.recall_at.new.views ≡ set c.exchange.new.views c.self.inside.index.count (again c.self.inside.index.count c.slot.result c.self.inside.views.items c.exchange.new.views ex c.args.vpn c.args.frame c.args.flags c.args.row c.args.since c.in-Some.place at)
+became : (c : goal.After-recall_at) (at : IsSlotSince c.self.inside.views.items c.self.inside.index.count c.args.frame c.args.since c.in-Some.slot)
+    (ex : IsExchanged c.self.inside.index.count c.in-Some.slot c.self.inside.views.items c.exchange.new.views)
+    → c.recall_at.new.views ≡ set c.exchange.new.views c.self.inside.index.count (again c.self.inside.index.count c.in-Some.slot c.self.inside.views.items c.exchange.new.views ex c.args.vpn c.args.frame c.args.flags c.args.row c.args.since at)
 became c at ex =
     let q = c.self.inside in
     let n = q.index.count in
     let mid = c.exchange.new.views in
     let whole = written_over q.views.len q.views.items mid q.views.ok.0 ex.size in
-    (rw (c.deref_mut-2.ensures.value, whole) at c.recall_at.ensures) at.view (at_count n c.slot.result q.views.items mid ex c.args.vpn c.args.frame c.args.flags c.args.row c.args.since c.in-Some.place at)
+    (rw (c.deref_mut-2.ensures.value, whole) at c.recall_at.ensures) at.view (at_count n c.in-Some.slot q.views.items mid ex c.args.vpn c.args.frame c.args.flags c.args.row c.args.since at)
 
 -- no view of the frame was touched
 untouched : (c : goal.After-recall_at) → find (is_touched_of c.args.frame) (take c.self.inside.index.count c.self.inside.views.items) ≡ None
@@ -51,20 +51,20 @@ invariant_of-self c =
     let n = q.index.count in
     let slots = q.views.items in
     let mid = c.exchange.new.views in
-    let at : IsSlotSince slots n c.slot.result c.args.frame c.args.since c.in-Some.place = rw c.deref.ensures.value at c.in-Some.ensures in
-    let ex : IsExchanged n c.slot.result slots mid = rw c.deref_mut.ensures.value at c.exchange.ensures in
-    let v = again n c.slot.result slots mid ex c.args.vpn c.args.frame c.args.flags c.args.row c.args.since c.in-Some.place at in
+    let at : IsSlotSince slots n c.args.frame c.args.since c.in-Some.slot = rw c.deref.ensures.value at c.in-Some.ensures.found in
+    let ex : IsExchanged n c.in-Some.slot slots mid = rw c.deref_mut.ensures.value at c.exchange.ensures in
+    let v = again n c.in-Some.slot slots mid ex c.args.vpn c.args.frame c.args.flags c.args.row c.args.since at in
     let is = became c at ex in
     let whole = written_over q.views.len slots mid q.views.ok.0 ex.size in
     let length_is : q.views.len ≡ length mid = q.views.ok.0 ∙ sym ex.size in
-    let below = slice_get_within mid n at.view (at_count n c.slot.result slots mid ex c.args.vpn c.args.frame c.args.flags c.args.row c.args.since c.in-Some.place at) in
+    let below = slice_get_within mid n at.view (at_count n c.in-Some.slot slots mid ex c.args.vpn c.args.frame c.args.flags c.args.row c.args.since at) in
     let room = subst (λ (vs : List View). can_fill q.most vs c.args.vpn ≡ true) (sym ex.views) (rw (← c.self.view_is) at c.requires.room) in
     let shared = c.has_frame-shared.ensures ∙ ap (λ (vs : List View). is_some (find (is_of_frame c.args.frame) vs)) (sym (ap (λ (t : Table). t.views) c.self.view_is) ∙ sym ex.views) in
     let index = subst (λ (vs : List View). IsIndex vs q.index) (sym ex.views) c.self.invariant.1 in
     let marked = subst (λ (vs : List View). AreAllMarkedAt vs q.marked) (sym ex.views) c.self.invariant.2 in
     rw (c.add.ensures, whole) (
-      table_filled q.most q.views.len n mid c.recall_at.new.views v length_is below (table_exchanged n c.slot.result slots mid ex q.most c.self.invariant.0) room is,
-      index_filled q.views.len n mid c.recall_at.new.views v (record { vpn = c.args.vpn; frame = c.args.frame; flags = c.args.flags; row = c.args.row; taken = Some c.in-Some.place }) c.has_frame-shared.result q.index length_is below is refl refl refl shared index,
+      table_filled q.most q.views.len n mid c.recall_at.new.views v length_is below (table_exchanged n c.in-Some.slot slots mid ex q.most c.self.invariant.0) room is,
+      index_filled q.views.len n mid c.recall_at.new.views v (record { vpn = c.args.vpn; frame = c.args.frame; flags = c.args.flags; row = c.args.row; taken = at.view.taken }) c.has_frame-shared.result q.index length_is below is refl refl refl shared index,
       marked_filled q.views.len n mid c.recall_at.new.views v q.marked length_is below is marked,
     )
 
@@ -74,13 +74,13 @@ returns-clause-refilled c =
     let n = q.index.count in
     let slots = q.views.items in
     let mid = c.exchange.new.views in
-    let at : IsSlotSince slots n c.slot.result c.args.frame c.args.since c.in-Some.place = rw c.deref.ensures.value at c.in-Some.ensures in
-    let ex : IsExchanged n c.slot.result slots mid = rw c.deref_mut.ensures.value at c.exchange.ensures in
-    let v = again n c.slot.result slots mid ex c.args.vpn c.args.frame c.args.flags c.args.row c.args.since c.in-Some.place at in
+    let at : IsSlotSince slots n c.args.frame c.args.since c.in-Some.slot = rw c.deref.ensures.value at c.in-Some.ensures.found in
+    let ex : IsExchanged n c.in-Some.slot slots mid = rw c.deref_mut.ensures.value at c.exchange.ensures in
+    let v = again n c.in-Some.slot slots mid ex c.args.vpn c.args.frame c.args.flags c.args.row c.args.since at in
     let is = became c at ex in
     let size : length c.recall_at.new.views ≡ length mid = ap length is ∙ length-set mid n v in
     let whole = written_over q.views.len slots mid q.views.ok.0 ex.size in
-    let below = slice_get_within mid n at.view (at_count n c.slot.result slots mid ex c.args.vpn c.args.frame c.args.flags c.args.row c.args.since c.in-Some.place at) in
+    let below = slice_get_within mid n at.view (at_count n c.in-Some.slot slots mid ex c.args.vpn c.args.frame c.args.flags c.args.row c.args.since at) in
     let after = written_over q.views.len mid c.recall_at.new.views (q.views.ok.0 ∙ sym ex.size) size ∙ is in
     subst (λ (t : Table). IsRefilled c.args.vpn c.args.frame c.args.flags c.args.row c.args.since t (table_of q.most (n + 1) (set mid n v))) c.self.view_is
-    (refilled n c.slot.result slots mid ex c.args.vpn c.args.frame c.args.flags c.args.row c.args.since c.in-Some.place at q.most below (untouched c))
+    (refilled n c.in-Some.slot slots mid ex c.args.vpn c.args.frame c.args.flags c.args.row c.args.since at q.most below (untouched c))
