@@ -1,7 +1,7 @@
 -- What is kept behind the views.
-use Rattle.std.proofs.Common.{◌≡◌, ℕ, zero, suc, ◌+◌, ◌-◌, ◌<◌, ◌≤◌, List, [], ◌∷◌, ◌++◌, map, length, take, drop, set, slice_get, Contains, true, Option, Some, None, find, refl, ap, ap₂, sym, ◌∙◌, subst, arith, drop-drop, length-append, length-drop, take-append-drop}
+use Rattle.std.proofs.Common.{◌≡◌, ℕ, zero, suc, ◌+◌, ◌-◌, ◌<◌, ◌≤◌, List, [], ◌∷◌, ◌++◌, map, length, take, drop, set, slice_get, get_or, cond, Contains, Bool, true, false, Option, Some, None, is_some, find, refl, ap, ap₂, sym, ◌∙◌, subst, arith, drop-drop, length-append, length-drop, take-append-drop}
 use Rattle.std.specs.Prelude.{nat_le, replicate, ◌==◌}
-use Rattle.std.specs.List.{swap}
+use Rattle.std.specs.List.{position, swap}
 use Rattle.std.specs.List.Sorted.{IsPermutation}
 use Rattle.std.specs.Option.{option_map}
 use Rattle.std.proofs.lemmas.Bool.{and_parts, eqb-true, leb-true}
@@ -17,7 +17,9 @@ use Rattle.cache_ident.specs.declared.names.Vpn.{Vpn}
 use Rattle.phys_groups.specs.declared.rows.Flags.{Flags}
 use Rattle.page_views.specs.Origins.{viewed}
 use Rattle.page_views.specs.Views.{all_dated, as_happened, dated, filled, is_since, is_touched_of, nothing_kept, present_in, table_of, with_filled, AreKept, Dated, IsExchanged, IsKeptSince, IsRefilled, IsReordered, IsSlotSince, HaveOneViewAPage, IsTable, Table, View}
-use Rattle.page_views.proofs.Indexing.{view_there}
+use Rattle.flat_rules.specs.flat_state.proofs.Finding.{find-passes}
+use Rattle.page_views.specs.Lines.{seen_at}
+use Rattle.page_views.proofs.Indexing.{position_seen, view_there}
 
 -- what the slots keep, once none of them is a view
 pub all_slots : (most count : ℕ) (slots : List View) → map dated slots ≡ all_dated (table_of most count slots).views (table_of most count slots).kept
@@ -167,3 +169,53 @@ module _ (count slot : ℕ) (slots mid : List View) (ex : IsExchanged count slot
           most = refl;
           kept = λ o there. still_kept o (behind_first (map dated (drop count mid)) o (subst (λ (ks : List (Option Dated)). Contains ks o) (ap (λ (t : Table). t.kept) more) there));
         }
+
+-- ---- where a slot is found
+
+module _ (frame : Frame) (since : ℕ) where
+  abbrev keeps : View → Bool
+  keeps v = is_since frame since (dated v)
+
+  -- at a place that is looked at first
+  pub slot_near : (slots : List View) (count near : ℕ) (v : View) → count ≤ near → near < length slots → v ≡ get_or slots near v → keeps v ≡ true → IsSlotSince slots count frame since near
+  slot_near slots count near v behind within is passes = record { behind = behind; view = v; there = slice_get-get_or slots near v within ∙ ap (λ (w : View). Some w) (sym is); is = passes }
+
+  -- at the first one behind the views
+  pub slot_found : (slots : List View) (count i : ℕ) → position keeps (drop count slots) ≡ Some i → i < length (drop count slots) → IsSlotSince slots count frame since (count + i)
+  slot_found slots count i at within =
+      let there = view_there (drop count slots) i within in
+      let seen : slice_get (drop count slots) i ≡ find keeps (drop count slots) = ap (λ (o : Option ℕ). seen_at o (drop count slots)) (sym at) ∙ position_seen keeps (drop count slots) in
+      record {
+        behind = omega arith;
+        view = there.0;
+        there = sym (get_behind count slots i) ∙ there.1;
+        is = find-passes keeps (drop count slots) there.0 (sym seen ∙ there.1);
+      }
+
+  find_dated : (vs : List View) → find (is_since frame since) (map dated vs) ≡ option_map dated (find keeps vs)
+  find_dated [] = refl
+  find_dated (v ∷ vs) = by (keeps v) (find_dated vs)
+    where
+      by : (b : Bool) → find (is_since frame since) (map dated vs) ≡ option_map dated (find keeps vs) → cond b (Some (dated v)) (find (is_since frame since) (map dated vs)) ≡ option_map dated (cond b (Some v) (find keeps vs))
+      by true rest = refl
+      by false rest = rest
+
+  -- or nowhere
+  pub none_since : (vs : List View) → position keeps vs ≡ None → find (is_since frame since) (map dated vs) ≡ None
+  none_since vs none = find_dated vs ∙ ap (option_map dated) (sym (position_seen keeps vs) ∙ ap (λ (o : Option ℕ). seen_at o vs) none)
+
+  pub some_since : (slots : List View) (count slot : ℕ) → IsSlotSince slots count frame since slot → is_some (find (is_since frame since) (map dated (drop count slots))) ≡ true
+  some_since slots count slot at = ap is_some (find_dated (drop count slots)) ∙ option_some (find keeps (drop count slots)) ∙ among (drop count slots) (slot - count) (get_behind count slots (slot - count) ∙ ap (slice_get slots) (let behind = at.behind in omega arith) ∙ at.there)
+    where
+      option_some : (o : Option View) → is_some (option_map dated o) ≡ is_some o
+      option_some None = refl
+      option_some (Some v) = refl
+
+      among : (vs : List View) (i : ℕ) → slice_get vs i ≡ Some at.view → is_some (find keeps vs) ≡ true
+      among [] i is = absurd (cc)
+      among (v ∷ vs) zero is = let same : v ≡ at.view = cc in ap (λ (b : Bool). is_some (cond b (Some v) (find keeps vs))) (ap keeps same ∙ at.is)
+      among (v ∷ vs) (suc i) is = by (keeps v) (among vs i is)
+        where
+          by : (b : Bool) → is_some (find keeps vs) ≡ true → is_some (cond b (Some v) (find keeps vs)) ≡ true
+          by true rest = refl
+          by false rest = rest
