@@ -446,6 +446,24 @@ fn is_since(view: &PageView, frame: Frame, since: u64) -> bool
     }
 }
 
+// Of the first `count` each touched view is from now on copied from what it holds, as of a place.
+fn happen_each(views: &mut [PageView], count: usize, place: u64)
+    requires { count ≤ length views.old }
+    ensures { views.new ≡ map (as_happened place) (take count views.old) ++ drop count views.old }
+{
+    for i in 0..count {
+        happen_if(&mut views[i], place);
+    }
+}
+
+fn happen_if(view: &mut PageView, place: u64)
+    ensures { view.new ≡ as_happened place view.old }
+{
+    if view.touched() {
+        view.happen(place);
+    }
+}
+
 // Of no view do the bytes carry a place any more.
 fn forget_each(views: &mut [PageView])
     ensures { map dated views.new ≡ replicate (length views.old) None }
