@@ -1,18 +1,18 @@
 -- What the table of a list holds.
 use Rattle.std.proofs.Common.{◌≡◌, ◌≢◌, ℕ, zero, suc, ◌+◌, ◌<◌, ◌≤◌, List, [], ◌∷◌, ◌++◌, length, ◌⊎◌, inl, inr, refl, sym, ◌∙◌, ap, subst, arith, length-append, ◌^◌, take, drop, get_or, All, AllPairs}
-use Rattle.std.specs.Prelude.{slice_get, Some}
+use Rattle.std.specs.Prelude.{slice_get, slice_set, Some}
 use Rattle.std.proofs.Math.ListN.{get_or-append}
 use Rattle.std.proofs.Math.Seq.{get_or-append_seam}
-use Rattle.std.proofs.lemmas.List.{length_push, take_all, take-append-le}
+use Rattle.std.proofs.lemmas.List.{length-set, length_push, take_all, take-append-le}
 use Rattle.std.proofs.lemmas.List.Elements.{All-push}
 use Rattle.std.proofs.lemmas.List.Quantifiers.{all_pairs_push}
 use Rattle.sorted_list.specs.declared.nodes.Branch.{Branch}
 use Rattle.sorted_list.specs.declared.nodes.Node.{Node}
 use Rattle.sorted_list.specs.Fixed.{Fixed}
 use Rattle.sorted_list.specs.Layout.{items_at, items_down, items_of_node, IsSeated, IsSound}
-use Rattle.sorted_list.specs.Trees.{Tree, leaf, fork, items_of, seat_of, Becomes, HasSeat, Lies, Stands}
-use Rattle.sorted_list.proofs.EditLemmas.{get_before}
-use Rattle.sorted_list.proofs.TreeLemmas.{lies_on, seat_within}
+use Rattle.sorted_list.specs.Trees.{Tree, leaf, fork, alone, items_of, seat_of, Becomes, HasSeat, IsAlone, Lies, Stands}
+use Rattle.sorted_list.proofs.EditLemmas.{get_before, get_here}
+use Rattle.sorted_list.proofs.TreeLemmas.{get_set_other, get_set_same, lies_on, seat_within}
 
 pairs_front : (R : ℕ → ℕ → Type 0) (xs : List ℕ) (x : ℕ) → AllPairs R (xs ++ x ∷ []) → AllPairs R xs
 pairs_front R xs x pairs i j d lt within =
@@ -24,7 +24,7 @@ pairs_last R xs x pairs i d within =
     let longer = length_push xs x in
     subst (λ y. R (get_or xs i d) y) (get_or-append_seam xs x [] d) (subst (λ y. R y (get_or (xs ++ x ∷ []) (length xs) d)) (get_or-append xs (x ∷ []) d i within) (pairs i (length xs) d within (omega (arith, longer))))
 
-last_of : (P : ℕ → Type 0) (xs : List ℕ) (x : ℕ) → All P (xs ++ x ∷ []) → P x
+pub last_of : (P : ℕ → Type 0) (xs : List ℕ) (x : ℕ) → All P (xs ++ x ∷ []) → P x
 last_of P xs x all = subst P (get_or-append_seam xs x [] 0) (all (length xs) 0 (omega (arith, length_push xs x)))
 
 front_of : (P : ℕ → Type 0) (xs : List ℕ) (x : ℕ) → All P (xs ++ x ∷ []) → All P xs
@@ -56,9 +56,10 @@ module _ {T : Type 0} where
   pub items_are : (nodes : List (Node T)) (root : Branch) (tree : Tree T) → Stands nodes root tree → items_at nodes root ≡ items_of tree
   items_are nodes root tree stands = ap (items_at nodes) stands.named ∙ items_found nodes tree (length (items_of tree)) stands.lies (omega arith)
 
-  -- a seat is ready for a node of a tree that stands
-  pub record Ready (tree : Tree T) (nodes : List (Node T)) (spare : List ℕ) (seat : ℕ) : Type 0 where
+  -- the node at a seat is ready to come into a tree that stands
+  pub record Ready (tree : Tree T) (nodes : List (Node T)) (spare : List ℕ) (seat : ℕ) (item : T) : Type 0 where
     pub lies : Lies nodes tree
+    pub lone : IsAlone nodes seat item
     pub within : seat < length nodes
     pub fresh : HasSeat tree seat → ⊥
     pub counted : length nodes ≡ length (items_of tree) + length spare + 1
@@ -67,32 +68,36 @@ module _ {T : Type 0} where
     pub spare_once : AllPairs ◌≢◌ spare
     pub spare_others : All (λ other. other ≢ seat) spare
 
-  pub ready : (room : ℕ) (root : Branch) (nodes : List (Node T)) (spare : List ℕ) (sound : IsSound room root nodes spare) (new_nodes : List (Node T)) (new_spare : List ℕ) (seat : ℕ) → IsSeated nodes spare new_nodes new_spare seat → Ready sound.tree new_nodes new_spare seat
-  ready room root nodes spare sound new_nodes new_spare seat (inl again) =
+  pub ready : (room : ℕ) (root : Branch) (nodes : List (Node T)) (spare : List ℕ) (sound : IsSound room root nodes spare) (new_nodes : List (Node T)) (new_spare : List ℕ) (seat : ℕ) (item : T) → IsSeated nodes spare new_nodes new_spare seat item → Ready sound.tree new_nodes new_spare seat item
+  ready room root nodes spare sound new_nodes new_spare seat item (inl again) =
       let tree = sound.tree in
       let within = subst (All (λ other. other < length nodes)) again.0 sound.spare_within in
       let free = subst (All (λ other. HasSeat tree other → ⊥)) again.0 sound.spare_free in
       let once = subst (AllPairs ◌≢◌) again.0 sound.spare_once in
       let longer : length spare ≡ length new_spare + 1 = ap length again.0 ∙ length_push new_spare seat in
-      let same : length new_nodes ≡ length nodes = ap length again.1 in
+      let same : length new_nodes ≡ length nodes = ap length again.1 ∙ length-set nodes seat (alone item) in
+      let below = last_of (λ other. other < length nodes) new_spare seat within in
+      let fresh = last_of (λ other. HasSeat tree other → ⊥) new_spare seat free in
       record {
-        lies = subst (λ n. Lies n tree) (sym again.1) sound.stands.lies;
-        within = omega (arith, same, last_of (λ other. other < length nodes) new_spare seat within);
-        fresh = last_of (λ other. HasSeat tree other → ⊥) new_spare seat free;
+        lies = subst (λ n. Lies n tree) (sym again.1) (lies_on nodes (slice_set nodes seat (alone item)) tree sound.stands.lies (λ own has. get_set_other nodes seat own (alone item) (λ here. fresh (subst (HasSeat tree) here has))));
+        lone = subst (λ n. IsAlone n seat item) (sym again.1) (get_set_same nodes seat (alone item) below);
+        within = omega (arith, same, below);
+        fresh = fresh;
         counted = omega (arith, same, longer, sound.counted);
         spare_within = subst (λ n. All (λ other. other < n) new_spare) (sym same) (front_of (λ other. other < length nodes) new_spare seat within);
         spare_free = front_of (λ other. HasSeat tree other → ⊥) new_spare seat free;
         spare_once = pairs_front ◌≢◌ new_spare seat once;
         spare_others = pairs_last ◌≢◌ new_spare seat once;
       }
-  ready room root nodes spare sound new_nodes new_spare seat (inr more) =
+  ready room root nodes spare sound new_nodes new_spare seat item (inr more) =
       let tree = sound.tree in
       let none : length spare ≡ 0 = ap length more.0 in
       let none_left : length new_spare ≡ 0 = ap length more.1 in
-      let node = more.3.0 in
-      let longer : length new_nodes ≡ length nodes + 1 = ap length more.3.1 ∙ length_push nodes node in
+      let node = alone item in
+      let longer : length new_nodes ≡ length nodes + 1 = ap length more.3 ∙ length_push nodes node in
       record {
-        lies = subst (λ n. Lies n tree) (sym more.3.1) (lies_on nodes (nodes ++ node ∷ []) tree sound.stands.lies (λ own has. get_before nodes (node ∷ []) own (seat_within nodes tree own sound.stands.lies has)));
+        lies = subst (λ n. Lies n tree) (sym more.3) (lies_on nodes (nodes ++ node ∷ []) tree sound.stands.lies (λ own has. get_before nodes (node ∷ []) own (seat_within nodes tree own sound.stands.lies has)));
+        lone = subst (λ n. IsAlone n seat item) (sym more.3) (get_here nodes [] node seat more.2);
         within = omega (arith, longer, more.2);
         fresh = λ has. below_itself seat (subst (λ n. seat < n) (sym more.2) (seat_within nodes tree seat sound.stands.lies has));
         counted = omega (arith, longer, none, none_left, sound.counted);
@@ -106,13 +111,13 @@ module _ {T : Type 0} where
       below_itself n lt = omega (arith, lt)
 
   -- and the table stays within the room
-  pub still_few : (room : ℕ) (root : Branch) (nodes : List (Node T)) (spare : List ℕ) (sound : IsSound room root nodes spare) (new_nodes : List (Node T)) (new_spare : List ℕ) (seat : ℕ) → length (items_of sound.tree) < room → IsSeated nodes spare new_nodes new_spare seat → length new_nodes ≤ room
-  still_few room root nodes spare sound new_nodes new_spare seat less (inl again) = omega (arith, ap length again.1, sound.few)
-  still_few room root nodes spare sound new_nodes new_spare seat less (inr more) = omega (arith, less, sound.counted, ap length more.0, ap length more.3.1, length_push nodes more.3.0)
+  pub still_few : (room : ℕ) (root : Branch) (nodes : List (Node T)) (spare : List ℕ) (sound : IsSound room root nodes spare) (new_nodes : List (Node T)) (new_spare : List ℕ) (seat : ℕ) (item : T) → length (items_of sound.tree) < room → IsSeated nodes spare new_nodes new_spare seat item → length new_nodes ≤ room
+  still_few room root nodes spare sound new_nodes new_spare seat item less (inl again) = omega (arith, ap length again.1, length-set nodes seat (alone item), sound.few)
+  still_few room root nodes spare sound new_nodes new_spare seat item less (inr more) = omega (arith, less, sound.counted, ap length more.0, ap length more.3, length_push nodes (alone item))
 
   -- with its node in the tree the list is sound again
-  pub sound_inserted : (room : ℕ) (old_root result : Branch) (tree : Tree T) (nodes new : List (Node T)) (spare : List ℕ) (seat : ℕ) (list : List T) → room < 2 ^ 32 → length (items_of tree) < room → Ready tree nodes spare seat → length nodes ≤ room → Becomes nodes new result list (λ own. (own ≡ seat) ⊎ HasSeat tree own) → length new ≡ length nodes → length list ≡ length (items_of tree) + 1 → IsSound room result new spare
-  sound_inserted room old_root result tree nodes new spare seat list small less r few became same longer = record {
+  pub sound_inserted : (room : ℕ) (old_root result : Branch) (tree : Tree T) (nodes new : List (Node T)) (spare : List ℕ) (seat : ℕ) (item : T) (list : List T) → room < 2 ^ 32 → length (items_of tree) < room → Ready tree nodes spare seat item → length nodes ≤ room → Becomes nodes new result list (λ own. (own ≡ seat) ⊎ HasSeat tree own) → length new ≡ length nodes → length list ≡ length (items_of tree) + 1 → IsSound room result new spare
+  sound_inserted room old_root result tree nodes new spare seat item list small less r few became same longer = record {
     tree = became.tree;
     stands = became.stands;
     counted = omega (arith, same, longer, r.counted, ap length became.items);

@@ -7,12 +7,12 @@ use Rattle.sorted_list.specs.declared.nodes.Node.{Node}
 use Rattle.sorted_list.specs.Trees.{Tree, leaf, fork, items_of, HasSeat, branch_of, AreApart, Lies, Stands, Joins, Becomes, Keeps, Opens}
 
 module _ {X : Type 0} where
-  get_set_same : (xs : List X) (i : ℕ) (x : X) → i < length xs → slice_get (slice_set xs i x) i ≡ Some x
+  pub get_set_same : (xs : List X) (i : ℕ) (x : X) → i < length xs → slice_get (slice_set xs i x) i ≡ Some x
   get_set_same [] i x within = absurd (omega (arith, within))
   get_set_same (y ∷ xs) zero x within = refl
   get_set_same (y ∷ xs) (suc i) x within = get_set_same xs i x (omega (arith, within))
 
-  get_set_other : (xs : List X) (i j : ℕ) (x : X) → j ≢ i → slice_get (slice_set xs i x) j ≡ slice_get xs j
+  pub get_set_other : (xs : List X) (i j : ℕ) (x : X) → j ≢ i → slice_get (slice_set xs i x) j ≡ slice_get xs j
   get_set_other [] i j x apart = refl
   get_set_other (y ∷ xs) zero zero x apart = absurd (apart refl)
   get_set_other (y ∷ xs) zero (suc j) x apart = refl

@@ -4,7 +4,7 @@ use Rattle.std.specs.Prelude.{slice_get, Some, option_map}
 use Rattle.std.specs.List.{insert, remove}
 use Rattle.sorted_list.specs.declared.nodes.Branch.{Branch}
 use Rattle.sorted_list.specs.declared.nodes.Node.{Node}
-use Rattle.sorted_list.specs.Trees.{Tree, leaf, fork, items_of, HasSeat, branch_of, Stands, Joins, Becomes, Keeps, IsItemAt, Opens}
+use Rattle.sorted_list.specs.Trees.{Tree, leaf, fork, items_of, HasSeat, IsAlone, Stands, Joins, Becomes, Keeps, IsItemAt, Opens}
 use Rattle.sorted_list.proofs.EditLemmas.{get_before, get_behind, get_here, insert_before, insert_behind, remove_before, remove_behind, remove_here, first_and_others}
 use Rattle.sorted_list.proofs.TreeLemmas.{became_before, became_behind, counts, joins_before, joins_behind, lies_on}
 
@@ -47,15 +47,26 @@ module _ {T : Type 0} (nodes : List (Node T)) (branch : Branch) (node : Node T) 
     abbrev pub Widened : Tree T → ℕ → Type 0
     Widened side own = (own ≡ seat) ⊎ HasSeat side own
 
+    -- the node itself stays where it lies
+    not_in_before : Widened opens.before branch.seat → ⊥
+    not_in_before (inl here) = (fresh_parts seat fresh).not_own (sym here)
+    not_in_before (inr has) = opens.joins.apart.not_before has
+
+    not_in_behind : Widened opens.behind branch.seat → ⊥
+    not_in_behind (inl here) = (fresh_parts seat fresh).not_own (sym here)
+    not_in_behind (inr has) = opens.joins.apart.not_behind has
+
+    pub node_kept_before : (mid : List (Node T)) (left : Branch) (list : List T) → Becomes nodes mid left list (Widened opens.before) → slice_get nodes branch.seat ≡ Some node → slice_get mid branch.seat ≡ Some node
+    node_kept_before mid left list became read = became.others branch.seat not_in_before ∙ read
+
+    pub node_kept_behind : (mid : List (Node T)) (left : Branch) (list : List T) → Becomes nodes mid left list (Widened opens.behind) → slice_get nodes branch.seat ≡ Some node → slice_get mid branch.seat ≡ Some node
+    node_kept_behind mid left list became read = became.others branch.seat not_in_behind ∙ read
+
     pub joins_inserted_before : (mid : List (Node T)) (changed : Node T) (list : List T) (became : Becomes nodes mid changed.before list (Widened opens.before)) → changed.behind ≡ node.behind → Joins mid branch.seat changed became.tree opens.behind
     joins_inserted_before mid changed list became same =
         let f = fresh_parts seat fresh in
-        joins_before nodes mid branch.seat node changed opens.before opens.behind list (Widened opens.before) became same opens.joins (own_fresh f.not_own) (λ own mine has. sides_apart f.not_behind own mine has)
+        joins_before nodes mid branch.seat node changed opens.before opens.behind list (Widened opens.before) became same opens.joins not_in_before (λ own mine has. sides_apart f.not_behind own mine has)
       where
-        own_fresh : (seat ≢ branch.seat) → Widened opens.before branch.seat → ⊥
-        own_fresh not_own (inl here) = not_own (sym here)
-        own_fresh not_own (inr has) = opens.joins.apart.not_before has
-
         sides_apart : (HasSeat opens.behind seat → ⊥) → (own : ℕ) → Widened opens.before own → HasSeat opens.behind own → ⊥
         sides_apart not_behind own (inl here) has = not_behind (subst (HasSeat opens.behind) here has)
         sides_apart not_behind own (inr mine) has = opens.joins.apart.apart own mine has
@@ -63,12 +74,8 @@ module _ {T : Type 0} (nodes : List (Node T)) (branch : Branch) (node : Node T) 
     pub joins_inserted_behind : (mid : List (Node T)) (changed : Node T) (list : List T) (became : Becomes nodes mid changed.behind list (Widened opens.behind)) → changed.before ≡ node.before → Joins mid branch.seat changed opens.before became.tree
     joins_inserted_behind mid changed list became same =
         let f = fresh_parts seat fresh in
-        joins_behind nodes mid branch.seat node changed opens.before opens.behind list (Widened opens.behind) became same opens.joins (own_fresh f.not_own) (λ own mine has. sides_apart f.not_before own mine has)
+        joins_behind nodes mid branch.seat node changed opens.before opens.behind list (Widened opens.behind) became same opens.joins not_in_behind (λ own mine has. sides_apart f.not_before own mine has)
       where
-        own_fresh : (seat ≢ branch.seat) → Widened opens.behind branch.seat → ⊥
-        own_fresh not_own (inl here) = not_own (sym here)
-        own_fresh not_own (inr has) = opens.joins.apart.not_behind has
-
         sides_apart : (HasSeat opens.before seat → ⊥) → (own : ℕ) → Widened opens.behind own → HasSeat opens.before own → ⊥
         sides_apart not_before own (inl here) has = not_before (subst (HasSeat opens.before) here has)
         sides_apart not_before own (inr mine) has = opens.joins.apart.apart own has mine
@@ -103,6 +110,12 @@ module _ {T : Type 0} (nodes : List (Node T)) (branch : Branch) (node : Node T) 
   -- what goes out of one of the sides, from a seat of it
   abbrev pub Narrowed : Tree T → ℕ → ℕ → Type 0
   Narrowed side gone own = HasSeat side own × (own ≢ gone)
+
+  pub node_left_before : (mid : List (Node T)) (left : Branch) (gone : ℕ) (list : List T) → Becomes nodes mid left list (Narrowed opens.before gone) → slice_get nodes branch.seat ≡ Some node → slice_get mid branch.seat ≡ Some node
+  node_left_before mid left gone list became read = became.others branch.seat (λ mine. opens.joins.apart.not_before mine.0) ∙ read
+
+  pub node_left_behind : (mid : List (Node T)) (left : Branch) (gone : ℕ) (list : List T) → Becomes nodes mid left list (Narrowed opens.behind gone) → slice_get nodes branch.seat ≡ Some node → slice_get mid branch.seat ≡ Some node
+  node_left_behind mid left gone list became read = became.others branch.seat (λ mine. opens.joins.apart.not_behind mine.0) ∙ read
 
   pub joins_removed_before : (mid : List (Node T)) (changed : Node T) (gone : ℕ) (list : List T) (became : Becomes nodes mid changed.before list (Narrowed opens.before gone)) → changed.behind ≡ node.behind → Joins mid branch.seat changed became.tree opens.behind
   joins_removed_before mid changed gone list became same = joins_before nodes mid branch.seat node changed opens.before opens.behind list (Narrowed opens.before gone) became same opens.joins (λ mine. opens.joins.apart.not_before mine.0) (λ own mine has. opens.joins.apart.apart own mine.0 has)
@@ -191,25 +204,20 @@ module _ {T : Type 0} where
   insert_empty zero item = refl
   insert_empty (suc place) item = refl
 
-  -- two branches with no nodes join at any seat
-  pub joins_none : (nodes : List (Node T)) (seat : ℕ) (item : T) → Joins nodes seat (record { item = item; before = branch_of {T = T} leaf; behind = branch_of {T = T} leaf }) leaf leaf
-  joins_none nodes seat item = record {
-    before_it = record { named = refl; lies = tt };
-    behind_it = record { named = refl; lies = tt };
-    apart = record { not_before = λ has. has; not_behind = λ has. has; apart = λ own has there. has };
-  }
-
-  -- a node alone is what an insert leaves of nothing
-  pub inserted_alone : (old new : List (Node T)) (result : Branch) (place seat : ℕ) (item : T) → Keeps old new result (fork seat leaf item leaf) → Becomes old new result (insert [] place item) (λ own. (own ≡ seat) ⊎ ⊥)
-  inserted_alone old new result place seat item kept = record {
-    tree = kept.tree;
-    stands = kept.stands;
-    items = kept.items ∙ sym (insert_empty place item);
-    seats = λ own has. inl (alone own (kept.seats own has));
-    others = λ own not. kept.others own (λ has. not (inl (alone own has)));
+  -- a node that is written down alone is what an insert leaves of nothing
+  pub inserted_alone : (nodes : List (Node T)) (place seat : ℕ) (item : T) → IsAlone nodes seat item → Becomes nodes nodes (record { seat = seat; count = 1 }) (insert [] place item) (λ own. (own ≡ seat) ⊎ ⊥)
+  inserted_alone nodes place seat item lies = record {
+    tree = fork seat leaf item leaf;
+    stands = record {
+      named = refl;
+      lies = (lies, tt, tt, record { not_before = λ has. has; not_behind = λ has. has; apart = λ own has there. has });
+    };
+    items = sym (insert_empty place item);
+    seats = λ own has. inl (alone_at own has);
+    others = λ own not. refl;
   }
     where
-      alone : (own : ℕ) → (own ≡ seat) ⊎ (⊥ ⊎ ⊥) → own ≡ seat
-      alone own (inl here) = here
-      alone own (inr (inl has)) = absurd has
-      alone own (inr (inr has)) = absurd has
+      alone_at : (own : ℕ) → (own ≡ seat) ⊎ (⊥ ⊎ ⊥) → own ≡ seat
+      alone_at own (inl here) = here
+      alone_at own (inr (inl has)) = absurd has
+      alone_at own (inr (inr has)) = absurd has

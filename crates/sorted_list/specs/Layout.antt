@@ -1,8 +1,8 @@
 -- How a list lies in memory.
-use Rattle.std.specs.Prelude.{◌≡◌, ◌≢◌, ℕ, zero, suc, ◌+◌, ◌<◌, ◌≤◌, ◌^◌, List, [], ◌∷◌, ◌++◌, length, slice_get, Option, Some, None, ◌⊎◌, All, AllPairs}
+use Rattle.std.specs.Prelude.{◌≡◌, ◌≢◌, ℕ, zero, suc, ◌+◌, ◌<◌, ◌≤◌, ◌^◌, List, [], ◌∷◌, ◌++◌, length, slice_get, slice_set, Option, Some, None, ◌⊎◌, All, AllPairs}
 use Rattle.sorted_list.specs.declared.nodes.Branch.{Branch}
 use Rattle.sorted_list.specs.declared.nodes.Node.{Node}
-use Rattle.sorted_list.specs.Trees.{Tree, HasSeat, Stands, items_of}
+use Rattle.sorted_list.specs.Trees.{Tree, HasSeat, Stands, alone, items_of}
 
 module _ {T : Type 0} where
   -- the items below a node, where `below` are those of each branch
@@ -31,6 +31,6 @@ module _ {T : Type 0} where
     pub spare_free : All (λ seat. HasSeat tree seat → ⊥) spare
     pub spare_once : AllPairs ◌≢◌ spare
 
-  -- a seat was the last spare one, or is a new one where there was no spare one
-  abbrev pub IsSeated : List (Node T) → List ℕ → List (Node T) → List ℕ → ℕ → Type 0
-  IsSeated nodes spare new_nodes new_spare seat = ((spare ≡ new_spare ++ seat ∷ []) × (new_nodes ≡ nodes)) ⊎ ((spare ≡ []) × (new_spare ≡ []) × (seat ≡ length nodes) × ((node : Node T) × (new_nodes ≡ nodes ++ node ∷ [])))
+  -- a node with that item alone came to a seat, which was the last spare one, or is a new one where there was no spare one
+  abbrev pub IsSeated : List (Node T) → List ℕ → List (Node T) → List ℕ → ℕ → T → Type 0
+  IsSeated nodes spare new_nodes new_spare seat item = ((spare ≡ new_spare ++ seat ∷ []) × (new_nodes ≡ slice_set nodes seat (alone item))) ⊎ ((spare ≡ []) × (new_spare ≡ []) × (seat ≡ length nodes) × (new_nodes ≡ nodes ++ alone item ∷ []))

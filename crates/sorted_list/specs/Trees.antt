@@ -39,6 +39,14 @@ module _ {T : Type 0} where
   Lies nodes leaf = Unit {0}
   Lies nodes (fork own before item behind) = (slice_get nodes own ≡ Some (record { item = item; before = branch_of before; behind = branch_of behind })) × Lies nodes before × Lies nodes behind × AreApart own before behind
 
+  -- a node with that item, and nothing before or behind it
+  abbrev pub alone : T → Node T
+  alone item = record { item = item; before = branch_of leaf; behind = branch_of leaf }
+
+  -- such a node is written down at that seat
+  abbrev pub IsAlone : List (Node T) → ℕ → T → Type 0
+  IsAlone nodes seat item = slice_get nodes seat ≡ Some (alone item)
+
   -- the tree lies in the table, and the branch names it
   pub record Stands (nodes : List (Node T)) (branch : Branch) (tree : Tree T) : Type 0 where
     pub named : branch ≡ branch_of tree

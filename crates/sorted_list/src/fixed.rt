@@ -1,6 +1,6 @@
 //! A list whose changes take no memory, with places found in logarithmic time.
 
-ghost use Rattle.std.specs.Prelude.{◌≡◌, ◌<◌, ◌≤◌, ◌^◌, [], true, AllPairs, count_by, length, insert, remove, slice_get, vec_capacity, vec_len, IfOk, OnErr, OnOk};
+ghost use Rattle.std.specs.Prelude.{◌≡◌, ◌<◌, ◌≤◌, ◌^◌, [], true, All, AllPairs, count_by, length, insert, remove, slice_get, vec_capacity, vec_len, IfOk, OnErr, OnOk};
 ghost use Rattle.std.specs.Option.{option_copied};
 ghost use Rattle.sorted_list.specs.Layout.{IsSeated};
 
@@ -103,7 +103,7 @@ impl<T: Copy> FixedList<T> {
         ensures { self.new ≡ record self.old { items = insert self.old.items place item } }
     {
         let seat = new_seat(&mut self.nodes, &mut self.spare, item);
-        self.root = nodes::insert(&mut self.nodes, self.root, place, item, seat);
+        self.root = nodes::insert(&mut self.nodes, self.root, place, seat);
     }
 
     /// Takes out the item at a place.
@@ -117,23 +117,28 @@ impl<T: Copy> FixedList<T> {
     }
 }
 
-// A seat that no node of the tree has: the last spare one, or else a new one.
+// Writes an item down alone, at a seat that no node of the tree has: the last spare one, or else a new one.
 fn new_seat<T: Copy>(nodes: &mut Vec<Node<T>>, spare: &mut Vec<u32>, item: T) -> u32
     requires room { vec_len spare.old ≡ 0 → vec_len nodes.old < vec_capacity nodes.old }
     requires few { vec_len nodes.old < 2 ^ 32 }
-    ensures seated { IsSeated nodes.old.items spare.old.items nodes.new.items spare.new.items result }
+    requires within { All (λ seat. seat < vec_len nodes.old) spare.old.items }
+    ensures seated { IsSeated nodes.old.items spare.old.items nodes.new.items spare.new.items result item }
     ensures nodes_capacity { vec_capacity nodes.new ≡ vec_capacity nodes.old }
     ensures spare_capacity { vec_capacity spare.new ≡ vec_capacity spare.old }
 {
+    let node = Node {
+        item,
+        before: EMPTY,
+        behind: EMPTY,
+    };
     match spare.pop() {
-        Some(seat) => seat,
+        Some(seat) => {
+            nodes[seat as usize] = node;
+            seat
+        }
         None => {
             let seat = nodes.len() as u32;
-            nodes.push_reserved(Node {
-                item,
-                before: EMPTY,
-                behind: EMPTY,
-            });
+            nodes.push_reserved(node);
             seat
         }
     }

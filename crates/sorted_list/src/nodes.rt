@@ -4,8 +4,8 @@
 //! nodes. Since each node has two branches, places in the list are found on the way down. The functions here take a
 //! branch, change the tree, and answer the branch that it is then.
 
-ghost use Rattle.std.specs.Prelude.{◌≡◌, ◌≢◌, ◌⊎◌, ◌+◌, ◌<◌, ◌≤◌, ◌^◌, length, insert, remove, slice_get, Some, IsTrue};
-ghost use Rattle.sorted_list.specs.Trees.{Becomes, HasSeat, IsItemAt, Joins, Keeps, Stands, Tree, Tree.fork, items_of};
+ghost use Rattle.std.specs.Prelude.{◌≡◌, ◌≢◌, ◌⊎◌, ◌+◌, ◌<◌, ◌≤◌, ◌^◌, length, insert, remove, slice_get, slice_set, Some, IsTrue};
+ghost use Rattle.sorted_list.specs.Trees.{Becomes, HasSeat, IsAlone, IsItemAt, Joins, Keeps, Stands, Tree, Tree.fork, items_of};
 
 /// A tree: where its uppermost node lies, and how many nodes it has. Where it has none, the seat tells nothing.
 #[derive(Clone, Copy)]
@@ -41,36 +41,30 @@ pub(crate) fn seat_at<T: Copy>(nodes: &[Node<T>], branch: Branch, place: u32) ->
     }
 }
 
-/// Puts an item at the place, with its node at a seat that is in no tree.
+/// Brings a node into the tree, at the place. It is written down alone, at a seat that is in no tree.
 pub(crate) fn insert<T: Copy>(
     nodes: &mut [Node<T>],
     branch: Branch,
     place: u32,
-    item: T,
     seat: u32,
 ) -> Branch
-    requires seat { seat < length nodes.old }
+    requires alone { (item : T) × IsAlone nodes.old seat item }
     requires tree { (tree : Tree T) × Stands nodes.old branch tree × (HasSeat tree seat → ⊥) × (place ≤ length (items_of tree)) }
     requires few { branch.count + 1 < 2 ^ 32 }
-    ensures inserted { (tree : Tree T) → Stands nodes.old branch tree → (HasSeat tree seat → ⊥) → Becomes nodes.old nodes.new result (insert (items_of tree) place item) (λ own. (own ≡ seat) ⊎ HasSeat tree own) }
+    ensures inserted { (tree : Tree T) (item : T) → Stands nodes.old branch tree → IsAlone nodes.old seat item → (HasSeat tree seat → ⊥) → Becomes nodes.old nodes.new result (insert (items_of tree) place item) (λ own. (own ≡ seat) ⊎ HasSeat tree own) }
     ensures count { result.count ≡ branch.count + 1 }
 {
     if branch.count == 0 {
-        let node = Node {
-            item,
-            before: EMPTY,
-            behind: EMPTY,
-        };
-        return put(nodes, seat, node);
+        return Branch { seat, count: 1 };
     }
-    let mut node = node_at(nodes, branch.seat);
+    let node = node_at(nodes, branch.seat);
     let before = node.before.count;
     if place <= before {
-        node.before = insert(nodes, node.before, place, item, seat);
-        balanced(nodes, branch.seat, node)
+        let wider = insert(nodes, node.before, place, seat);
+        balanced(nodes, branch.seat, wider, node.behind)
     } else {
-        node.behind = insert(nodes, node.behind, place - before - 1, item, seat);
-        balanced(nodes, branch.seat, node)
+        let wider = insert(nodes, node.behind, place - before - 1, seat);
+        balanced(nodes, branch.seat, node.before, wider)
     }
 }
 
@@ -81,41 +75,56 @@ pub(crate) fn remove<T: Copy>(nodes: &mut [Node<T>], branch: Branch, place: u32)
     ensures left { (tree : Tree T) → Stands nodes.old branch tree → Becomes nodes.old nodes.new result.1 (remove (items_of tree) place) (λ own. HasSeat tree own × (own ≢ result.0)) }
     ensures count { result.1.count + 1 ≡ branch.count }
 {
-    let mut node = node_at(nodes, branch.seat);
+    let node = node_at(nodes, branch.seat);
     let before = node.before.count;
     if place < before {
         let (gone, left) = remove(nodes, node.before, place);
-        node.before = left;
-        (gone, balanced(nodes, branch.seat, node))
+        (gone, balanced(nodes, branch.seat, left, node.behind))
     } else if place > before {
         let (gone, left) = remove(nodes, node.behind, place - before - 1);
-        node.behind = left;
-        (gone, balanced(nodes, branch.seat, node))
+        (gone, balanced(nodes, branch.seat, node.before, left))
     } else if node.behind.count == 0 {
         (branch.seat, node.before)
     } else {
         let (next, left) = remove(nodes, node.behind, 0);
-        node.item = node_at(nodes, next).item;
-        node.behind = left;
-        (branch.seat, balanced(nodes, next, node))
+        (branch.seat, balanced(nodes, next, node.before, left))
     }
 }
 
-// Writes a node down at its seat. Where one side is too heavy for the other, a node of it comes up over this one.
-fn balanced<T: Copy>(nodes: &mut [Node<T>], seat: u32, node: Node<T>) -> Branch
-    requires seat { seat < length nodes.old }
-    requires sides { (before behind : Tree T) × Joins nodes.old seat node before behind }
-    requires few { node.before.count + node.behind.count + 1 < 2 ^ 32 }
-    ensures kept { (before behind : Tree T) → Joins nodes.old seat node before behind → Keeps nodes.old nodes.new result (fork seat before node.item behind) }
-    ensures count { result.count ≡ node.before.count + node.behind.count + 1 }
+// Writes down the branches of the node at a seat. Where one is too heavy for the other, a node of it comes up over this one.
+fn balanced<T: Copy>(nodes: &mut [Node<T>], seat: u32, before: Branch, behind: Branch) -> Branch
+    requires sides { (node : Node T) × (first second : Tree T) × (slice_get nodes.old seat ≡ Some node) × Joins nodes.old seat (record { item = node.item; before = before; behind = behind }) first second }
+    requires few { before.count + behind.count + 1 < 2 ^ 32 }
+    ensures kept { (node : Node T) (first second : Tree T) → slice_get nodes.old seat ≡ Some node → Joins nodes.old seat (record { item = node.item; before = before; behind = behind }) first second → Keeps nodes.old nodes.new result (fork seat first node.item second) }
+    ensures count { result.count ≡ before.count + behind.count + 1 }
 {
-    if is_too_heavy(node.before, node.behind) {
+    let item = node_at(nodes, seat).item;
+    let node = Node {
+        item,
+        before,
+        behind,
+    };
+    if is_too_heavy(before, behind) {
         raise_before(nodes, seat, node)
-    } else if is_too_heavy(node.behind, node.before) {
+    } else if is_too_heavy(behind, before) {
         raise_behind(nodes, seat, node)
     } else {
-        put(nodes, seat, node)
+        set_branches(nodes, seat, before, behind);
+        Branch {
+            seat,
+            count: before.count + behind.count + 1,
+        }
     }
+}
+
+// Gives the node at a seat other branches, and leaves its item where it lies.
+fn set_branches<T: Copy>(nodes: &mut [Node<T>], seat: u32, before: Branch, behind: Branch)
+    requires { seat < length nodes.old }
+    ensures { (node : Node T) → slice_get nodes.old seat ≡ Some node → nodes.new ≡ slice_set nodes.old seat (record { item = node.item; before = before; behind = behind }) }
+{
+    let node = &mut nodes[seat as usize];
+    node.before = before;
+    node.behind = behind;
 }
 
 // Whether a side has so many more nodes than the other that one of them is to come up.
