@@ -531,7 +531,7 @@ impl Stores {
         }
     }
 
-    /// Takes a row off the shelf for good, with its name, and gives it. No room falls.
+    /// Takes a row off the shelf for good, with its name, and gives it. All room stays as it is.
     pub fn retract(&mut self, name: Name) -> Row
         requires row { kind_of name ≡ Mapping }
         requires shelved { IsShelved self.old name }
@@ -540,7 +540,7 @@ impl Stores {
         ensures residents { residents_of self.new ≡ residents_of self.old }
         ensures names { names_of self.new Mapping ≡ filter (λ other. not (is_name other name)) (names_of self.old Mapping) }
         ensures owned { (owner_of : Name → Option KernelNo) → AreOwned owner_of self.old → AreOwned owner_of self.new }
-        ensures room { room_of self.old ≤ room_of self.new }
+        ensures room { room_of self.new ≡ room_of self.old }
         ensures only { self.new ≡ record self.old { rows = self.new.rows } }
         ensures cells { self.new.rows.kept.cells ≡ self.old.rows.kept.cells }
     {

@@ -519,7 +519,7 @@ impl Tables {
         ensures contents { HasNoContent self.old.contents self.new.contents name }
         ensures names { names_of self.new.contents Mapping ≡ filter (λ other. not (is_name other name)) (names_of self.old.contents Mapping) }
         ensures residents { residents_of self.new.contents ≡ residents_of self.old.contents }
-        ensures room { room_of self.old.contents ≤ room_of self.new.contents }
+        ensures room { room_of self.new.contents ≡ room_of self.old.contents }
         ensures only { self.new.contents ≡ record self.old.contents { rows = self.new.contents.rows } }
     {
         let row = self.stores.retract(name);

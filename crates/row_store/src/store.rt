@@ -405,15 +405,15 @@ impl RowStore {
         self.rows.update_named(name, near, change)
     }
 
-    /// Takes a row off the shelf for good, with its name, and gives it. There is room for one more then, unless the
-    /// stamps of declared order end.
+    /// Takes a row off the shelf for good, with its name, and gives it. The room stays as it is; what the row leaves free is
+    /// found by the next `make_room`.
     pub fn retract(&mut self, name: Name) -> Row
         requires { IsSome (content_under row_name self.old.kept.rows name) }
         ensures content { content_under row_name self.old.kept.rows name ≡ Some result }
         ensures cells { self.new.kept.cells ≡ self.old.kept.cells }
         ensures rows { self.new.kept.rows ≡ rows_without row_name self.old.kept.rows name }
         ensures names { self.new.names ≡ filter (λ other. not (is_name other name)) self.old.names }
-        ensures room { self.old.room ≤ self.new.room }
+        ensures room { self.new.room ≡ self.old.room }
         ensures contents { HasNoContent row_name self.old.kept self.new.kept name }
     {
         let Some(row) = self.rows.item(name) else {
@@ -422,9 +422,7 @@ impl RowStore {
         let row = *row;
         let stamp = self.order.remove(name);
         signals::unlist(&mut self.signals, &row, (stamp, name));
-        let value = self.rows.retract(name);
-        self.room = room_in(&self.rows, &self.order, &self.signals);
-        value
+        self.rows.retract(name)
     }
 }
 

@@ -23,22 +23,16 @@ unlist-requires-clause-there c =
 pub invariant_of-self : goal.invariant_of-self
 invariant_of-self c =
     let i = c.self.inside in
+    let v = c.self.invariant in
     let o = c.remove-stamp.ensures in
     let u = c.unlist.ensures in
-    let r = c.retract-value.ensures in
-    let m = c.room_in-self-inside.ensures in
-    sound-retracting i.room i.rows i.order i.signals i.by_frame c.self.invariant c.args.name c.in-Some.row.now (sym c.in-Some.ensures.content) c.retract-value.new.self r.contents c.remove-stamp.result o.stamp c.remove-stamp.new.self o.entries c.room_in-self-inside.result c.unlist.new.signals o.proper u.unlisted u.proper r.cells m.rows m.order m.signals
+    let r = c.retract.ensures in
+    sound-retracting i.room i.rows i.order i.signals i.by_frame v c.args.name c.in-Some.row.now (sym c.in-Some.ensures.content) c.retract.new.self r.contents c.remove-stamp.result o.stamp c.remove-stamp.new.self o.entries
+    i.room c.unlist.new.signals o.proper u.unlisted u.proper r.cells (omega (arith, v.rows_room, r.room)) (omega (arith, v.order_room, o.room)) (omega (arith, v.signals_room, u.few, u.room))
 
 pub returns-clause-names : goal.returns-clause-names
 returns-clause-names c =
     let i = c.self.inside in
-    let r = c.retract-value.ensures in
+    let r = c.retract.ensures in
     let o = c.remove-stamp.ensures in
-    rw (← c.self.view_is) (names_retracting i.room i.rows i.order i.signals i.by_frame c.self.invariant c.args.name c.in-Some.row.now (sym c.in-Some.ensures.content) c.retract-value.new.self r.contents c.remove-stamp.result o.stamp c.remove-stamp.new.self o.entries)
-
-pub returns-clause-room : goal.returns-clause-room
-returns-clause-room c =
-    let i = c.self.inside in
-    let v = c.self.invariant in
-    let u = c.unlist.ensures in
-    rw (← c.self.view_is) (c.room_in-self-inside.ensures.most i.room (omega (arith, v.rows_room, c.retract-value.ensures.room)) (omega (arith, v.order_room, c.remove-stamp.ensures.room)) (omega (arith, v.signals_room, u.few, u.room)))
+    rw (← c.self.view_is) (names_retracting i.room i.rows i.order i.signals i.by_frame c.self.invariant c.args.name c.in-Some.row.now (sym c.in-Some.ensures.content) c.retract.new.self r.contents c.remove-stamp.result o.stamp c.remove-stamp.new.self o.entries)
