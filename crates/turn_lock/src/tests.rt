@@ -3,6 +3,7 @@ ghost use Rattle.turn_lock.specs.Passes.{IsPassOf, HasAllNumbers, HasSameRange, 
 
 use crate::{History, Pass, Turn};
 use std::alloc::{AllocError, Global};
+use std::hint;
 use std::sync::{Arc, Wait};
 use std::test::Fail;
 use std::thread::{Threads, join};
@@ -51,7 +52,14 @@ impl Log {
     }
 }
 
-fn append<R: Wait>(rt: &R, lock: &Turn<Log>, pass: Pass<Log>, number: u64) -> Pass<Log>
+// How many entries a thread appends, and for how many pauses of the processor it holds the log for each.
+#[derive(Clone, Copy)]
+struct Task {
+    count: u64,
+    pauses: u32,
+}
+
+fn append<R: Wait>(rt: &R, lock: &Turn<Log>, pass: Pass<Log>, number: u64, pauses: u32) -> Pass<Log>
     requires { IsPassOf lock.now pass }
     ensures lock { IsPassOf lock.now result }
     ensures range { HasSameRange pass result }
@@ -59,17 +67,20 @@ fn append<R: Wait>(rt: &R, lock: &Turn<Log>, pass: Pass<Log>, number: u64) -> Pa
     let maker = pass.number();
     let mut held = lock.hold(rt, pass);
     held.value_mut().append(maker, number);
+    for _ in 0..pauses {
+        hint::spin_loop();
+    }
     held.release()
 }
 
-fn append_all<R: Wait>(rt: &R, lock: &Turn<Log>, pass: Pass<Log>, count: u64) -> Pass<Log>
+fn append_all<R: Wait>(rt: &R, lock: &Turn<Log>, pass: Pass<Log>, task: Task) -> Pass<Log>
     requires { IsPassOf lock.now pass }
     ensures lock { IsPassOf lock.now result }
     ensures range { HasSameRange pass result }
 {
     let mut pass = pass;
-    for number in 0..count {
-        pass = append(rt, lock, pass, number);
+    for number in 0..task.count {
+        pass = append(rt, lock, pass, number, task.pauses);
     }
     pass
 }
@@ -100,6 +111,7 @@ fn in_two<R: Threads + Wait + Sync>(
     rt: &R,
     lock: &Turn<Log>,
     pass: Pass<Log>,
+    task: Task,
     upper_first: bool,
 ) -> Pass<Log>
     requires lock { IsPassOf lock.now pass }
@@ -114,11 +126,11 @@ fn in_two<R: Threads + Wait + Sync>(
         || -> Pass<Log>
             requires { IsPassOf lock.now lower }
             ensures { IsPassOf lock.entry.now result × HasSameRange lower result }
-        { append_all(rt, lock, lower, 1000) },
+        { append_all(rt, lock, lower, task) },
         || -> Pass<Log>
             requires { IsPassOf lock.now upper }
             ensures { IsPassOf lock.entry.now result × HasSameRange upper result }
-        { append_all(rt, lock, upper, 1000) },
+        { append_all(rt, lock, upper, task) },
     );
     joined(lock, lower, upper, upper_first)
 }
@@ -127,6 +139,7 @@ fn in_four<R: Threads + Wait + Sync>(
     rt: &R,
     lock: &Turn<Log>,
     pass: Pass<Log>,
+    task: Task,
     upper_first: bool,
 ) -> Pass<Log>
     requires lock { IsPassOf lock.now pass }
@@ -141,11 +154,11 @@ fn in_four<R: Threads + Wait + Sync>(
         || -> Pass<Log>
             requires { IsPassOf lock.now lower × (first_of lower + 1 < end_of lower) × (end_of lower < 2 ^ 32) }
             ensures { IsPassOf lock.entry.now result × HasSameRange lower result }
-        { in_two(rt, lock, lower, upper_first) },
+        { in_two(rt, lock, lower, task, upper_first) },
         || -> Pass<Log>
             requires { IsPassOf lock.now upper × (first_of upper + 1 < end_of upper) × (end_of upper < 2 ^ 32) }
             ensures { IsPassOf lock.entry.now result × HasSameRange upper result }
-        { in_two(rt, lock, upper, upper_first) },
+        { in_two(rt, lock, upper, task, upper_first) },
     );
     joined(lock, lower, upper, upper_first)
 }
@@ -154,13 +167,34 @@ fn in_four<R: Threads + Wait + Sync>(
 fn four_threads_append_and_join_in_either_order(rt: HostRuntime) -> Result<(), Fail> {
     for upper_first in [false, true] {
         let (lock, pass) = opened(rt.alloc())?;
-        let pass = in_four(&rt, &lock, pass, upper_first);
+        let task = Task {
+            count: 1000,
+            pauses: 0,
+        };
+        let pass = in_four(&rt, &lock, pass, task, upper_first);
         assert!(rt; pass.number() == 0);
         let log = lock.close(pass);
         assert!(rt; log.entries.len() == 4000);
         for maker in 0..4 {
             assert!(rt; log.has_in_order(maker, 1000), "maker {maker}");
         }
+    }
+    Ok(())
+}
+
+// Who waits here looks in vain for long, sleeps, and is woken, so often that it stands in line in the end.
+#[test]
+fn threads_go_on_that_wait_for_long(rt: HostRuntime) -> Result<(), Fail> {
+    let (lock, pass) = opened(rt.alloc())?;
+    let task = Task {
+        count: 20,
+        pauses: 20_000,
+    };
+    let pass = in_four(&rt, &lock, pass, task, false);
+    let log = lock.close(pass);
+    assert!(rt; log.entries.len() == 80);
+    for maker in 0..4 {
+        assert!(rt; log.has_in_order(maker, 20), "maker {maker}");
     }
     Ok(())
 }
