@@ -6,7 +6,7 @@ const PAUSES: u32 = 4;
 
 // After so many looks a thread sleeps. On free processors the value comes back before that; where they are taken, who has it
 // may need this one.
-const MOST_LOOKS: u32 = 500;
+const MOST_LOOKS: u32 = 4_000;
 
 // After so many sleeps a thread no longer lets others go before it.
 const MOST_SLEEPS: u32 = 8;

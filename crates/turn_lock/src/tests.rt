@@ -187,14 +187,14 @@ fn four_threads_append_and_join_in_either_order(rt: HostRuntime) -> Result<(), F
 fn threads_go_on_that_wait_for_long(rt: HostRuntime) -> Result<(), Fail> {
     let (lock, pass) = opened(rt.alloc())?;
     let task = Task {
-        count: 20,
-        pauses: 20_000,
+        count: 12,
+        pauses: 100_000,
     };
     let pass = in_four(&rt, &lock, pass, task, false);
     let log = lock.close(pass);
-    assert!(rt; log.entries.len() == 80);
+    assert!(rt; log.entries.len() == 48);
     for maker in 0..4 {
-        assert!(rt; log.has_in_order(maker, 20), "maker {maker}");
+        assert!(rt; log.has_in_order(maker, 12), "maker {maker}");
     }
     Ok(())
 }
