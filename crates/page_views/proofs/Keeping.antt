@@ -64,9 +64,9 @@ behind_first (k ∷ kept) o there = (suc there.0, let lt = there.1 in omega arit
 
 -- the slot at a place behind the first so many
 get_behind : (n : ℕ) (slots : List View) (i : ℕ) → slice_get (drop n slots) i ≡ slice_get slots (n + i)
-get_behind zero slots i = refl
+get_behind zero slots i = ap (slice_get slots) (let same : i ≡ zero + i = omega arith in same)
 get_behind (suc n) [] i = refl
-get_behind (suc n) (v ∷ slots) i = get_behind n slots i
+get_behind (suc n) (v ∷ slots) i = get_behind n slots i ∙ ap (slice_get (v ∷ slots)) (let same : suc (n + i) ≡ suc n + i = omega arith in same)
 
 get_seam : (front after : List View) → slice_get (front ++ after) (length front) ≡ slice_get after 0
 get_seam [] after = refl

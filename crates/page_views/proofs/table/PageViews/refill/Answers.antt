@@ -1,14 +1,14 @@
 -- A slot that keeps the page is the view that is added, and the index tells of it.
-use Rattle.std.proofs.Common.{◌≡◌, ◌+◌, ◌<◌, true, false, List, length, find, take, set, Some, None, refl, ap, sym, ◌∙◌, subst, arith}
-use Rattle.std.specs.Prelude.{is_some}
+use Rattle.std.proofs.Common.{◌≡◌, ◌+◌, ◌<◌, Bool, true, false, List, length, find, take, set, Option, Some, None, refl, ap, ap₂, sym, ◌∙◌, subst, arith}
+use Rattle.std.specs.Prelude.{◌&&◌, is_some, not}
 use Rattle.std.proofs.Math.ListN.{length-set}
 use Rattle.std.proofs.lemmas.Option.{slice_get_within}
 use Rattle.page_views.specs.Index.{IsIndex}
 use Rattle.page_views.specs.Origins.{viewed}
 use Rattle.page_views.specs.Spots.{AreAllMarkedAt}
-use Rattle.page_views.specs.Views.{can_fill, is_of_frame, is_touched_of, table_of, IsExchanged, IsRefilled, IsSlotSince, Table, View}
+use Rattle.page_views.specs.Views.{can_fill, can_refill, is_of_frame, is_touched_of, table_of, IsExchanged, IsRefilled, IsSlotSince, Table, View}
 use Rattle.page_views.proofs.Indexing.{copied_some, index_filled, none_is}
-use Rattle.page_views.proofs.Keeping.{again, at_count, refilled, table_exchanged}
+use Rattle.page_views.proofs.Keeping.{again, at_count, refilled, some_since, table_exchanged}
 use Rattle.page_views.proofs.Spotting.{marked_filled}
 use Rattle.page_views.proofs.Tables.{table_filled, written_over}
 use Rattle.page_views.proofs.table.PageViews.refill.Goals as goal
@@ -26,10 +26,11 @@ recall_at-requires c =
     let q = c.self.inside in
     let at : IsSlotSince q.views.items q.index.count c.args.frame c.args.since c.in-Some.slot = rw c.deref.ensures.value at c.in-Some.ensures.found in
     let ex : IsExchanged q.index.count c.in-Some.slot q.views.items c.exchange.new.views = rw c.deref_mut.ensures.value at c.exchange.ensures in
-    slice_get_within c.exchange.new.views q.index.count at.view (at_count q.index.count c.in-Some.slot q.views.items c.exchange.new.views ex c.args.vpn c.args.frame c.args.flags c.args.row c.args.since at)
+    let below = slice_get_within c.exchange.new.views q.index.count at.view (at_count q.index.count c.in-Some.slot q.views.items c.exchange.new.views ex c.args.vpn c.args.frame c.args.flags c.args.row c.args.since at) in
+    subst (λ (vs : List View). q.index.count < length vs) (sym (c.deref_mut-2.ensures.value ∙ written_over q.views.len q.views.items c.exchange.new.views q.views.ok.0 ex.size)) below
 
 -- the slots once one was recalled
-became : (c : goal.After-recall_at) (at : IsSlotSince c.self.inside.views.items c.self.inside.index.count c.args.frame c.args.since c.in-Some.slot)
+became : (c : goal.After-add) (at : IsSlotSince c.self.inside.views.items c.self.inside.index.count c.args.frame c.args.since c.in-Some.slot)
     (ex : IsExchanged c.self.inside.index.count c.in-Some.slot c.self.inside.views.items c.exchange.new.views)
     → c.recall_at.new.views ≡ set c.exchange.new.views c.self.inside.index.count (again c.self.inside.index.count c.in-Some.slot c.self.inside.views.items c.exchange.new.views ex c.args.vpn c.args.frame c.args.flags c.args.row c.args.since at)
 became c at ex =
@@ -40,7 +41,7 @@ became c at ex =
     (rw (c.deref_mut-2.ensures.value, whole) at c.recall_at.ensures) at.view (at_count n c.in-Some.slot q.views.items mid ex c.args.vpn c.args.frame c.args.flags c.args.row c.args.since at)
 
 -- no view of the frame was touched
-untouched : (c : goal.After-recall_at) → find (is_touched_of c.args.frame) (take c.self.inside.index.count c.self.inside.views.items) ≡ None
+untouched : (c : goal.After-add) → find (is_touched_of c.args.frame) (take c.self.inside.index.count c.self.inside.views.items) ≡ None
 untouched c =
     let none : is_some (find (is_touched_of c.args.frame) c.as_slice.result.now) ≡ false = ap (λ o. is_some o) (sym c.touched_of.ensures) ∙ copied_some c.touched_of.result ∙ sym c.is_some.ensures ∙ c.if-is_some.false in
     subst (λ (vs : List View). find (is_touched_of c.args.frame) vs ≡ None) (c.as_slice.ensures.views ∙ ap (λ (t : Table). t.views) (sym c.self.view_is)) (none_is (find (is_touched_of c.args.frame) c.as_slice.result.now) none)
@@ -67,6 +68,13 @@ invariant_of-self c =
       index_filled q.views.len n mid c.recall_at.new.views v (record { vpn = c.args.vpn; frame = c.args.frame; flags = c.args.flags; row = c.args.row; taken = at.view.taken }) c.has_frame-shared.result q.index length_is below is refl refl refl shared index,
       marked_filled q.views.len n mid c.recall_at.new.views v q.marked length_is below is marked,
     )
+
+pub returns-clause-answer : goal.returns-clause-answer
+returns-clause-answer c =
+    let q = c.self.inside in
+    let at : IsSlotSince q.views.items q.index.count c.args.frame c.args.since c.in-Some.slot = rw c.deref.ensures.value at c.in-Some.ensures.found in
+    subst (λ (t : Table). true ≡ can_refill t.views t.kept c.args.frame c.args.since) c.self.view_is
+    (sym (ap₂ (λ (o : Option View) (b : Bool). not (is_some o) && b) (untouched c) (some_since c.args.frame c.args.since q.views.items q.index.count c.in-Some.slot at)))
 
 pub returns-clause-refilled : goal.returns-clause-refilled
 returns-clause-refilled c =
