@@ -173,7 +173,7 @@ module _ (count slot : ℕ) (slots mid : List View) (ex : IsExchanged count slot
 -- ---- where a slot is found
 
 module _ (frame : Frame) (since : ℕ) where
-  abbrev keeps : View → Bool
+  abbrev pub keeps : View → Bool
   keeps v = is_since frame since (dated v)
 
   -- at a place that is looked at first

@@ -1,8 +1,8 @@
 -- A slot that keeps the page is the view that is added, and the index tells of it.
-use Rattle.std.proofs.Common.{◌≡◌, ◌+◌, ◌<◌, Bool, true, false, List, length, find, take, set, Option, Some, None, refl, ap, ap₂, sym, ◌∙◌, subst, arith}
+use Rattle.std.proofs.Common.{◌≡◌, ℕ, ◌+◌, ◌<◌, Bool, true, false, List, length, find, take, set, Option, Some, None, refl, ap, ap₂, sym, ◌∙◌, subst, arith}
 use Rattle.std.specs.Prelude.{◌&&◌, is_some, not}
 use Rattle.std.proofs.Math.ListN.{length-set}
-use Rattle.std.proofs.lemmas.Option.{slice_get_within}
+use Rattle.std.proofs.lemmas.Option.{get_or_from_slice_get, slice_get_within}
 use Rattle.page_views.specs.Index.{IsIndex}
 use Rattle.page_views.specs.Origins.{viewed}
 use Rattle.page_views.specs.Spots.{AreAllMarkedAt}
@@ -38,7 +38,9 @@ became c at ex =
     let n = q.index.count in
     let mid = c.exchange.new.views in
     let whole = written_over q.views.len q.views.items mid q.views.ok.0 ex.size in
+    let taken : c.taken.result ≡ at.view.taken = c.taken.ensures ∙ ap (λ (v : View). v.taken) (c.index.ensures ∙ get_or_from_slice_get q.views.items c.in-Some.slot at.view c.index.result.now at.there) in
     (rw (c.deref_mut-2.ensures.value, whole) at c.recall_at.ensures) at.view (at_count n c.in-Some.slot q.views.items mid ex c.args.vpn c.args.frame c.args.flags c.args.row c.args.since at)
+    ∙ ap (λ (o : Option ℕ). set mid n (viewed (record { vpn = c.args.vpn; frame = c.args.frame; flags = c.args.flags; row = c.args.row; taken = o }) at.view.first at.view.first)) taken
 
 -- no view of the frame was touched
 untouched : (c : goal.After-add) → find (is_touched_of c.args.frame) (take c.self.inside.index.count c.self.inside.views.items) ≡ None
@@ -90,5 +92,6 @@ returns-clause-refilled c =
     let whole = written_over q.views.len slots mid q.views.ok.0 ex.size in
     let below = slice_get_within mid n at.view (at_count n c.in-Some.slot slots mid ex c.args.vpn c.args.frame c.args.flags c.args.row c.args.since at) in
     let after = written_over q.views.len mid c.recall_at.new.views (q.views.ok.0 ∙ sym ex.size) size ∙ is in
-    subst (λ (t : Table). IsRefilled c.args.vpn c.args.frame c.args.flags c.args.row c.args.since t (table_of q.most (n + 1) (set mid n v))) c.self.view_is
-    (refilled n c.in-Some.slot slots mid ex c.args.vpn c.args.frame c.args.flags c.args.row c.args.since at q.most below (untouched c))
+    rw (c.add.ensures, whole, after)
+    (subst (λ (t : Table). IsRefilled c.args.vpn c.args.frame c.args.flags c.args.row c.args.since t (table_of q.most (n + 1) (set mid n v))) c.self.view_is
+    (refilled n c.in-Some.slot slots mid ex c.args.vpn c.args.frame c.args.flags c.args.row c.args.since at q.most below (untouched c)))
