@@ -1,9 +1,9 @@
 -- Pages that are the same but for a part.
-use Rattle.std.proofs.Common.{◌≡◌, ℕ, zero, suc, ◌+◌, ◌-◌, ◌<◌, ◌≤◌, ◌/◌, ◌%◌, Bool, true, false, List, ◌++◌, take, drop, set, refl, ap, ap₂, sym, ◌∙◌, subst, arith, drop-drop, take-append-drop}
+use Rattle.std.proofs.Common.{◌≡◌, ℕ, zero, suc, ◌+◌, ◌-◌, ◌≤◌, ◌/◌, ◌%◌, Bool, true, false, List, ◌++◌, take, drop, length, set, refl, ap, ap₂, sym, ◌∙◌, arith, drop-drop, take-append-drop}
 use Rattle.std.specs.Prelude.{nat_le}
 use Rattle.std.specs.Bool.{OnTrue}
 use Rattle.std.proofs.lemmas.Bool.{leb-true}
-use Rattle.std.proofs.lemmas.List.{drop-set-lt, take-set-le, take-take}
+use Rattle.std.proofs.lemmas.List.{drop_all, drop-set-lt, take-set-le, take-take}
 use Rattle.rv32_exec.specs.Pages.{put_bytes}
 use Rattle.page_views.specs.declared.part.Part.{Part}
 use Rattle.page_views.specs.Parts.{AreAlikeBut, ReachesOver}
@@ -21,6 +21,14 @@ none_differs p = by (nat_le p.to p.from) refl
     by : (b : Bool) → nat_le p.to p.from ≡ b → OnTrue b ((one other : List ℕ) → AreAlikeBut p one other → one ≡ other)
     by true is = λ one other. same_all p one other (leb-true p.to p.from is)
     by false is = tt
+
+-- the whole page is a part in which any two are the same
+pub alike_in_all : (one other : List ℕ) → length one ≡ 4096 → length other ≡ 4096 → AreAlikeBut (record { from = 0; to = 4096 }) one other
+alike_in_all one other size other_size =
+    record {
+      before = refl;
+      behind = drop_all 4096 one (omega (arith, size)) ∙ sym (drop_all 4096 other (omega (arith, other_size)));
+    }
 
 -- in a wider part too
 pub alike_wider : (old new : Part) (one other : List ℕ) → ReachesOver old new → AreAlikeBut old one other → AreAlikeBut new one other
@@ -52,11 +60,10 @@ alike_put old new one other after count at value over from to put alike =
     }
 
 -- the part of one page over that of the other
-pub copied_over : (p : Part) (into bytes after : List ℕ) → p.from ≤ p.to → AreAlikeBut p into bytes → after ≡ take p.from into ++ (take (p.to - p.from) (drop p.from bytes) ++ drop p.to into) → after ≡ bytes
-copied_over p into bytes after order alike is =
+pub copied_over : (p : Part) (into bytes part : List ℕ) → p.from ≤ p.to → AreAlikeBut p into bytes → part ≡ take (p.to - p.from) (drop p.from bytes) → take p.from into ++ (part ++ drop (p.to - p.from) (drop p.from into)) ≡ bytes
+copied_over p into bytes part order alike is =
     let to : p.from + (p.to - p.from) ≡ p.to = omega (arith, order) in
-    let behind : drop (p.to - p.from) (drop p.from bytes) ≡ drop p.to bytes = drop-drop (p.to - p.from) p.from bytes ∙ ap (λ (n : ℕ). drop n bytes) to in
-    is
-    ∙ ap₂ (λ (xs ys : List ℕ). xs ++ (take (p.to - p.from) (drop p.from bytes) ++ ys)) alike.before (alike.behind ∙ sym behind)
-    ∙ ap (λ (ys : List ℕ). take p.from bytes ++ ys) (take-append-drop (p.to - p.from) (drop p.from bytes))
-    ∙ take-append-drop p.from bytes
+    let behind : (xs : List ℕ) → drop (p.to - p.from) (drop p.from xs) ≡ drop p.to xs = λ xs. drop-drop (p.to - p.from) p.from xs ∙ ap (λ (n : ℕ). drop n xs) to in
+    let rest : part ++ drop (p.to - p.from) (drop p.from into) ≡ drop p.from bytes =
+    ap₂ (λ (xs ys : List ℕ). xs ++ ys) is (behind into ∙ alike.behind ∙ sym (behind bytes)) ∙ take-append-drop (p.to - p.from) (drop p.from bytes) in
+    ap₂ (λ (xs ys : List ℕ). xs ++ ys) alike.before rest ∙ take-append-drop p.from bytes
