@@ -57,3 +57,6 @@ returns-clause-entries c =
 
 pub returns-clause-places : goal.returns-clause-places
 returns-clause-places c = places_aside _ _ _ c.self.view_is c.take_over.ensures.rest refl refl
+
+pub returns-clause-held : goal.returns-clause-held
+returns-clause-held c = c.take_over.ensures.held
