@@ -94,7 +94,7 @@ either_false false false e = (refl, refl)
 either_false false true e = absurd (cc)
 either_false true b e = absurd (cc)
 
-none_is : {X : Type 0} (o : Option X) → is_some o ≡ false → o ≡ None
+pub none_is : {X : Type 0} (o : Option X) → is_some o ≡ false → o ≡ None
 none_is None e = refl
 none_is (Some x) e = absurd (cc)
 

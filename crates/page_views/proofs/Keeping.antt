@@ -64,9 +64,9 @@ behind_first (k ∷ kept) o there = (suc there.0, let lt = there.1 in omega arit
 
 -- the slot at a place behind the first so many
 get_behind : (n : ℕ) (slots : List View) (i : ℕ) → slice_get (drop n slots) i ≡ slice_get slots (n + i)
-get_behind zero slots i = refl
+get_behind zero slots i = ap (slice_get slots) (let same : i ≡ zero + i = omega arith in same)
 get_behind (suc n) [] i = refl
-get_behind (suc n) (v ∷ slots) i = get_behind n slots i
+get_behind (suc n) (v ∷ slots) i = get_behind n slots i ∙ ap (slice_get (v ∷ slots)) (let same : suc (n + i) ≡ suc n + i = omega arith in same)
 
 get_seam : (front after : List View) → slice_get (front ++ after) (length front) ≡ slice_get after 0
 get_seam [] after = refl
@@ -173,7 +173,7 @@ module _ (count slot : ℕ) (slots mid : List View) (ex : IsExchanged count slot
 -- ---- where a slot is found
 
 module _ (frame : Frame) (since : ℕ) where
-  abbrev keeps : View → Bool
+  abbrev pub keeps : View → Bool
   keeps v = is_since frame since (dated v)
 
   -- at a place that is looked at first

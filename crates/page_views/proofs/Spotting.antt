@@ -14,9 +14,8 @@ use Rattle.flat_rules.specs.flat_state.specs.Translation.{wants}
 use Rattle.flat_rules.specs.flat_state.proofs.Finding.{find-passes}
 use Rattle.flat_rules.specs.flat_state.proofs.Places.{get-append, set_cases}
 use Rattle.page_views.specs.declared.spots.Spot.{Spot}
-use Rattle.page_views.specs.declared.spots.Spots.{Spots}
 use Rattle.page_views.specs.declared.spots.Marked.{Marked}
-use Rattle.page_views.specs.Spots.{marked_with, no_spots, noted_if, nothing_marked, with_spot, AreAllMarkedAt, AreMarkedAt, IsMarkedAt, IsSpot}
+use Rattle.page_views.specs.Spots.{marked_with, no_spot, noted_if, nothing_marked, AreAllMarkedAt, AreMarkedAt, IsMarkedAt, IsNoted}
 use Rattle.page_views.specs.Views.{copied, is_of_page, mark_view, mark_view_of, put_in_view, where_flagged, Copied, HaveOneViewAPage, View}
 use Rattle.std.proofs.lemmas.List.{get_or-take, length-take-le, take_more_set}
 use Rattle.std.proofs.Math.ListN.{length-set}
@@ -28,21 +27,21 @@ none_at zero k x s e = absurd (cc)
 none_at (suc n) zero x s e = sym (same_Some x s e)
 none_at (suc n) (suc k) x s e = none_at n k x s e
 
-none_spotted : (access : Access) (vs : List View) → AreMarkedAt access vs no_spots
-none_spotted access vs = λ k s there low. absurd (omega (arith, low, ap (λ (t : Spot). t.page) (none_at 16 k (record { page = 4294967295; place = 0 }) s there)))
+no_page : (page place : ℕ) → no_spot ≡ record { page = page; place = place } → page < 1048576 → ⊥
+no_page page place is low = omega (arith, low, ap (λ (t : Spot). t.page) is)
 
 pub none_marked_at : (vs : List View) → AreAllMarkedAt vs nothing_marked
-none_marked_at vs Fetch = none_spotted Fetch vs
-none_marked_at vs Read = none_spotted Read vs
-none_marked_at vs Write = none_spotted Write vs
+none_marked_at vs Fetch = λ page place is low. absurd (no_page page place is low)
+none_marked_at vs Read = λ page place is low. absurd (no_page page place (sym (none_at 16 (page % 16) no_spot (record { page = page; place = place }) is)) low)
+none_marked_at vs Write = λ page place is low. absurd (no_page page place (sym (none_at 16 (page % 16) no_spot (record { page = page; place = place }) is)) low)
 
 -- a view more
 pub marked_more : (vs ws : List View) (m : Marked) → AreAllMarkedAt vs m → AreAllMarkedAt (vs ++ ws) m
-marked_more vs ws m all = λ access k s there low.
-    let old = all access k s there low in
+marked_more vs ws m all = λ access page place is low.
+    let old = all access page place is low in
     record {
       view = old.view;
-      there = get-append vs ws s.place old.view old.there;
+      there = get-append vs ws place old.view old.there;
       page = old.page;
       allowed = old.allowed;
       touched = old.touched;
@@ -63,7 +62,7 @@ module _ (f : View → View) (same : (v : View) → copied (f v) ≡ copied v) (
       }
 
   pub marked_mapped : (vs : List View) (m : Marked) → AreAllMarkedAt vs m → AreAllMarkedAt (map f vs) m
-  marked_mapped vs m all = λ access k s there low. spot_mapped access vs s (all access k s there low)
+  marked_mapped vs m all = λ access page place is low. spot_mapped access vs (record { page = page; place = place }) (all access page place is low)
 
 -- a store leaves marks
 pub put_touched : (frame : Frame) (count at value : ℕ) (v : View) → v.touched ≡ true → (put_in_view frame count at value v).touched ≡ true
@@ -100,18 +99,18 @@ mark_written vpn access v is = by access (v.vpn.0 == vpn.0)
     by Write true = refl
 
 -- a view that is noted is the one of its page
-pub spot_found : (access : Access) (vs : List View) (spots : Spots) (page place : ℕ) → HaveOneViewAPage vs → AreMarkedAt access vs spots → IsSpot spots page place → page < 1048576
+pub spot_found : (access : Access) (vs : List View) (m : Marked) (page place : ℕ) → HaveOneViewAPage vs → AreMarkedAt access vs m → IsNoted access m page place → page < 1048576
     → (v : View) × (slice_get vs place ≡ Some v) × (find (is_of_page (record { 0 = page })) vs ≡ Some v) × (wants access v.flags ≡ true) × (v.touched ≡ true) × (is_write access ≡ true → v.written ≡ true)
-spot_found access vs spots page place one all is low =
-    let at = all (page % 16) (record { page = page; place = place }) is low in
+spot_found access vs m page place one all is low =
+    let at = all page place is low in
     let here = get_or_from_slice_get vs place at.view at.view at.there in
     (at.view, at.there, found_at (record { 0 = page }) place vs at.view one (slice_get_within vs place at.view at.there) (ap (λ (v : View). v.vpn.0) here ∙ at.page) ∙ ap (λ (v : View). Some v) here, at.allowed, at.touched, at.written)
 
 -- an access goes through it
-pub spot_through : (access : Access) (vs : List View) (spots : Spots) (page place : ℕ) → HaveOneViewAPage vs → AreMarkedAt access vs spots → IsSpot spots page place → page < 1048576
+pub spot_through : (access : Access) (vs : List View) (m : Marked) (page place : ℕ) → HaveOneViewAPage vs → AreMarkedAt access vs m → IsNoted access m page place → page < 1048576
     → slice_get vs place ≡ where_flagged access (find (is_of_page (record { 0 = page })) vs)
-spot_through access vs spots page place one all is low =
-    let at = spot_found access vs spots page place one all is low in
+spot_through access vs m page place one all is low =
+    let at = spot_found access vs m page place one all is low in
     at.1 ∙ sym (ap (where_flagged access) at.2 ∙ ap (λ (b : Bool). if b then Some at.0 else None) at.3)
 
 -- a view that has a mark stays as it is with it
@@ -131,10 +130,10 @@ stays_behind vpn access (v ∷ vs) each =
     by false other = refl
 
 -- the views are as they are marked where the one of the page has the mark
-pub marked_already : (access : Access) (vs : List View) (spots : Spots) (page place : ℕ) → HaveOneViewAPage vs → AreMarkedAt access vs spots → IsSpot spots page place → page < 1048576
+pub marked_already : (access : Access) (vs : List View) (m : Marked) (page place : ℕ) → HaveOneViewAPage vs → AreMarkedAt access vs m → IsNoted access m page place → page < 1048576
     → vs ≡ map (mark_view_of (record { 0 = page }) access) vs
-marked_already access vs spots page place one all is low =
-    let at = spot_found access vs spots page place one all is low in
+marked_already access vs m page place one all is low =
+    let at = spot_found access vs m page place one all is low in
     sym (stays_behind (record { 0 = page }) access vs
     (λ k w there same.
     let here = get_or_from_slice_get vs k w w there in
@@ -142,23 +141,24 @@ marked_already access vs spots page place one all is low =
     marked_stays access w (ap (λ (v : View). v.touched) it ∙ at.4) (λ write. ap (λ (v : View). v.written) it ∙ at.5 write)))
 
 -- the view of a page is noted for a kind of access
-spots_with : (access : Access) (vs : List View) (spots : Spots) (page place : ℕ) → IsMarkedAt access vs (record { page = page; place = place }) → AreMarkedAt access vs spots → AreMarkedAt access vs (with_spot page place spots)
-spots_with access vs spots page place new all = λ k s there low.
-    elim (set_cases spots.spots (page % 16) k (record { page = page; place = place }) s there) [
-      | inl here ↦ subst (IsMarkedAt access vs) here.1 new
-      | inr other ↦ all k s other low
-    ]
-
 pub marked_noted : (access : Access) (vs : List View) (m : Marked) (page place : ℕ) → IsMarkedAt access vs (record { page = page; place = place }) → AreAllMarkedAt vs m → AreAllMarkedAt vs (marked_with page access place m)
-marked_noted Fetch vs m page place new all Fetch = spots_with Fetch vs m.fetches page place new (all Fetch)
+marked_noted Fetch vs m page place new all Fetch = λ p at is low. subst (IsMarkedAt Fetch vs) is new
 marked_noted Fetch vs m page place new all Read = all Read
 marked_noted Fetch vs m page place new all Write = all Write
 marked_noted Read vs m page place new all Fetch = all Fetch
-marked_noted Read vs m page place new all Read = spots_with Read vs m.reads page place new (all Read)
+marked_noted Read vs m page place new all Read = λ p at is low.
+    elim (set_cases m.reads.spots (page % 16) (p % 16) (record { page = page; place = place }) (record { page = p; place = at }) is) [
+      | inl here ↦ subst (IsMarkedAt Read vs) here.1 new
+      | inr other ↦ all Read p at other low
+    ]
 marked_noted Read vs m page place new all Write = all Write
 marked_noted Write vs m page place new all Fetch = all Fetch
 marked_noted Write vs m page place new all Read = all Read
-marked_noted Write vs m page place new all Write = spots_with Write vs m.writes page place new (all Write)
+marked_noted Write vs m page place new all Write = λ p at is low.
+    elim (set_cases m.writes.spots (page % 16) (p % 16) (record { page = page; place = place }) (record { page = p; place = at }) is) [
+      | inl here ↦ subst (IsMarkedAt Write vs) here.1 new
+      | inr other ↦ all Write p at other low
+    ]
 
 -- the view that was marked has the mark of the access
 pub newly_marked : (access : Access) (vs : List View) (page place : ℕ) (v : View) → slice_get vs place ≡ Some v → v.vpn.0 ≡ page → wants access v.flags ≡ true

@@ -10,8 +10,11 @@ use Rattle.page_views.specs.declared.spots.Marked.{Marked}
 use Rattle.page_views.specs.Views.{View}
 
 -- nothing is noted: no page has that number
+abbrev pub no_spot : Spot
+no_spot = record { page = 4294967295; place = 0 }
+
 abbrev pub no_spots : Spots
-no_spots = record { spots = replicate 16 (record { page = 4294967295; place = 0 }) }
+no_spots = record { spots = replicate 16 no_spot }
 
 -- the view of a page is noted, by its place
 abbrev pub with_spot : ℕ → ℕ → Spots → Spots
@@ -22,17 +25,17 @@ abbrev pub IsSpot : Spots → ℕ → ℕ → Type 0
 IsSpot s page place = slice_get s.spots (page % 16) ≡ Some (record { page = page; place = place })
 
 abbrev pub nothing_marked : Marked
-nothing_marked = record { fetches = no_spots; reads = no_spots; writes = no_spots }
+nothing_marked = record { fetch = no_spot; reads = no_spots; writes = no_spots }
 
--- those of a kind of access
-abbrev pub spots_of : Access → Marked → Spots
-spots_of Fetch m = m.fetches
-spots_of Read m = m.reads
-spots_of Write m = m.writes
+-- the view of a page is the one that is noted for a kind of access, by its place
+abbrev pub IsNoted : Access → Marked → ℕ → ℕ → Type 0
+IsNoted Fetch m page place = m.fetch ≡ record { page = page; place = place }
+IsNoted Read m page place = IsSpot m.reads page place
+IsNoted Write m page place = IsSpot m.writes page place
 
--- the view of a page is noted for a kind of access
+-- .. and becomes so
 abbrev pub marked_with : ℕ → Access → ℕ → Marked → Marked
-marked_with page Fetch place m = record m { fetches = with_spot page place m.fetches }
+marked_with page Fetch place m = record m { fetch = record { page = page; place = place } }
 marked_with page Read place m = record m { reads = with_spot page place m.reads }
 marked_with page Write place m = record m { writes = with_spot page place m.writes }
 
@@ -49,9 +52,9 @@ pub record IsMarkedAt (access : Access) (vs : List View) (s : Spot) : Type 0 whe
   pub written : is_write access ≡ true → view.written ≡ true
 
 -- .. and so it is with each one that is noted for a kind of access, if its page is one that there can be
-abbrev pub AreMarkedAt : Access → List View → Spots → Type 0
-AreMarkedAt access vs spots = (k : ℕ) (s : Spot) → slice_get spots.spots k ≡ Some s → s.page < 1048576 → IsMarkedAt access vs s
+abbrev pub AreMarkedAt : Access → List View → Marked → Type 0
+AreMarkedAt access vs m = (page place : ℕ) → IsNoted access m page place → page < 1048576 → IsMarkedAt access vs (record { page = page; place = place })
 
 -- .. and with those for all kinds
 abbrev pub AreAllMarkedAt : List View → Marked → Type 0
-AreAllMarkedAt vs m = (access : Access) → AreMarkedAt access vs (spots_of access m)
+AreAllMarkedAt vs m = (access : Access) → AreMarkedAt access vs m

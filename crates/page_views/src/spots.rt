@@ -1,7 +1,7 @@
 //! Where accesses of late went through.
 
 ghost use Rattle.std.specs.Prelude.{◌≡◌, ◌%◌, IfSome};
-ghost use Rattle.page_views.specs.Spots.{marked_with, no_spots, nothing_marked, spots_of, with_spot, IsSpot};
+ghost use Rattle.page_views.specs.Spots.{marked_with, no_spot, no_spots, nothing_marked, with_spot, IsNoted, IsSpot};
 
 use rv32_exec::Access;
 
@@ -17,6 +17,29 @@ pub(crate) struct Spot {
     pub(crate) place: u8,
 }
 
+impl Spot {
+    pub(crate) fn none() -> Spot
+        ensures { result ≡ no_spot }
+    {
+        Spot {
+            page: NO_PAGE,
+            place: 0,
+        }
+    }
+
+    // The place, if it is that of the view of the page.
+    #[inline]
+    pub(crate) fn place(&self, page: u32) -> Option<u8>
+        ensures { IfSome result (λ place. self.now ≡ record { page = page; place = place }) }
+    {
+        if self.page == page {
+            Some(self.place)
+        } else {
+            None
+        }
+    }
+}
+
 // For the pages of each line, the view that was noted last.
 #[derive(Clone, Copy)]
 pub(crate) struct Spots {
@@ -28,10 +51,7 @@ impl Spots {
         ensures { result ≡ no_spots }
     {
         Spots {
-            spots: [Spot {
-                page: NO_PAGE,
-                place: 0,
-            }; LINES],
+            spots: [Spot::none(); LINES],
         }
     }
 
@@ -40,12 +60,7 @@ impl Spots {
     pub(crate) fn place(&self, page: u32) -> Option<u8>
         ensures { IfSome result (IsSpot self.now page) }
     {
-        let spot = self.spots[line_of(page)];
-        if spot.page == page {
-            Some(spot.place)
-        } else {
-            None
-        }
+        self.spots[line_of(page)].place(page)
     }
 
     // Notes the place of the view of a page.
@@ -67,7 +82,8 @@ fn line_of(page: u32) -> usize
 // Views that let accesses of a kind through, and that have the mark of one.
 #[derive(Clone, Copy)]
 pub(crate) struct Marked {
-    pub(crate) fetches: Spots,
+    // That of the last fetch alone: the next one is mostly of the same page, so no line is looked for.
+    pub(crate) fetch: Spot,
     pub(crate) reads: Spots,
     pub(crate) writes: Spots,
 }
@@ -77,7 +93,7 @@ impl Marked {
         ensures { result ≡ nothing_marked }
     {
         Marked {
-            fetches: Spots::none(),
+            fetch: Spot::none(),
             reads: Spots::none(),
             writes: Spots::none(),
         }
@@ -86,10 +102,10 @@ impl Marked {
     // The place of the view of a page, where it is known that it lets the access through, and has its mark.
     #[inline]
     pub(crate) fn place(&self, page: u32, access: Access) -> Option<u8>
-        ensures { IfSome result (IsSpot (spots_of access self.now) page) }
+        ensures { IfSome result (IsNoted access self.now page) }
     {
         match access {
-            Access::Fetch => self.fetches.place(page),
+            Access::Fetch => self.fetch.place(page),
             Access::Read => self.reads.place(page),
             Access::Write => self.writes.place(page),
         }
@@ -100,7 +116,7 @@ impl Marked {
         ensures { self.new ≡ marked_with page access place self.old }
     {
         match access {
-            Access::Fetch => self.fetches.note(page, place),
+            Access::Fetch => self.fetch = Spot { page, place },
             Access::Read => self.reads.note(page, place),
             Access::Write => self.writes.note(page, place),
         }

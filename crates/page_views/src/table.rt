@@ -254,20 +254,27 @@ impl PageViews {
         let page = va / PAGE_BYTES;
         match self.marked.place(page, access) {
             Some(place) => Some(place as usize),
-            None => self.search(page, access),
+            None => {
+                let place = self.search(page, access);
+                if place < self.index.count {
+                    Some(place)
+                } else {
+                    None
+                }
+            }
         }
     }
 
-    // The place of the view of a page, where that lets an access through. It stays a call, so that an access is short.
+    // The place of the view of a page, where that lets an access through, and else the one behind all views. It stays a call, so that an
+    // access is short; and it answers a number, since an `Option` that some call answers is tested again where it meets another.
     #[cold]
     #[inline(never)]
-    fn search(&self, page: u32, access: Access) -> Option<usize>
-        ensures view { seen_at result self.now.views ≡ where_flagged access (find (is_of_page (record { 0 = page })) self.now.views) }
-        ensures within { IfSome result (λ place. place < length self.now.views) }
+    fn search(&self, page: u32, access: Access) -> usize
+        ensures { slice_get self.now.views result ≡ where_flagged access (find (is_of_page (record { 0 = page })) self.now.views) }
     {
         match self.place(Vpn(page)) {
-            Some(place) if wants(access, self.views[place].flags()) => Some(place),
-            _ => None,
+            Some(place) if wants(access, self.views[place].flags()) => place,
+            _ => self.index.count,
         }
     }
 

@@ -144,9 +144,8 @@ returns-else-node-eq0-clause-left g t c = λ tree stands.
     let within : next < length mid = omega (arith, call.auto.nodes, seat_within old o.behind next o.joins.behind_it.lies was.0) in
     let above = get_or mid next node in
     let read = slice_get-get_or mid next node within in
-    let changed = record { item = above.item; before = node.before; behind = call.result.1 } in
-    let joined = joins_next old c.args.branch node tree o c.args.place mid next above changed became was refl in
-    removed_next old c.args.branch node tree o c.args.place mid next above changed became was over.new.nodes over.result (omega (arith, c.if-place-before.false, c.if-place-before-2.false)) read (over.ensures.kept above o.before became.tree read joined)
+    let joined = joins_next old c.args.branch node tree o c.args.place mid next above (record { item = above.item; before = node.before; behind = call.result.1 }) became was refl in
+    removed_next old c.args.branch node tree o c.args.place mid next above (record { item = above.item; before = node.before; behind = call.result.1 }) became was over.new.nodes over.result (omega (arith, c.if-place-before.false, c.if-place-before-2.false)) read (over.ensures.kept above o.before became.tree read joined)
 
 pub returns-else-node-eq0-clause-count : goal.returns-else-node-eq0-clause-count
 returns-else-node-eq0-clause-count g t c =

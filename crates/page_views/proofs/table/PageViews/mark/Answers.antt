@@ -1,7 +1,6 @@
 -- The view of the page has the mark already.
 use Rattle.std.proofs.Common.{◌≡◌, ◌/◌, List, map, take, ap, arith, subst}
 use Rattle.cache_ident.specs.declared.names.Vpn.{Vpn}
-use Rattle.page_views.specs.Spots.{spots_of}
 use Rattle.page_views.specs.Views.{mark_view_of, Table, View}
 use Rattle.page_views.proofs.Spotting.{marked_already}
 use Rattle.page_views.proofs.table.PageViews.mark.Goals as goal
@@ -14,4 +13,4 @@ returns-in-Some c =
     let f = mark_view_of vpn c.args.access in
     ap (λ (vs : List View). record t { views = vs })
     (subst (λ (vs : List View). vs ≡ map f vs) (ap (λ (u : Table). u.views) c.self.view_is)
-    (marked_already c.args.access (take q.index.count q.views.items) (spots_of c.args.access q.marked) (c.args.va / 4096) c.in-Some.field-0 c.self.invariant.0.one_a_page (c.self.invariant.2 c.args.access) c.in-Some.ensures (omega (arith, c.ranges.va.fits))))
+    (marked_already c.args.access (take q.index.count q.views.items) q.marked (c.args.va / 4096) c.in-Some.field-0 c.self.invariant.0.one_a_page (c.self.invariant.2 c.args.access) c.in-Some.ensures (omega (arith, c.ranges.va.fits))))
