@@ -223,6 +223,7 @@ module _ (a : Ahead) (vpn : Vpn) (frame : Frame) (flags : Flags) (row : Ident) (
   }
 
   pub made_again : (r : Bool) → OnTrue r (IsRefilled vpn frame flags row since (table_of a) t) → OnFalse r (IsReordered (table_of a) t) → IsMade a → can_fill a.most a.views vpn ≡ true → IsMade with_table
+  unfolding has_refilled
   made_again true is not made room =
       let has = has_refilled is in
       subst IsMade (sym has.is) (made_keeping (more_with (filled a.views vpn frame flags row is.d.bytes (Some is.d.place)) a) t.kept (made_filled a vpn frame flags row is.d.bytes (Some is.d.place) made room))

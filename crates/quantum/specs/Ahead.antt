@@ -61,7 +61,8 @@ pub record HasRefilled (vpn : Vpn) (frame : Frame) (flags : Flags) (row : Ident)
   pub is : after ≡ record (more_with (filled before.views vpn frame flags row d.bytes (Some d.place)) before) { kept = after.kept }
   pub kept : AreKept before.kept after.kept
 
--- nothing changed but the order of what is kept
+-- Nothing changed but what is kept, and what is kept now was kept before. In which order it is, and how much of it, is left open: it
+-- decides how many pages are copied anew, and not what they hold.
 pub record HasReordered (before after : Ahead) : Type 0 where
   pub is : after ≡ record before { kept = after.kept }
   pub kept : AreKept before.kept after.kept

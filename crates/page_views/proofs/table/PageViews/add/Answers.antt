@@ -1,5 +1,5 @@
 -- The table has a view more, and the index tells of it.
-use Rattle.std.proofs.Common.{◌≡◌, ◌+◌, ◌<◌, length, find, take, set, refl, sym, ap, ◌∙◌, arith}
+use Rattle.std.proofs.Common.{◌≡◌, ◌+◌, length, find, take, set, refl, sym, ap, ◌∙◌, arith}
 use Rattle.std.specs.Prelude.{is_some}
 use Rattle.std.proofs.Math.ListN.{length-set}
 use Rattle.page_views.specs.Origins.{viewed_beside}

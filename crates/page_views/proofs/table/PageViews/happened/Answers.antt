@@ -1,7 +1,7 @@
 -- What was touched is kept as it is now, and nothing is a view.
-use Rattle.std.proofs.Common.{rules, ◌≡◌, List, [], ◌++◌, Option, length, map, take, drop, ap, ◌∙◌, arith}
+use Rattle.std.proofs.Common.{rules, ◌≡◌, List, [], ◌++◌, Option, length, map, take, drop, ap, ◌∙◌}
 use Rattle.page_views.specs.declared.index.Index.{Index}
-use Rattle.page_views.specs.Views.{all_dated, as_happened, table_of, Dated, Table, View}
+use Rattle.page_views.specs.Views.{all_dated, as_happened, table_of, Dated, Table}
 use Rattle.page_views.proofs.Keeping.{all_happened}
 use Rattle.page_views.proofs.Spotting.{none_marked_at}
 use Rattle.page_views.proofs.Tables.{length-mapped, written_over}

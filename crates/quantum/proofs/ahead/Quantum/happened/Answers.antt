@@ -1,6 +1,6 @@
 use Rattle.std.proofs.Common.{None, ap, ◌∙◌}
 use Rattle.page_views.specs.Views.{Table}
-use Rattle.quantum.specs.Ahead.{happened, Ahead}
+use Rattle.quantum.specs.Ahead.{happened}
 use Rattle.quantum.proofs.Making.{made_begun}
 use Rattle.quantum.proofs.ahead.Quantum.happened.Goals as goal
 

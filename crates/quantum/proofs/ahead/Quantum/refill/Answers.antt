@@ -1,4 +1,3 @@
-use Rattle.std.proofs.Common.{◌≡◌, sym}
 use Rattle.quantum.specs.Ahead.{Ahead}
 use Rattle.quantum.proofs.Making.{made_again, refilled_so, reordered_so}
 use Rattle.quantum.proofs.ahead.Quantum.refill.Goals as goal
