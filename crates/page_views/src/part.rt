@@ -1,6 +1,6 @@
 //! A part of a page.
 
-ghost use Rattle.std.specs.Prelude.{◌≡◌, ℕ, ◌+◌, ◌<◌, ◌≤◌, List, drop, length, take};
+ghost use Rattle.std.specs.Prelude.{◌≡◌, ℕ, ◌≤◌, List, length};
 ghost use Rattle.std.specs.Bool.{OnTrue};
 ghost use Rattle.page_views.specs.Parts.{AreAlikeBut, IsWithinPage, ReachesOver};
 
