@@ -36,7 +36,8 @@ pub struct PagedRun {
 /// `StoreFault` comes only where a call of the store failed, and else it ends so or with `NoMemory`. After either the store's pages are
 /// left open. A step that stays on pages that were copied costs what it costs in a quantum, a page that isn't kept a read and at
 /// most a write of the store, and each entry of the journal a pass over the threads. A held one that comes first is looked at
-/// again only behind a call, a signal, an end, or a store to a page that told it.
+/// again only behind a call, a signal, an end, or a store to a page that told it. Such an entry costs a pass over the frames too,
+/// where a thread was found held since the last one.
 pub fn run_paged<K: Store>(
     alloc: Global,
     decls: &[Decl],

@@ -5,6 +5,7 @@ mod ahead;
 mod finding;
 mod happening;
 mod looking;
+mod notes;
 mod order;
 
 pub use ahead::{Stands, run_ahead};

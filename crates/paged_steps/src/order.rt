@@ -1,6 +1,6 @@
 //! In which order threads are looked at.
 
-ghost use Rattle.std.specs.Prelude.{◌≡◌, ◌<◌, ◌≤◌, ◌⊎◌, ℕ, [], None, Some, true, false, Contains, IfSome, IfNone, OnOk, length, slice_get, slice_set};
+ghost use Rattle.std.specs.Prelude.{◌≡◌, ◌≢◌, ◌<◌, ◌≤◌, ◌⊎◌, ℕ, [], None, Some, true, false, Contains, IfSome, IfNone, OnOk, length, slice_get, slice_set};
 ghost use Rattle.std.specs.Bool.{OnTrue};
 ghost use Rattle.flat_state.specs.State.{is_ready as is_ready_def};
 ghost use Rattle.flat_rules.specs.Readings.{OfThread};
@@ -10,8 +10,8 @@ ghost use Rattle.quantum.specs.page_views.specs.Views.{View};
 ghost use Rattle.quantum.specs.LocalRun.{status_by};
 ghost use Rattle.flat_state.specs.State.{is_ended};
 ghost use Rattle.paged_steps.specs.Orders.{IsCandidate, HasCall, AllHeld};
-ghost use Rattle.paged_steps.specs.Knowing.{AreKept, AreSpared, AreWatched, KnowsNobody, KnowsNoMore};
 
+use crate::notes::{clear, watch};
 use cache_ident::{Frame, NoMemory, ThreadNo};
 use flat_machine::Flat;
 use flat_rules::{is_completable, is_ready, thread_at};
@@ -29,9 +29,15 @@ pub struct Order {
     /// Of each frame, whether its bytes told so.
     pub watched: Vec<bool>,
     pub choices: u64,
+    // Whether a thread may be noted as held, or a frame as watched.
+    noted: bool,
+
+    ghost none: { noted ≡ false → (n : ℕ) → slice_get held.items n ≢ Some true },
 }
 
 impl Order {
+    ghost use Rattle.paged_steps.specs.Knowing.{AreKept, AreSpared, AreWatched, KnowsNobody, KnowsNoMore};
+
     /// Nothing is known of any thread.
     pub fn new(alloc: Global) -> Order
         ensures { result.held.items ≡ [] }
@@ -41,6 +47,7 @@ impl Order {
             held: Vec::new(alloc),
             watched: Vec::new(alloc),
             choices: 0,
+            noted: false,
         }
     }
 
@@ -54,6 +61,8 @@ impl Order {
         if self.has_room(threads as usize, frames) {
             return Ok(());
         }
+        // All of it is cleared in the end.
+        self.noted = true;
         self.held.resize(threads as usize, false)?;
         self.last.resize(threads as usize, 0)?;
         self.watched.resize(frames, false)?;
@@ -61,15 +70,18 @@ impl Order {
         Ok(())
     }
 
-    /// No thread is known to be held.
+    /// No thread is known to be held. Where none was, this takes constant time.
     pub fn forget(&mut self)
         ensures none { KnowsNobody self.new.held.items }
         ensures len { length self.new.held.items ≡ length self.old.held.items }
         ensures frames { length self.new.watched.items ≡ length self.old.watched.items }
         ensures last { self.new.last ≡ self.old.last }
     {
-        clear(&mut self.held);
-        clear(&mut self.watched);
+        if self.noted {
+            clear(&mut self.held);
+            clear(&mut self.watched);
+            self.noted = false;
+        }
     }
 
     /// Notes that steps happened. Who is known to be held is so still, unless they stored to a watched frame, or ended their thread,
@@ -105,6 +117,7 @@ impl Order {
         ensures len { length self.new.watched.items ≡ length self.old.watched.items }
         ensures last { self.new.last ≡ self.old.last }
     {
+        self.noted = true;
         self.held[no.0 as usize] = true;
         watch(&mut self.watched, copies);
     }
@@ -204,28 +217,6 @@ impl Order {
             priority: thread.priority,
             last: self.last[no.0 as usize],
         })
-    }
-}
-
-// None of these is so any more.
-fn clear(notes: &mut Vec<bool>)
-    ensures none { KnowsNobody notes.new.items }
-    ensures len { length notes.new.items ≡ length notes.old.items }
-{
-    for n in 0..notes.len() {
-        notes[n] = false;
-    }
-}
-
-// The frames of copies are watched.
-fn watch(watched: &mut Vec<bool>, copies: &[PageView])
-    requires frames { (v : View) → Contains copies.now v → v.frame.0 < length watched.old.items }
-    ensures watched { AreWatched watched.new.items copies.now }
-    ensures more { (f : ℕ) → slice_get watched.old.items f ≡ Some true → slice_get watched.new.items f ≡ Some true }
-    ensures len { length watched.new.items ≡ length watched.old.items }
-{
-    for view in copies {
-        watched[view.frame().0 as usize] = true;
     }
 }
 

@@ -6,7 +6,7 @@ use Rattle.cache_ident.specs.declared.names.Frame.{Frame}
 use Rattle.quantum.specs.page_views.specs.Views.{View}
 use Rattle.paged_steps.proofs.Orders.{noted_more, noted_too}
 use Rattle.paged_steps.proofs.Taking.{one_more_case}
-use Rattle.paged_steps.proofs.order.watch.Goals as goal
+use Rattle.paged_steps.proofs.notes.watch.Goals as goal
 
 pub loop-view-init : goal.loop-view-init
 loop-view-init c = record { so_far = λ v there. absurd (let lt = there.1 in omega (arith, lt)); more = λ f was. was; len = refl }

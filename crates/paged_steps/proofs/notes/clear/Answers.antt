@@ -1,6 +1,6 @@
 use Rattle.std.proofs.Common.{◌≡◌, ℕ, true, false, Some, slice_get, sym, ◌∙◌, arith}
 use Rattle.std.proofs.lemmas.Option.{slice_get_within}
-use Rattle.paged_steps.proofs.order.clear.Goals as goal
+use Rattle.paged_steps.proofs.notes.clear.Goals as goal
 
 pub returns-clause-none : goal.returns-clause-none
 returns-clause-none c = λ n there.

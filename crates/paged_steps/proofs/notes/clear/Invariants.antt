@@ -1,5 +1,5 @@
 use Rattle.std.proofs.Common.{◌≡◌, ◌<◌, ℕ, false, length, Some, slice_get}
-use Rattle.paged_steps.proofs.order.clear.Given as goal
+use Rattle.paged_steps.proofs.notes.clear.Given as goal
 
 abbrev pub invariant-loop-n : goal.invariant-loop-n
 invariant-loop-n l = record {

@@ -1,6 +1,6 @@
 use Rattle.std.proofs.Common.{◌≡◌, ℕ, true, length, take, Some, slice_get}
 use Rattle.paged_steps.specs.Knowing.{AreWatched}
-use Rattle.paged_steps.proofs.order.watch.Given as goal
+use Rattle.paged_steps.proofs.notes.watch.Given as goal
 
 abbrev pub invariant-loop-view : goal.invariant-loop-view
 invariant-loop-view l = record {
