@@ -18,6 +18,7 @@ use app_kernel::Notice;
 use cache_board::{Quantum, Ticket};
 use cache_ident::{NoMemory, Vpn};
 use page_views::MOST_VIEWS;
+use phys_groups::PAGE_BYTES;
 use quantum::Paused;
 
 /// What a thread wants behind its steps.
@@ -64,7 +65,7 @@ fn run_ahead<P: Processor>(
         let Paused::Miss { va, .. } = paused else {
             return paused;
         };
-        let vpn = Vpn(va / 4096);
+        let vpn = Vpn(va / PAGE_BYTES);
         if !quantum.can_fill(vpn) {
             return paused;
         }
@@ -86,7 +87,7 @@ fn ask_of<P: Processor>(port: &mut P, ticket: &Ticket, quantum: &Quantum, paused
         Paused::Call => Ask::Owners(Notice::Trap),
         Paused::Signal => Ask::Healing,
         Paused::Miss { va, access } => {
-            let vpn = Vpn(va / 4096);
+            let vpn = Vpn(va / PAGE_BYTES);
             if !quantum.can_fill(vpn) && port.allows(ticket, vpn, access) {
                 Ask::Nothing
             } else {

@@ -54,6 +54,9 @@ pub views_seen : (after : List (Entry × ℕ)) (found b : Recorded) (thread : Id
 views_seen after found b thread a same is views =
     subst (λ (j : List Entry). AreOfTicket j thread a) (sym (journal_seen after found is)) (subst (λ (c : Recorded). AreOfTicket c.journal.entries thread a) same views)
 
+pub kept_seen : (after : List (Entry × ℕ)) (b : Recorded) (a : Ahead) → after ≡ past_of b → AreAllAsOf b.journal.entries a → AreAllAsOf (entries_of after) a
+kept_seen after b a is kept = subst (λ (j : List Entry). AreAllAsOf j a) (sym (journal_seen after b is)) kept
+
 -- ---- tickets
 
 pub own_if : (cpu number : ℕ) (ticket : Option Ticket) → cpu ≡ number → IfSome ticket (λ its. its.cpu ≡ number) → IfSome ticket (λ its. its.cpu ≡ cpu)

@@ -1,7 +1,7 @@
 use Rattle.std.proofs.Common.{ℕ, ◌<◌, ◌≡◌, true, subst, ◌∙◌}
 use Rattle.std.specs.Prelude.{IfSome}
 use Rattle.board_turns.specs.Paces.{beat_of, paced, wants_first}
-use Rattle.board_turns.proofs.Later.{kept_later, views_later}
+use Rattle.board_turns.proofs.Later.{views_later}
 use Rattle.board_turns.proofs.Told.{told_tried}
 use Rattle.board_turns.proofs.quanta.try_steps.Goals as goal
 
@@ -10,22 +10,6 @@ commit-requires-clause-views g c =
     let ran = c.run_ahead-paused in
     let asked = c.ask_of-ask in
     views_later (g.P.Processor.seen ran.new.port) (g.P.Processor.seen asked.new.port) ran.new.quantum (g.met.P.Processor.grows ran.new.port asked.new.port asked.ensures.continued) c.args.ticket.now.thread ran.ensures.views
-
-pub returns-in_err-committed-clause-kept : goal.returns-in_err-committed-clause-kept
-returns-in_err-committed-clause-kept g c =
-    let ran = c.run_ahead-paused in
-    let asked = c.ask_of-ask in
-    let after = c.commit.new.self in
-    kept_later (g.P.Processor.seen asked.new.port) (g.P.Processor.seen after) ran.new.quantum (g.met.P.Processor.grows asked.new.port after c.commit.ensures.continued)
-    (kept_later (g.P.Processor.seen ran.new.port) (g.P.Processor.seen asked.new.port) ran.new.quantum (g.met.P.Processor.grows ran.new.port asked.new.port asked.ensures.continued) ran.ensures.views.kept)
-
-pub returns-clause-kept : goal.returns-clause-kept
-returns-clause-kept g c =
-    let ran = c.run_ahead-paused in
-    let asked = c.ask_of-ask in
-    let after = c.commit.new.self in
-    kept_later (g.P.Processor.seen asked.new.port) (g.P.Processor.seen after) ran.new.quantum (g.met.P.Processor.grows asked.new.port after c.commit.ensures.continued)
-    (kept_later (g.P.Processor.seen ran.new.port) (g.P.Processor.seen asked.new.port) ran.new.quantum (g.met.P.Processor.grows ran.new.port asked.new.port asked.ensures.continued) ran.ensures.views.kept)
 
 pub returns-clause-told : goal.returns-clause-told
 returns-clause-told g c =

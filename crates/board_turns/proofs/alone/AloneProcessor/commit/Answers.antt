@@ -8,7 +8,7 @@ returns-in_err-committed-clause-continued c = (refl, grown_event c.args.self.now
 
 pub returns-clause-continued : goal.returns-clause-continued
 returns-clause-continued c =
-    let same = ap (λ (n : ℕ). taken_by c.in_ok-committed.committed n) c.steps.ensures.steps in
+    let same = ap (λ (n : ℕ). taken_by c.in_ok-committed.committed n) c.steps-steps.ensures.steps in
     let most = c.brought_by-self.ensures.most in
     let taken = c.in_ok-committed.ensures.taken in
     (refl, grown_by c.args.self.now.board.now c.commit.new.board c.commit.ensures.event c.args.self.now.brought c.brought_by-self.result c.brought_by-self.ensures.rose (omega (arith, same, most, taken)))

@@ -4,7 +4,7 @@ use Rattle.alone_run.specs.cache_board.specs.Pasts.{entries_of}
 use Rattle.alone_run.specs.board_turns.specs.Holds as holds
 use Rattle.processors.specs.Sharing.{seen_by, Sharer}
 use Rattle.processors.proofs.Holding.{journal_seen, seen_on, sees_more, signed}
-use Rattle.processors.proofs.Seeing.{so_seen_if, views_found}
+use Rattle.processors.proofs.Seeing.{kept_seen, so_seen_if, views_found}
 use Rattle.processors.proofs.sharing.SharingProcessor.commit.Goals as goal
 
 pub release-requires : goal.release-requires
@@ -42,3 +42,9 @@ returns-clause-so g c =
     let new = c.commit-answer.new.board in
     so_seen_if c.args.ticket.now.cpu at.cpu at.limit new.journal.entries (entries_of (seen_of c.release.result)) (holds.found_by c.in_ok-committed.committed)
     (c.requires.own ∙ sym (ap (λ (it : Sharer). it.cpu) c.self.view_is)) (journal_seen (seen_of c.release.result) new c.release.ensures.seen) c.in_ok-committed.ensures.so
+
+pub returns-in_err-committed-clause-kept : goal.returns-in_err-committed-clause-kept
+returns-in_err-committed-clause-kept g c = kept_seen (seen_of c.release.result) c.commit-answer.new.board c.commit-answer.new.quantum c.release.ensures.seen c.commit-answer.ensures.kept
+
+pub returns-clause-kept : goal.returns-clause-kept
+returns-clause-kept g c = kept_seen (seen_of c.release.result) c.commit-answer.new.board c.commit-answer.new.quantum c.release.ensures.seen c.commit-answer.ensures.kept
