@@ -16,17 +16,15 @@ use cache_ident::Frame;
 use code_blocks::CodeFault;
 use hex::FromHexError;
 use image_decls::{ElfFault, image_decls};
+use phys_groups::PAGE_BYTES;
 use scenario_lines::{CodeLine, ImageLine, read_code_line, read_image_line};
 use std::alloc::Global;
-
-/// The bytes of a frame.
-const FRAME_BYTES: u32 = 4096;
 
 // How many words fit in a frame from the offset on.
 pub(crate) fn room(offset: u32) -> u32
     ensures { result ≡ room offset }
 {
-    FRAME_BYTES.saturating_sub(offset) / 4
+    PAGE_BYTES.saturating_sub(offset) / 4
 }
 
 pub(crate) fn of_code(fault: CodeFault) -> ScenarioFault
