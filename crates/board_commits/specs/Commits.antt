@@ -2,6 +2,7 @@
 use Rattle.std.specs.Prelude.{◌≡◌, ℕ, ◌+◌, ◌<◌, ◌≤◌, true, None, Some, slice_get}
 use Rattle.cache_ident.specs.declared.idents.Ident.{Ident}
 use Rattle.cache_ident.specs.declared.names.Name.TheVariants as name
+use Rattle.cache_ident.specs.declared.names.SpaceNo.{SpaceNo}
 use Rattle.cache_ident.specs.declared.names.ThreadNo.{ThreadNo}
 use Rattle.cache_ident.specs.declared.names.Vpn.{Vpn}
 use Rattle.cache_ident.specs.declared.names.Frame.{Frame}
@@ -25,6 +26,11 @@ use Rattle.board_threads.specs.board_core.specs.Growth.{entries_of_run, AreHeld,
 use Rattle.board_threads.specs.board_checks.specs.Identifiers.{thread_as}
 use Rattle.board_threads.specs.declared.tickets.Ticket.{Ticket}
 use Rattle.board_commits.specs.Tickets.{IsDated}
+
+-- The row of a page is loaded, with that identifier.
+pub record IsLoadedRow (b : Recorded) (space : SpaceNo) (vpn : Vpn) (ident : Ident) (row : Row) : Type 0 where
+  pub loaded : IsResident (residents_of (contents_of b)) ident (name.Mapping space vpn)
+  pub there : row_of (state_of b.machine).rows space vpn.0 ≡ Some row
 
 -- The quantum has one view more, of the bytes that the frame has, with a place of the journal as of which it has them. What is kept
 -- now was kept before.

@@ -1,11 +1,12 @@
 //! Pages of a quantum.
 
-ghost use Rattle.std.specs.Prelude.{◌≡◌, Some, IfOk, IsTrue, OnErr, OnOk};
+ghost use Rattle.std.specs.Prelude.{◌≡◌, Some, IfNone, IfOk, IfSome, IsTrue, OnErr, OnOk};
 ghost use Rattle.std.specs.Result.{result_err};
 ghost use Rattle.cache_ident.specs.declared.names.Name.{Name};
-ghost use Rattle.cache_ident.specs.Residents.{IsResident};
+ghost use Rattle.cache_ident.specs.Residents.{IsNameResident, IsResident};
 ghost use Rattle.board_threads.specs.desc_stores.specs.declared.items.Item.{Item};
 ghost use Rattle.board_threads.specs.desc_stores.specs.Contents.{content_of, residents_of};
+ghost use Rattle.board_threads.specs.desc_stores.specs.Sound.{IsExactlyOne};
 ghost use Rattle.board_threads.specs.shown_state.specs.Shown.{flat_thread};
 ghost use Rattle.phys_groups.specs.Memory.{HasFrame};
 ghost use Rattle.phys_groups.specs.Translation.{row_of};
@@ -13,7 +14,7 @@ ghost use Rattle.board_threads.specs.page_views.specs.Views.{can_fill};
 ghost use Rattle.board_threads.specs.board_checks.specs.Identifiers.{not_live, thread_as};
 ghost use Rattle.board_threads.specs.cached_machine.specs.Cached.{state_of};
 ghost use Rattle.board_threads.specs.board_core.specs.Core.{contents_of};
-ghost use Rattle.board_commits.specs.Commits.{HasPage, IsPaged};
+ghost use Rattle.board_commits.specs.Commits.{HasPage, IsLoadedRow, IsPaged};
 ghost use Rattle.board_commits.specs.Refusals.{refusal_of_page};
 ghost use Rattle.board_commits.specs.Tickets.{AreAllAsOf, AreOfTicket};
 
@@ -38,22 +39,45 @@ pub fn page(core: &Core, ticket: &Ticket, vpn: Vpn, quantum: &mut Quantum) -> Re
     ensures views { AreOfTicket core.now.journal.entries ticket.now.thread quantum.old → AreOfTicket core.now.journal.entries ticket.now.thread quantum.new }
     ensures kept { AreAllAsOf core.now.journal.entries quantum.new }
 {
+    core.holds();
     let space = thread_of(core, ticket)?.space;
-    let Some(ident) = core
-        .tables()
-        .resident_near(Name::Mapping(space, vpn), quantum.near(vpn))
-    else {
+    let Some((ident, row)) = row_near(core, space, vpn, quantum.near(vpn)) else {
         return Err(Refused::NotLoaded { vpn });
     };
-    let row = row_loaded(core, space, vpn, ident);
     add_page(core, vpn, row.frame, row.flags, ident, quantum);
     Ok(())
+}
+
+// The row of a page that is loaded, and its identifier. Where that is `near`, it takes constant time, and else a search.
+fn row_near(core: &Core, space: SpaceNo, vpn: Vpn, near: Option<Ident>) -> Option<(Ident, &Row)>
+    ensures found { IfSome result (λ found. IsLoadedRow core.now space vpn found.0 found.1.now) }
+    ensures absent { IfNone result (IsNameResident (residents_of (contents_of core.now)) (Name.Mapping space vpn) → ⊥) }
+    ensures one { IsExactlyOne (contents_of core.now) }
+{
+    let tables = core.tables();
+    if let Some(ident) = near {
+        if let Some(row) = row_as(core, space, vpn, ident) {
+            return Some((ident, row));
+        }
+    }
+    let ident = tables.resident(Name::Mapping(space, vpn))?;
+    Some((ident, row_loaded(core, space, vpn, ident)))
+}
+
+// The row that is loaded with an identifier, if it is that of the page. Constant time.
+fn row_as(core: &Core, space: SpaceNo, vpn: Vpn, ident: Ident) -> Option<&Row>
+    ensures { IfSome result (λ row. IsLoadedRow core.now space vpn ident row.now) }
+{
+    match core.tables().get(ident) {
+        Some(ItemRef::Mapping(row)) if row.space == space && row.vpn == vpn => Some(row),
+        _ => None,
+    }
 }
 
 // The row of a page that is loaded with that identifier. Constant time.
 fn row_loaded(core: &Core, space: SpaceNo, vpn: Vpn, ident: Ident) -> &Row
     requires loaded { IsResident (residents_of (contents_of core.now)) ident (Name.Mapping space vpn) }
-    ensures { Some result.now ≡ row_of (state_of core.now.machine).rows space vpn.0 }
+    ensures { IsLoadedRow core.now space vpn ident result.now }
 {
     let Some(item) = core.tables().get(ident) else {
         unreachable!()

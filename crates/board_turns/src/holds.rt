@@ -35,6 +35,7 @@ fn find_wanted(board: &Board) -> Option<Found>
 }
 
 /// Finds a thread that can come to the processor, or else one that waits for its owners, or in the other order.
+#[inline(always)]
 pub fn find(board: &mut Board, cpu: u32, want_first: bool) -> Found
     requires processor { cpu < 8 }
     ensures found { IsFound cpu want_first board.old board.new result }
@@ -61,6 +62,7 @@ pub fn find(board: &mut Board, cpu: u32, want_first: bool) -> Found
 
 /// Looks for the next thread, unless the run is over.
 #[tactic(auto, using(crate::proofs::Looking::event_nothing, crate::proofs::Looking::looked_running, crate::proofs::Looking::so_alone))]
+#[inline(always)]
 pub(crate) fn look(board: &mut Board, want_first: bool) -> Found
     ensures looked { HasLooked want_first board.old board.new result }
     ensures so { IsSoAlone board.new result }
@@ -88,6 +90,7 @@ fn look_if(board: &mut Board, want_first: Option<bool>) -> Option<Found>
 }
 
 /// Makes the steps of a quantum happen, and gives the thread back, but where they are too many and some are left. Nobody is looked for.
+#[inline(always)]
 pub fn commit_steps(
     board: &mut Board,
     ticket: &Ticket,
@@ -121,6 +124,7 @@ pub fn commit_steps(
 }
 
 /// The same, and then looks, if an order is given.
+#[inline(always)]
 pub(crate) fn commit(
     board: &mut Board,
     ticket: &Ticket,

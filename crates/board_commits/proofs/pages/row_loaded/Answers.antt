@@ -30,4 +30,4 @@ returns c =
     let b = c.args.core.now in
     let is : item_as (contents_of b) c.args.ident ≡ Some (item.Mapping c.in-Mapping.row.now) =
     ap (λ (h : Held). item_as h.contents c.args.ident) (sym c.tables.ensures.tables) ∙ sym c.in-Some.ensures ∙ ap (λ (r : ItemRef). Some (shown r)) c.in-Mapping.is in
-    row_is b c.tables.ensures.sound.1.whole.one c.args.ident c.args.space c.args.vpn c.requires.loaded c.in-Mapping.row.now is
+    record { loaded = c.requires.loaded; there = sym (row_is b c.tables.ensures.sound.1.whole.one c.args.ident c.args.space c.args.vpn c.requires.loaded c.in-Mapping.row.now is) }
