@@ -1,10 +1,9 @@
 -- What carries a place of the journal: what it says of a frame now, and that it stays.
-use Rattle.std.proofs.Common.{◌≡◌, ℕ, zero, suc, ◌<◌, ◌≤◌, ◌==◌, ◌&&◌, not, Bool, true, false, List, [], ◌∷◌, ◌++◌, length, map, drop, replicate, Contains, Option, Some, None, is_some, refl, ap, ap₂, sym, ◌∙◌, subst, inl, inr, ◌⊎◌, arith, eqb-true}
+use Rattle.std.proofs.Common.{◌≡◌, ℕ, zero, suc, ◌<◌, ◌≤◌, ◌&&◌, not, Bool, true, false, List, [], ◌∷◌, ◌++◌, length, map, drop, replicate, Contains, Option, Some, None, refl, ap, ap₂, sym, ◌∙◌, subst, inl, inr, ◌⊎◌, arith}
 use Rattle.std.specs.Prelude.{if◌then◌else◌, nat_le, bytes_eq}
 use Rattle.std.specs.Bool.{OnTrue}
-use Rattle.std.specs.List.{find}
 use Rattle.std.specs.Option.{option_map}
-use Rattle.std.proofs.lemmas.Bool.{and_parts, leb-true}
+use Rattle.std.proofs.lemmas.Bool.{leb-true}
 use Rattle.std.proofs.lemmas.List.{length-append, map-append, take-append-le}
 use Rattle.std.proofs.lemmas.List.Elements.{Contains-append_left, Contains-append_right, Contains-append_cases}
 use Rattle.std.proofs.lemmas.Slice.Eq.{bytes_eq-Decides}
@@ -14,7 +13,7 @@ use Rattle.cache_ident.specs.declared.names.Vpn.{Vpn}
 use Rattle.phys_groups.specs.declared.rows.Flags.{Flags}
 use Rattle.phys_groups.specs.Memory.{page_at}
 use Rattle.thread_cache.specs.rv32_exec.specs.declared.contexts.Context.{Context}
-use Rattle.board_threads.specs.flat_laws.proofs.Members.{Contains-behind, Contains-from_map, Contains-cases, Contains-here, Contains-map, contains_nothing}
+use Rattle.board_threads.specs.flat_laws.proofs.Members.{Contains-behind, Contains-from_map, Contains-cases, Contains-map, contains_nothing}
 use Rattle.flat_rules.specs.flat_state.specs.Events.{flat}
 use Rattle.board_threads.specs.page_views.specs.Views.{all_dated, as_happened, dated, filled, AreKept, Dated, View}
 use Rattle.board_threads.specs.run_journal.specs.declared.entries.Entry.{Entry}
