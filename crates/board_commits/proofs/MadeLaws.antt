@@ -1,5 +1,5 @@
 -- What came of steps that happened behind room that was made came of them on the board as it was before.
-use Rattle.std.proofs.Common.{◌≡◌, ℕ, ◌<◌, [], ◌∷◌, List, Option, Some, None, zero, suc, append-nil, refl, sym, ◌∙◌, ap, subst, arith}
+use Rattle.std.proofs.Common.{◌≡◌, ℕ, ◌<◌, List, Option, None, zero, suc, append-nil, refl, ◌∙◌, ap, arith}
 use Rattle.std.specs.Prelude.{◌==◌, ◌+◌, if◌then◌else◌, replicate, slice_get}
 use Rattle.cache_ident.specs.declared.names.ThreadNo.{ThreadNo}
 use Rattle.flat_rules.specs.flat_state.specs.declared.events.Event.{Event}

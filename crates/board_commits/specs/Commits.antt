@@ -68,7 +68,8 @@ pub record MayBeCommitted (b : Recorded) (ticket : Ticket) (a : Ahead) (whom : T
 -- The quantum's steps happened to the thread that is loaded with the ticket's identifier, one after another on the machine as it
 -- was: each fits there, and goes through views that were touched. So the thread has the quantum's context, and the status that the
 -- pause names; the frames and the marks of the touched views are theirs, and all else that is shown is as it was. Where there are
--- steps, they are one entry, and each frame whose view was touched holds what the view does. The thread came away from its processor. No fewer identifiers can be issued without memory.
+-- steps, they are one entry, and each frame whose view was touched holds what the view does. The thread came away from its
+-- processor. No fewer identifiers can be issued without memory.
 pub record IsCommitted (ticket : Ticket) (a : Ahead) (old new : Recorded) : Type 0 where
   pub whom : ThreadNo
   pub named : IsResident (residents_of (contents_of old)) ticket.thread (name.Thread whom)

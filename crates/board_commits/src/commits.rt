@@ -26,7 +26,7 @@ use thread_cache::ThreadRec;
 /// processor, or hasn't the context that the quantum began with (`Moved`); where the row of a view isn't loaded any more
 /// (`NotLoaded`, of the first such view); where a frame whose view was touched has other bytes than were copied (`Changed`, of the
 /// first such view); and where fewer steps are left (`Over`). It takes a constant time for each view, a comparison for each page
-/// that was touched and whose frame may have changed since, and a copy for each that was stored to.
+/// that was touched and whose frame may have changed since, and a copy of the part of each that was stored to.
 pub fn commit(core: &mut Core, ticket: &Ticket, quantum: &Quantum) -> Result<u32, Refused>
     requires views { AreOfTicket core.old.journal.entries ticket.now.thread quantum.now }
     ensures refused { IfErr result (IsRefused (refusal_of_commit core.old ticket.now quantum.now) core.old core.new) }

@@ -11,8 +11,8 @@ ghost use Rattle.board_commits.specs.Commits.{IsCommitted};
 ghost use Rattle.board_commits.specs.Tickets.{AreAllAsOf, AreOfTicket};
 
 /// Views that were copied for a ticket stay those of that ticket, and what is kept stays so, however the journal grows, and
-/// wherever a quantum runs to. Once its steps happened, what it has of touched views is as of the journal's end. What a quantum has is kept where it begins anew, for whatever ticket that is, and a new quantum
-/// keeps nothing.
+/// wherever a quantum runs to. Once its steps happened, what it has of touched views is as of the journal's end. What a quantum
+/// has is kept where it begins anew, for whatever ticket that is, and a new quantum keeps nothing.
 pub fn what_is_of_a_ticket_stays_so()
     ensures views { (j es : List Entry) (thread : Ident) (a : Ahead) → AreOfTicket j thread a → AreOfTicket (j ++ es) thread a }
     ensures kept { (j es : List Entry) (a : Ahead) → AreAllAsOf j a → AreAllAsOf (j ++ es) a }
