@@ -14,6 +14,7 @@ mod point;
 mod processor;
 mod quanta;
 mod turns;
+mod views;
 
 pub use app_kernel::{Alone, Board, Heard, Owners, Port, PortCall, Refused};
 pub use cache_board::{Quantum, Ticket};
@@ -24,3 +25,4 @@ pub use pace::Pace;
 pub use point::Point;
 pub use processor::Processor;
 pub use turns::turn;
+pub use views::views_for;

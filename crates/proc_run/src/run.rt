@@ -16,13 +16,10 @@ ghost use Rattle.proc_run.specs.Running.{HasKernel, IsRun};
 use board_opening::board_of;
 use cache_ident::NoMemory;
 use flat_state::{Decl, Settled};
-use processors::{Board, Gate, Owners, Quantum, run_alone, run_side_by_side};
+use processors::{Board, Gate, Owners, Quantum, run_alone, run_side_by_side, views_for};
 use std::alloc::{AllocError, Global};
 use std::sync::Wait;
 use std::thread::Threads;
-
-// How many pages a quantum may copy.
-const VIEWS: usize = 64;
 
 /// A board whose run is over, and how it ended.
 #[derive(Drop)]
@@ -50,7 +47,7 @@ fn run_on_one(alloc: Global, board: &mut Board, decls: &[Decl]) -> Result<(), No
 {
     board.holds();
     let mut owners = Owners::new(alloc, decls)?;
-    let mut quantum = Quantum::new(alloc, VIEWS)?;
+    let mut quantum = Quantum::new(alloc, views_for(decls))?;
     run_alone(board, &mut owners, &mut quantum)?;
     board.holds();
     Ok(())

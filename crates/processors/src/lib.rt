@@ -10,7 +10,7 @@ mod sharing;
 mod side_by_side;
 
 pub use alone_run::run_alone;
-pub use alone_run::turns::{Board, Owners, Point, Quantum};
+pub use alone_run::turns::{Board, Owners, Point, Quantum, views_for};
 pub use gate::{Gate, NoGate};
 pub use run::{Stop, run_processor};
 pub use sharing::Sharing;

@@ -11,16 +11,13 @@ ghost use Rattle.processors.specs.Parts.{HasGoneOn};
 use crate::gate::Gate;
 use crate::parts::{cut, joined};
 use crate::run::run_processor;
-use alone_run::turns::{Board, Owners, Quantum};
+use alone_run::turns::{Board, Owners, Quantum, views_for};
 use cache_ident::NoMemory;
 use flat_state::Decl;
 use std::alloc::{AllocError, Global};
 use std::sync::Wait;
 use std::thread::{Threads, map_vec};
 use turn_lock::{Pass, Turn};
-
-// How many pages a quantum may copy.
-const VIEWS: usize = 64;
 
 // Runs the processor of a pass. Its owners and its quantum are made here, in its own thread; where there is no memory for them, it does
 // nothing, and the others go on.
@@ -40,7 +37,7 @@ fn run_with_pass<R: Wait, G: Gate>(
     let Ok(mut owners) = Owners::new(alloc, decls) else {
         return pass;
     };
-    let Ok(mut quantum) = Quantum::new(alloc, VIEWS) else {
+    let Ok(mut quantum) = Quantum::new(alloc, views_for(decls)) else {
         return pass;
     };
     let (pass, _) = run_processor(rt, lock, pass, &mut owners, &mut quantum, limit, gate);
