@@ -1,8 +1,9 @@
 //! What one of several processors does while it holds the board.
 
-ghost use Rattle.std.specs.Prelude.{◌≡◌, ◌<◌, IfOk, IfSome};
+ghost use Rattle.std.specs.Prelude.{◌≡◌, ◌<◌, IfOk, IfSome, IsTrue, OnErr};
 ghost use mathlib.Core.List.{IsPrefix};
 ghost use Rattle.turn_lock.specs.Passes.{found_by, held_lock, holder_end, holder_first, lock_of, value_of};
+ghost use Rattle.alone_run.specs.quantum.specs.page_views.specs.Views.{can_fill};
 ghost use Rattle.alone_run.specs.board_commits.specs.Tickets.{AreAllAsOf, AreOfTicket};
 ghost use Rattle.alone_run.specs.board_core.specs.Going.{IsOneEvent};
 ghost use Rattle.alone_run.specs.cache_board.specs.Events.{past_of};
@@ -10,8 +11,8 @@ ghost use Rattle.alone_run.specs.board_turns.specs.Holds.{AreFewer};
 ghost use Rattle.alone_run.specs.board_turns.specs.Holds as holds;
 ghost use Rattle.processors.specs.Sharing.{end_by, first_by, seen_by, IsSoOf, IsThere};
 
-use alone_run::turns::{Board, Committed, Found, Quantum, Ticket, commit_steps, find};
-use cache_ident::NoMemory;
+use alone_run::turns::{Board, Committed, Found, Quantum, Refused, Ticket, commit_steps, find};
+use cache_ident::{NoMemory, Vpn};
 use std::sync::Wait;
 use turn_lock::{Held, Pass, Turn};
 
@@ -57,6 +58,33 @@ fn look_if(board: &mut Board, cpu: u32, limit: u64, want_first: Option<bool>) ->
         Some(want_first) => Some(look(board, cpu, limit, want_first)),
         None => None,
     }
+}
+
+/// Copies the page of a loaded row of the ticket's thread into the quantum; and behind it, of other pages, those that have no view yet, as
+/// far as their rows are loaded and there is room.
+pub(crate) fn pages(
+    board: &Board,
+    ticket: &Ticket,
+    vpn: Vpn,
+    others: [Option<Vpn>; 8],
+    quantum: &mut Quantum,
+) -> Result<(), Refused>
+    requires room { IsTrue (can_fill quantum.old.most quantum.old.views vpn) }
+    requires kept { AreAllAsOf board.now.journal.entries quantum.old }
+    ensures refused { OnErr result (quantum.new ≡ quantum.old) }
+    ensures steps { quantum.new.steps ≡ quantum.old.steps }
+    ensures views { AreOfTicket board.now.journal.entries ticket.now.thread quantum.old → AreOfTicket board.now.journal.entries ticket.now.thread quantum.new }
+{
+    board.page(ticket, vpn, quantum)?;
+    for other in others {
+        let Some(other) = other else {
+            return Ok(());
+        };
+        if quantum.can_fill(other) && board.page(ticket, other, quantum).is_err() {
+            return Ok(());
+        }
+    }
+    Ok(())
 }
 
 /// Makes the steps of a quantum happen, and gives the thread back, but where they are too many and some are left; and then looks, if

@@ -7,7 +7,8 @@ ghost use Rattle.processors.specs.Following.{begins_with_seen, goes_further, goe
 ghost use Rattle.processors.specs.Sharing.{IsSoOf, SeesMore};
 
 use crate::gate::Gate;
-use crate::holds::{commit, hold, look};
+use crate::holds::{commit, hold, look, pages};
+use crate::recent::Recent;
 use alone_run::turns::{
     Board, Committed, Found, Heard, Point, Port, PortCall, Processor, Quantum, Refused, Ticket,
     allows, leave_and_heal,
@@ -34,6 +35,7 @@ pub struct Sharing<'a, R, G> {
     pass: Option<Pass<Board>>,
     heard: Heard,
     brought: u64,
+    recent: Recent,
 }
 
 impl<'a, R, G> Model for Sharing<'a, R, G> {
@@ -74,6 +76,7 @@ impl<'a, R, G> Sharing<'a, R, G> {
             pass: Some(pass),
             heard: Heard::nothing(),
             brought: 0,
+            recent: Recent::new(),
         }
     }
 
@@ -230,8 +233,9 @@ impl<R: Wait, G: Gate> Processor for Sharing<'_, R, G> {
     }
 
     fn page(&mut self, ticket: &Ticket, vpn: Vpn, quantum: &mut Quantum) -> Result<(), Refused> {
+        let recent = self.recent.of(ticket.no);
         let held = hold(self.rt, self.lock, &mut self.pass);
-        let answer = held.value().page(ticket, vpn, quantum);
+        let answer = pages(held.value(), ticket, vpn, recent, quantum);
         self.pass = Some(held.release());
         answer
     }
@@ -250,6 +254,7 @@ impl<R: Wait, G: Gate> Processor for Sharing<'_, R, G> {
         look: Option<bool>,
     ) -> Result<Committed, NoMemory> {
         let steps = quantum.steps();
+        self.recent.note(ticket.no, quantum);
         let mut held = hold(self.rt, self.lock, &mut self.pass);
         let answer = commit(held.value_mut(), ticket, quantum, self.limit, look);
         self.pass = Some(held.release());
