@@ -1,14 +1,18 @@
 //! What one of several processors does while it holds the board.
 
-ghost use Rattle.std.specs.Prelude.{◌≡◌, ◌<◌, IfOk, IfSome, IsTrue, OnErr};
+ghost use Rattle.std.specs.Prelude.{◌≡◌, ◌<◌, IfOk, IfSome, IsTrue, OnErr, OnOk};
+ghost use Rattle.std.specs.Result.{result_err};
 ghost use mathlib.Core.List.{IsPrefix};
 ghost use Rattle.turn_lock.specs.Passes.{found_by, held_lock, holder_end, holder_first, lock_of, value_of};
 ghost use Rattle.alone_run.specs.quantum.specs.page_views.specs.Views.{can_fill};
+ghost use Rattle.alone_run.specs.board_commits.specs.Refusals.{refusal_of_page};
 ghost use Rattle.alone_run.specs.board_commits.specs.Tickets.{AreAllAsOf, AreOfTicket};
+ghost use Rattle.alone_run.specs.board_core.specs.Core.{contents_of};
 ghost use Rattle.alone_run.specs.board_core.specs.Going.{IsOneEvent};
 ghost use Rattle.alone_run.specs.cache_board.specs.Events.{past_of};
 ghost use Rattle.alone_run.specs.board_turns.specs.Holds.{AreFewer};
 ghost use Rattle.alone_run.specs.board_turns.specs.Holds as holds;
+ghost use Rattle.processors.specs.Pages.{IsPagedFirst};
 ghost use Rattle.processors.specs.Sharing.{end_by, first_by, seen_by, IsSoOf, IsThere};
 
 use alone_run::turns::{Board, Committed, Found, Quantum, Refused, Ticket, commit_steps, find};
@@ -71,7 +75,9 @@ pub(crate) fn pages(
 ) -> Result<(), Refused>
     requires room { IsTrue (can_fill quantum.old.most quantum.old.views vpn) }
     requires kept { AreAllAsOf board.now.journal.entries quantum.old }
+    ensures exact { result_err result ≡ refusal_of_page (contents_of board.now) ticket.now vpn }
     ensures refused { OnErr result (quantum.new ≡ quantum.old) }
+    ensures filled { OnOk result (IsPagedFirst board.now ticket.now vpn quantum.old quantum.new) }
     ensures steps { quantum.new.steps ≡ quantum.old.steps }
     ensures views { AreOfTicket board.now.journal.entries ticket.now.thread quantum.old → AreOfTicket board.now.journal.entries ticket.now.thread quantum.new }
 {

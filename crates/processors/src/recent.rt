@@ -42,7 +42,8 @@ impl Recent {
     }
 
     pub(crate) fn of(&self, thread: ThreadNo) -> [Option<Vpn>; MOST] {
-        match self.of_threads[thread.0 as usize % PLACES] {
+        let last = self.of_threads[thread.0 as usize % PLACES];
+        match last {
             Some(touched) if touched.thread == thread => touched.pages,
             _ => [None; MOST],
         }
