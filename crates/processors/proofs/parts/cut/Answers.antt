@@ -1,5 +1,4 @@
 use Rattle.std.proofs.Common.{◌≡◌, ℕ, ◌+◌, ◌<◌, [], ◌∷◌, ◌++◌, refl, sym, ◌∙◌, ap, subst, arith}
-use Rattle.std.specs.List.{AllByRecursion}
 use Rattle.turn_lock.specs.Passes.{first_of, end_of, seen_of}
 use Rattle.turn_lock.proofs.Lists.{all_append}
 use Rattle.processors.specs.Parts.{AreParts}

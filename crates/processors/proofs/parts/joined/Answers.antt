@@ -1,10 +1,10 @@
-use Rattle.std.proofs.Common.{◌≡◌, ℕ, ◌+◌, ◌<◌, List, [], ◌∷◌, ◌++◌, length, sym, ◌∙◌, ap, subst, append_assoc, append-nil, arith}
+use Rattle.std.proofs.Common.{◌≡◌, [], ◌∷◌, length, sym, ◌∙◌, ap, subst, append_assoc, append-nil, arith}
 use Rattle.std.specs.List.{AllByRecursion}
 use Rattle.std.specs.Vec.Iter.{into_iter_items}
 use Rattle.std.proofs.lemmas.List.Elements.{All-from_recursion}
 use mathlib.Core.List.{IsPrefix}
 use Rattle.turn_lock.specs.Lists.{numbers}
-use Rattle.turn_lock.specs.Passes.{first_of, end_of, seen_of}
+use Rattle.turn_lock.specs.Passes.{end_of, seen_of}
 use Rattle.turn_lock.proofs.Lists.{all_append}
 use Rattle.processors.specs.Parts.{AreParts}
 use Rattle.processors.proofs.Parting.{all_begin, both_begin, nothing_left}

@@ -1,7 +1,6 @@
-use Rattle.std.proofs.Common.{◌≡◌, ◌≤◌, ℕ, List, sym, ◌∙◌, ap, subst}
+use Rattle.std.proofs.Common.{◌≤◌, ℕ, sym, ◌∙◌, subst}
 use mathlib.Core.List.{IsPrefix}
 use Rattle.turn_lock.specs.Passes.{seen_of}
-use Rattle.alone_run.specs.run_journal.specs.declared.entries.Entry.{Entry}
 use Rattle.alone_run.specs.run_journal.specs.Entries.{steps_in}
 use Rattle.alone_run.specs.cache_board.specs.Pasts.{entries_of}
 use Rattle.alone_run.specs.board_turns.specs.Looks.{IsIdle}

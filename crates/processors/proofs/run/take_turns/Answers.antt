@@ -1,4 +1,3 @@
-use Rattle.std.proofs.Common.{rules}
 use Rattle.alone_run.specs.board_turns.proofs.Later.{kept_later}
 use Rattle.processors.proofs.run.take_turns.Goals as goal
 
