@@ -26,8 +26,14 @@ pub enum Stop {
     NoMemory,
 }
 
+/// Who remembers the quantum that it ran last.
+pub(crate) trait RanLast {
+    /// How many steps that took, whatever came of its commit: once they happened, the quantum itself has none any more.
+    fn last_steps(&self) -> u32;
+}
+
 // Takes turns until there is nothing to do.
-fn take_turns<R: Wait, P: Processor>(
+fn take_turns<R: Wait, P: Processor + RanLast>(
     rt: &R,
     port: &mut P,
     owners: &mut Owners,
@@ -53,7 +59,7 @@ fn take_turns<R: Wait, P: Processor>(
             return Stop::NoMemory;
         };
         if runs {
-            lengths.note(found, quantum.steps(), before < port.brought());
+            lengths.note(found, port.last_steps(), before < port.brought());
         }
         found = next;
     }

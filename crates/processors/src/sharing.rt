@@ -9,6 +9,7 @@ ghost use Rattle.processors.specs.Sharing.{IsSoOf, SeesMore};
 use crate::gate::Gate;
 use crate::holds::{commit, hold, look, pages};
 use crate::recent::Recent;
+use crate::run::RanLast;
 use alone_run::turns::{
     Board, Committed, Found, Heard, Point, Port, PortCall, Processor, Quantum, Refused, Ticket,
     allows, leave_and_heal,
@@ -35,6 +36,8 @@ pub struct Sharing<'a, R, G> {
     pass: Option<Pass<Board>>,
     heard: Heard,
     brought: u64,
+    // How many steps the quantum had that was to be committed last.
+    last_steps: u32,
     recent: Recent,
 }
 
@@ -76,6 +79,7 @@ impl<'a, R, G> Sharing<'a, R, G> {
             pass: Some(pass),
             heard: Heard::nothing(),
             brought: 0,
+            last_steps: 0,
             recent: Recent::new(),
         }
     }
@@ -208,6 +212,12 @@ fn brought_by(committed: Committed, steps: u32, brought: u64) -> u64 {
     }
 }
 
+impl<R, G> RanLast for Sharing<'_, R, G> {
+    fn last_steps(&self) -> u32 {
+        self.last_steps
+    }
+}
+
 impl<R: Wait, G: Gate> Processor for Sharing<'_, R, G> {
     ghost progress = { λ port. port.brought };
 
@@ -254,6 +264,7 @@ impl<R: Wait, G: Gate> Processor for Sharing<'_, R, G> {
         look: Option<bool>,
     ) -> Result<Committed, NoMemory> {
         let steps = quantum.steps();
+        self.last_steps = steps;
         self.recent.note(ticket.no, quantum);
         let mut held = hold(self.rt, self.lock, &mut self.pass);
         let answer = commit(held.value_mut(), ticket, quantum, self.limit, look);
