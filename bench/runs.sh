@@ -26,6 +26,10 @@ if [ -n "${2-}" ]; then
 else
     want_proved v_run
 fi
+if [ -n "$peers" ] && ! [ -x "$peers/rvi_paged" ]; then
+    say "there is no interpreter $peers/rvi_paged"
+    exit 1
+fi
 place="$(mktemp -d)"
 trap 'rm -rf "$place"' EXIT
 failed=0
@@ -69,17 +73,21 @@ healed() {
 
 # ---- their times
 
-# shortest NUMBER PROGRAM: sets time to the milliseconds of processor's time in which the program answers the text so many times in a row,
-# the shortest of nine.
+# taken NUMBER PROGRAM: sets once to the milliseconds of processor's time in which the program answers the text so many times in a row.
+taken() {
+    local user system number=$1 TIMEFORMAT='%3U %3S'
+    read -r user system < <({ time for ((run = 0; run < number; run++)); do "$2" < "$place/text" > "$place/answer" 2> /dev/null; done; } 2>&1)
+    once=$((10#${user/./} + 10#${system/./}))
+    ((once > 0)) || once=1
+}
+
+# shortest NUMBER PROGRAM: sets time to the shortest of nine such.
 shortest() {
-    local user system once number=$1 TIMEFORMAT='%3U %3S'
     time=
     for _ in 1 2 3 4 5 6 7 8 9; do
-        read -r user system < <({ time for ((run = 0; run < number; run++)); do "$2" < "$place/text" > "$place/answer" 2> /dev/null; done; } 2>&1)
-        once=$((10#${user/./} + 10#${system/./}))
+        taken "$1" "$2"
         if [ -z "$time" ] || ((once < time)); then time=$once; fi
     done
-    ((time > 0)) || time=1
 }
 
 # ratio NEW OLD: the ratio, to a hundredth.
@@ -176,11 +184,17 @@ if [ -x /usr/bin/time ]; then
     echo "mode journal with each step healed: $(((memory[2] - memory[1]) * 1024 / 500000)) bytes of memory a step"
 fi
 
-# beside_peer NAME [MOST]: times the text ten times in a row beside the peer, of whose time the program takes at most so many hundredths.
+# beside_peer NAME [MOST]: times the text ten times in a row, in turn with the peer, of whose time the program takes at most so many
+# hundredths.
 beside_peer() {
-    shortest 10 "$peers/rvi_paged"
-    local peer=$time
-    shortest 10 "$proved"
+    local peer=
+    time=
+    for _ in 1 2 3 4 5 6 7 8 9; do
+        taken 10 "$peers/rvi_paged"
+        if [ -z "$peer" ] || ((once < peer)); then peer=$once; fi
+        taken 10 "$proved"
+        if [ -z "$time" ] || ((once < time)); then time=$once; fi
+    done
     echo "$1, ten times: $time ms, the peer $peer ms"
     [ -z "${2-}" ] || judge "$1 beside the peer" "$time" "$peer" "$2"
 }
