@@ -24,6 +24,9 @@ use std::marker::Model;
 /// How many views there can be.
 pub const MOST_VIEWS: usize = 64;
 
+// A page that wasn't a view while so many were filled isn't gone over any more: four times as many as there are slots.
+const LONG: u32 = 256;
+
 /// Copied pages, as many as it was made for, no two of one page. A contract sees that number, the list of the views in the order of
 /// their filling, and behind them what is kept of views that were cleared: the bytes that were copied, where they carry a place of a
 /// journal as of which their frame had them.
@@ -41,8 +44,6 @@ pub struct PageViews {
     marked: Marked,
     // Where a page may be found that is kept.
     slots: LastSlots,
-    // How often a slot was given up that may have kept a page.
-    given_up: usize,
     pub(crate) decoded: DecodedWords,
 }
 
@@ -70,7 +71,6 @@ impl PageViews {
             views: empty_slots(alloc, most)?,
             most,
             slots: LastSlots::none(),
-            given_up: 0,
             index: Index::none(),
             marked: Marked::none(),
             decoded: DecodedWords::new(alloc)?,
@@ -167,6 +167,7 @@ impl PageViews {
     {
         let shared = self.has_frame(origin.frame);
         self.slots.note(origin.vpn, self.index.count);
+        self.slots.note_filled(origin.vpn);
         fill_at(&mut self.views, self.index.count, origin, bytes, shared);
         self.index.add(&origin, shared);
     }
@@ -197,21 +198,20 @@ impl PageViews {
             row,
             taken: self.views[slot].taken(),
         };
+        self.slots.note_filled(vpn);
         exchange(&mut self.views, &mut self.slots, count, slot);
         recall_at(&mut self.views, count, origin);
         self.index.add(&origin, shared);
         true
     }
 
-    // Brings another slot behind the views, whose bytes are given up next. It isn't always the one that was a view the longest ago: of
-    // pages that are gone over again and again, and are one more than the slots, that would be the next one.
+    // Brings another slot behind the views, whose bytes are given up next.
     fn make_way(&mut self)
         requires { length self.old.views < self.old.most }
         ensures { IsReordered self.old self.new }
     {
         let count = self.index.count;
-        self.given_up = self.given_up.wrapping_add(1);
-        let slot = count + self.given_up % (self.views.len() - count);
+        let slot = count + given_up(&self.views[count..], &self.slots);
         exchange(&mut self.views, &mut self.slots, count, slot);
     }
 
@@ -394,6 +394,29 @@ fn fill_at(views: &mut [PageView], count: usize, origin: Origin, bytes: &[u8], s
     let (views, free) = views.split_at_mut(count);
     let touched = touched_of(views, origin.frame, shared);
     free[0].copy(origin, bytes, touched);
+}
+
+// Which slot of those that are no views is given up: that of a page which wasn't a view for long, and else that of the page which was one
+// last. Of pages that are gone over again and again, and are a few more than the slots, all but a few are kept so.
+fn given_up(kept: &[PageView], slots: &LastSlots) -> usize
+    requires { 0 < length kept.now }
+    ensures { result < length kept.now }
+{
+    let mut oldest = 0;
+    let mut newest = 0;
+    for i in 0..kept.len() {
+        if slots.age(kept[oldest].vpn()) < slots.age(kept[i].vpn()) {
+            oldest = i;
+        }
+        if slots.age(kept[i].vpn()) < slots.age(kept[newest].vpn()) {
+            newest = i;
+        }
+    }
+    if LONG < slots.age(kept[oldest].vpn()) {
+        oldest
+    } else {
+        newest
+    }
 }
 
 // Exchanges a slot with the one behind the first `count`.
