@@ -231,6 +231,7 @@ impl Stores {
     }
 
     /// As `item`. Where the name is loaded with the identifier `near`, that takes constant time.
+    #[inline(always)]
     pub fn item_near(&self, name: Name, near: Option<Ident>) -> Option<ItemRef<'_>>
         ensures { option_map shown result ≡ content_of self.now name }
     {
@@ -243,6 +244,7 @@ impl Stores {
     }
 
     /// The content that is loaded with an identifier; `None` where it isn't loaded. Constant time.
+    #[inline(always)]
     pub fn get(&self, ident: Ident) -> Option<ItemRef<'_>>
         ensures { option_map shown result ≡ item_as self.now ident }
     {
@@ -283,6 +285,7 @@ impl Stores {
     }
 
     /// As `resident`. Where the name is loaded with the identifier `near`, that takes constant time.
+    #[inline(always)]
     pub fn resident_near(&self, name: Name, near: Option<Ident>) -> Option<Ident>
         ensures found { IfSome result (IsResidentAs self.now name) }
         ensures absent { IfNone result (HasNoResident self.now name) }

@@ -374,6 +374,7 @@ impl Tables {
     }
 
     /// As `resident`. Where the name is loaded with the identifier `near`, that takes constant time.
+    #[inline(always)]
     pub fn resident_near(&self, name: Name, near: Option<Ident>) -> Option<Ident>
         ensures found { IfSome result (λ ident. IsResident (residents_of self.now.contents) ident name) }
         ensures absent { IfNone result (IsNameResident (residents_of self.now.contents) name → ⊥) }
@@ -399,6 +400,7 @@ impl Tables {
     }
 
     /// As `item`. Where the name is loaded with the identifier `near`, that takes constant time.
+    #[inline(always)]
     pub fn item_near(&self, name: Name, near: Option<Ident>) -> Option<ItemRef<'_>>
         ensures { option_map items.shown result ≡ content_of self.now.contents name }
     {
@@ -406,6 +408,7 @@ impl Tables {
     }
 
     /// The content that is loaded with an identifier; `None` where it isn't loaded. Constant time.
+    #[inline(always)]
     pub fn get(&self, ident: Ident) -> Option<ItemRef<'_>>
         ensures { option_map items.shown result ≡ item_as self.now.contents ident }
     {

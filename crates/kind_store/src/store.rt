@@ -132,6 +132,7 @@ impl<T: Descriptor + Drop> KindStore<T> {
     }
 
     /// As `item`. Where the name is loaded with the identifier `near`, that takes constant time.
+    #[inline(always)]
     pub fn item_near(&self, name: Name, near: Option<Ident>) -> Option<&T>
         ensures content { option_copied result ≡ content_of T.called self.now name }
         ensures one { IsExactlyOne T.called T.KIND self.now }
@@ -159,6 +160,7 @@ impl<T: Descriptor + Drop> KindStore<T> {
     }
 
     /// As `resident`. Where the name is loaded with the identifier `near`, that takes constant time.
+    #[inline(always)]
     pub fn resident_near(&self, name: Name, near: Option<Ident>) -> Option<Ident>
         ensures found { IfSome result (IsFoundAs T.called self.now.cells name) }
         ensures absent { IfNone result (HasNoName T.called self.now.cells name) }
@@ -168,6 +170,7 @@ impl<T: Descriptor + Drop> KindStore<T> {
     }
 
     /// The content that is loaded with an identifier; `None` where it isn't loaded. Constant time.
+    #[inline(always)]
     pub fn get(&self, ident: Ident) -> Option<&T>
         ensures content { IfSome result (λ value. IsContent self.now.cells ident value.now) }
         ensures absent { IfNone result (IsLoaded self.now.cells ident → ⊥) }
@@ -347,6 +350,7 @@ impl<T: Descriptor + Drop> KindStore<T> {
 }
 
 // The identifier with which a name is loaded, if it is. No search is made where it is `near`.
+#[inline(always)]
 fn find_near<T: Descriptor + Drop>(
     cache: &Cache<T>,
     name: Name,
@@ -362,6 +366,7 @@ fn find_near<T: Descriptor + Drop>(
 }
 
 // Whether a name is loaded with that identifier.
+#[inline(always)]
 fn is_loaded_as<T: Descriptor + Drop>(cache: &Cache<T>, name: Name, ident: Ident) -> bool
     ensures { OnTrue result (IsFoundAs T.called cache.now name ident) }
 {

@@ -154,6 +154,7 @@ impl RowStore {
     }
 
     /// As `item`. Where the name is loaded with the identifier `near`, that takes constant time.
+    #[inline(always)]
     pub fn item_near(&self, name: Name, near: Option<Ident>) -> Option<&Row>
         ensures content { option_copied result ≡ content_of row_name self.now.kept name }
         ensures one { IsExactlyOne row_name Mapping self.now.kept }
@@ -180,6 +181,7 @@ impl RowStore {
     }
 
     /// As `resident`. Where the name is loaded with the identifier `near`, that takes constant time.
+    #[inline(always)]
     pub fn resident_near(&self, name: Name, near: Option<Ident>) -> Option<Ident>
         ensures found { IfSome result (IsFoundAs row_name self.now.kept.cells name) }
         ensures absent { IfNone result (HasNoName row_name self.now.kept.cells name) }
@@ -190,6 +192,7 @@ impl RowStore {
     }
 
     /// The row that is loaded with an identifier; `None` where it isn't loaded. Constant time.
+    #[inline(always)]
     pub fn get(&self, ident: Ident) -> Option<&Row>
         ensures content { IfSome result (λ value. IsContent self.now.kept.cells ident value.now) }
         ensures absent { IfNone result (IsLoaded self.now.kept.cells ident → ⊥) }
