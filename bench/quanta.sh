@@ -191,7 +191,7 @@ impl Frames {
     // Steps alone.
     fn alone(&self, quantum: &mut Quantum, context: Context) -> u32 {
         if context.pc % 4 == 0 {
-            quantum.begin(context);
+            quantum.begin(context, ThreadNo(0));
             let _limit = self.run(quantum, STEPS);
         }
         quantum.steps()
@@ -204,7 +204,7 @@ impl Frames {
             if context.pc % 4 != 0 {
                 return i * QUANTUM;
             }
-            quantum.begin(context);
+            quantum.begin(context, ThreadNo(0));
             if !self.run(quantum, QUANTUM) || !self.agrees(quantum) {
                 return i * QUANTUM;
             }
@@ -366,7 +366,7 @@ fn begin(board: &mut Board, quantum: &mut Quantum) -> Option<Ticket>
     let Some(ticket) = board.checkout(0) else {
         return None;
     };
-    quantum.begin(ticket.context);
+    quantum.begin(ticket.context, ticket.no);
     Some(ticket)
 }
 
@@ -461,7 +461,7 @@ fn begin_timed(
         return Ok(None);
     };
     let counted = laps.add_call(rt);
-    quantum.begin(ticket.context);
+    quantum.begin(ticket.context, ticket.no);
     counted?;
     Ok(Some(ticket))
 }

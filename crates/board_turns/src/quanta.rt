@@ -123,7 +123,7 @@ fn try_steps<P: Processor>(
     ensures told { OnTold (P.board port.old) (P.board port.new) (λ old new. (known : Known) → IsOnQuantum old known ticket.now → IfOk result (λ tried. IsTriedBy old new known (beat_of pace) ticket.now tried.committed)) }
     ensures continued { P.continues port.old port.new }
 {
-    quantum.begin(ticket.context);
+    quantum.begin(ticket.context, ticket.no);
     port.at(Point::InQuantum);
     let paused = run_ahead(port, ticket, quantum, most);
     let ask = ask_of(port, ticket, quantum, paused);

@@ -43,7 +43,7 @@ impl Place {
             return Answer::Out(None);
         };
         self.ticket = Some(ticket);
-        self.quantum.begin(ticket.context);
+        self.quantum.begin(ticket.context, ticket.no);
         Answer::Out(Some(ticket.no))
     }
 

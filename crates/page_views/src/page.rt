@@ -38,6 +38,8 @@ pub struct PageView {
     // Where the present contents may differ from the first ones.
     changed: Part,
     origin: Origin,
+    // The number of the thread whose page it is.
+    whose: u32,
     touched: bool,
     written: bool,
 }
@@ -70,6 +72,7 @@ impl PageView {
             first: Box::new(alloc, [0; PAGE_LENGTH])?,
             changed: Part::none(),
             origin,
+            whose: 0,
             touched: false,
             written: false,
         })
@@ -104,6 +107,11 @@ impl PageView {
         ensures { result ≡ self.now.row }
     {
         self.origin.row
+    }
+
+    // The number of the thread whose page it is.
+    pub(crate) fn whose(&self) -> u32 {
+        self.whose
     }
 
     /// The bytes as they were copied.
@@ -189,12 +197,18 @@ impl PageView {
         }
     }
 
-    // Makes it an untouched view of a page, copied from `bytes`. It holds what `touched` holds, if there is one.
-    pub(crate) fn copy(&mut self, origin: Origin, bytes: &[u8], touched: Option<&PageView>)
+    // Makes it an untouched view of a thread's page, copied from `bytes`. It holds what `touched` holds, if there is one.
+    pub(crate) fn copy(
+        &mut self,
+        origin: Origin,
+        whose: u32,
+        bytes: &[u8],
+        touched: Option<&PageView>,
+    )
         requires { length bytes.now ≡ 4096 }
         ensures { self.new ≡ viewed origin bytes.now (present_in (option_copied touched.entry) bytes.now) }
     {
-        self.renew(origin);
+        self.renew(origin, whose);
         self.first.copy_from_slice(bytes);
         match touched {
             Some(view) => {
@@ -208,13 +222,13 @@ impl PageView {
         }
     }
 
-    // Makes it an untouched view of a page, which holds the bytes that it was copied from.
-    pub(crate) fn recall(&mut self, origin: Origin)
+    // Makes it an untouched view of a thread's page, which holds the bytes that it was copied from.
+    pub(crate) fn recall(&mut self, origin: Origin, whose: u32)
         ensures { self.new ≡ viewed origin self.old.first self.old.first }
     {
         copy_part(&mut self.present, &self.first, self.changed);
         self.changed = Part::none();
-        self.renew(origin);
+        self.renew(origin, whose);
     }
 
     // What it holds now is what it was copied from, as of a place of a journal.
@@ -235,11 +249,12 @@ impl PageView {
         self.changed
     }
 
-    // Makes it an untouched view of a page, with the contents that it has.
-    fn renew(&mut self, origin: Origin)
+    // Makes it an untouched view of a thread's page, with the contents that it has.
+    fn renew(&mut self, origin: Origin, whose: u32)
         ensures { self.new ≡ viewed origin self.old.first self.old.present }
     {
         self.origin = origin;
+        self.whose = whose;
         self.touched = false;
         self.written = false;
     }

@@ -24,6 +24,9 @@ use std::marker::Model;
 /// How many views there can be.
 pub const MOST_VIEWS: usize = 64;
 
+// A page that wasn't a view while so many were filled isn't gone over any more: four times as many as there are slots.
+const LONG: u32 = 256;
+
 /// Copied pages, as many as it was made for, no two of one page. A contract sees that number, the list of the views in the order of
 /// their filling, and behind them what is kept of views that were cleared: the bytes that were copied, where they carry a place of a
 /// journal as of which their frame had them.
@@ -41,8 +44,8 @@ pub struct PageViews {
     marked: Marked,
     // Where a page may be found that is kept.
     slots: LastSlots,
-    // How often a slot was given up that may have kept a page.
-    given_up: usize,
+    // The number of the thread whose pages are views.
+    whose: u32,
     pub(crate) decoded: DecodedWords,
 }
 
@@ -70,17 +73,19 @@ impl PageViews {
             views: empty_slots(alloc, most)?,
             most,
             slots: LastSlots::none(),
-            given_up: 0,
+            whose: 0,
             index: Index::none(),
             marked: Marked::none(),
             decoded: DecodedWords::new(alloc)?,
         })
     }
 
-    /// Gives up every view. What carries a place is kept.
-    pub fn clear(&mut self)
+    /// Gives up every view. What carries a place is kept. The next views are of pages of the thread with that number, of which nothing is
+    /// made but where they are looked for first.
+    pub fn clear(&mut self, whose: u32)
         ensures { self.new ≡ record self.old { views = []; kept = all_dated self.old.views self.old.kept } }
     {
+        self.whose = whose;
         self.index = Index::none();
         self.marked = Marked::none();
     }
@@ -89,7 +94,7 @@ impl PageViews {
     pub fn forget(&mut self)
         ensures { self.new ≡ record self.old { views = []; kept = nothing_kept self.old.most } }
     {
-        self.clear();
+        self.clear(0);
         forget_each(&mut self.views);
     }
 
@@ -166,8 +171,17 @@ impl PageViews {
         ensures { self.new ≡ with_filled self.old (viewed_beside self.old.views origin bytes.now) }
     {
         let shared = self.has_frame(origin.frame);
-        self.slots.note(origin.vpn, self.index.count);
-        fill_at(&mut self.views, self.index.count, origin, bytes, shared);
+        self.slots
+            .note(origin.vpn, self.whose, origin.frame, self.index.count);
+        self.slots.note_filled(origin.frame);
+        fill_at(
+            &mut self.views,
+            self.index.count,
+            origin,
+            self.whose,
+            bytes,
+            shared,
+        );
         self.index.add(&origin, shared);
     }
 
@@ -185,9 +199,9 @@ impl PageViews {
             return false;
         }
         let count = self.index.count;
-        let near = self.slots.slot(vpn);
+        let near = self.slots.of_frame(frame);
         let Some(slot) = slot_since(&self.views, count, near, frame, since) else {
-            self.make_way();
+            self.make_way(near, frame);
             return false;
         };
         let origin = Origin {
@@ -197,21 +211,21 @@ impl PageViews {
             row,
             taken: self.views[slot].taken(),
         };
+        self.slots.note_filled(frame);
         exchange(&mut self.views, &mut self.slots, count, slot);
-        recall_at(&mut self.views, count, origin);
+        recall_at(&mut self.views, count, origin, self.whose);
         self.index.add(&origin, shared);
         true
     }
 
-    // Brings another slot behind the views, whose bytes are given up next. It isn't always the one that was a view the longest ago: of
-    // pages that are gone over again and again, and are one more than the slots, that would be the next one.
-    fn make_way(&mut self)
+    // Brings another slot behind the views, whose bytes are given up next. That is `near`, where it keeps bytes of the frame that aren't of
+    // use any more.
+    fn make_way(&mut self, near: usize, frame: Frame)
         requires { length self.old.views < self.old.most }
         ensures { IsReordered self.old self.new }
     {
         let count = self.index.count;
-        self.given_up = self.given_up.wrapping_add(1);
-        let slot = count + self.given_up % (self.views.len() - count);
+        let slot = slot_to_give_up(&self.views, count, near, frame, &self.slots);
         exchange(&mut self.views, &mut self.slots, count, slot);
     }
 
@@ -228,7 +242,7 @@ impl PageViews {
     /// The identifier of the row that a page was copied through last, as far as it is known. Any may be answered, and whoever takes it
     /// looks which row it is.
     pub fn near(&self, vpn: Vpn) -> Option<Ident> {
-        match self.views.get(self.slots.slot(vpn)) {
+        match self.views.get(self.slots.of_page(vpn, self.whose)) {
             Some(view) if view.vpn() == vpn => Some(view.row()),
             _ => None,
         }
@@ -384,8 +398,15 @@ fn empty_slots(alloc: Global, most: usize) -> Result<Vec<PageView>, NoMemory>
     Ok(slots)
 }
 
-// Copies a page into the view behind the first `count`. `shared` says whether one of these is of its frame.
-fn fill_at(views: &mut [PageView], count: usize, origin: Origin, bytes: &[u8], shared: bool)
+// Copies a thread's page into the view behind the first `count`. `shared` says whether one of these is of its frame.
+fn fill_at(
+    views: &mut [PageView],
+    count: usize,
+    origin: Origin,
+    whose: u32,
+    bytes: &[u8],
+    shared: bool,
+)
     requires shared { shared ≡ is_some (find (is_of_frame origin.frame) (take count views.old)) }
     requires room { count < length views.old }
     requires whole_page { length bytes.now ≡ 4096 }
@@ -393,7 +414,59 @@ fn fill_at(views: &mut [PageView], count: usize, origin: Origin, bytes: &[u8], s
 {
     let (views, free) = views.split_at_mut(count);
     let touched = touched_of(views, origin.frame, shared);
-    free[0].copy(origin, bytes, touched);
+    free[0].copy(origin, whose, bytes, touched);
+}
+
+// Which slot behind the first `count` is given up: `near`, where it is one of the frame.
+fn slot_to_give_up(
+    views: &[PageView],
+    count: usize,
+    near: usize,
+    frame: Frame,
+    slots: &LastSlots,
+) -> usize
+    requires { count < length views.now }
+    ensures behind { count ≤ result }
+    ensures within { result < length views.now }
+{
+    if count <= near && near < views.len() && views[near].frame() == frame {
+        near
+    } else {
+        count + given_up(&views[count..], slots)
+    }
+}
+
+// Which slot of those that are no views is given up: one that keeps nothing of use, else that of a page which wasn't a view for long, and
+// else that of the page which was one last. Of pages that are gone over again and again, and are a few more than the slots, all but a few
+// are kept so.
+fn given_up(kept: &[PageView], slots: &LastSlots) -> usize
+    requires { 0 < length kept.now }
+    ensures { result < length kept.now }
+{
+    let mut oldest = 0;
+    let mut most = 0;
+    let mut newest = 0;
+    let mut least = u32::MAX;
+    for i in 0..kept.len() {
+        if kept[i].taken().is_none() {
+            return i;
+        }
+        let age = slots.age(kept[i].frame());
+        if most < age {
+            oldest = i;
+            most = age;
+        }
+        if age < least {
+            newest = i;
+            least = age;
+        }
+    }
+    if LONG < most { oldest } else { newest }
+}
+
+// A page comes into a slot.
+fn note_slot(slots: &mut LastSlots, view: &PageView, slot: usize) {
+    slots.note(view.vpn(), view.whose(), view.frame(), slot);
 }
 
 // Exchanges a slot with the one behind the first `count`.
@@ -402,8 +475,8 @@ fn exchange(views: &mut [PageView], slots: &mut LastSlots, count: usize, slot: u
     requires within { slot < length views.old }
     ensures { IsExchanged count slot views.old views.new }
 {
-    slots.note(views[count].vpn(), slot);
-    slots.note(views[slot].vpn(), count);
+    note_slot(slots, &views[count], slot);
+    note_slot(slots, &views[slot], count);
     let (_, behind) = views.split_at_mut(count);
     behind.swap(0, slot - count);
 }
@@ -436,11 +509,11 @@ fn place_since(views: &[PageView], frame: Frame, since: u64) -> Option<usize>
 }
 
 // Makes a view of what a slot was copied from.
-fn recall_at(views: &mut [PageView], at: usize, origin: Origin)
+fn recall_at(views: &mut [PageView], at: usize, origin: Origin, whose: u32)
     requires { at < length views.old }
     ensures { (v : View) → slice_get views.old at ≡ Some v → views.new ≡ slice_set views.old at (viewed origin v.first v.first) }
 {
-    views[at].recall(origin);
+    views[at].recall(origin, whose);
 }
 
 // Whether a slot keeps a frame's bytes as of `since` or later.

@@ -58,7 +58,7 @@ pub fn run_ahead<K: Store>(
     tables.holds();
     let thread = thread_at(tables, no);
     let space = thread.space;
-    quantum.begin(thread.context);
+    quantum.begin(thread.context, no);
     loop {
         let Paused::Miss { va, access } = quantum.run(most) else {
             return Ok(paused_at(quantum));

@@ -9,7 +9,7 @@ ghost use Rattle.quantum.specs.Ahead.{advanced, answer_of, begun, happened, more
 ghost use Rattle.quantum.specs.LocalRun.{HaveOneContents, IsLocalRun};
 
 use crate::paused::{Paused, SignalStore};
-use cache_ident::{Frame, Ident, NoMemory, Vpn};
+use cache_ident::{Frame, Ident, NoMemory, ThreadNo, Vpn};
 use page_views::{MOST_VIEWS, PageView, PageViews};
 use phys_groups::{Flags, PAGE_BYTES};
 use rv32_exec::{Access, Action, Context, Space, Stepped, Width, action_for, step};
@@ -59,14 +59,15 @@ impl Quantum {
         })
     }
 
-    /// Begins anew with a context, without views and steps. What carries a place of a journal is kept.
-    pub fn begin(&mut self, context: Context)
+    /// Begins anew with a context, without views and steps. What carries a place of a journal is kept. `no` is the number of the thread
+    /// whose pages are asked for next: it says no more than where they are looked for first.
+    pub fn begin(&mut self, context: Context, no: ThreadNo)
         requires { context.pc % 4 ≡ 0 }
         ensures { self.new ≡ begun context self.old }
     {
         self.first = context;
         self.context = context;
-        self.views.clear();
+        self.views.clear(no.0);
         self.steps = 0;
         self.paused = None;
     }

@@ -34,7 +34,7 @@ fn commit_nothing(
     quantum: &mut Quantum,
 ) -> Result<u32, Refused> {
     quantum.forget();
-    quantum.begin(ticket.context);
+    quantum.begin(ticket.context, ticket.no);
     board.commit(ticket, quantum)
 }
 

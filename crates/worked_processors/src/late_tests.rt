@@ -18,7 +18,7 @@ fn begin(board: &Board, ticket: &Ticket, quantum: &mut Quantum)
     ensures { AreOfTicket board.now.journal.entries ticket.now.thread quantum.new }
 {
     quantum.forget();
-    quantum.begin(ticket.context);
+    quantum.begin(ticket.context, ticket.no);
 }
 
 // Runs the ticket's thread ahead up to its call, and answers whether that takes three steps.
