@@ -81,16 +81,7 @@ impl CachedMachine {
         self.tables.reserve(n)
     }
 
-    /// Puts 4,096 bytes over a frame that there is.
-    pub fn copy_in(&mut self, frame: Frame, bytes: &[u8])
-        requires frame { HasFrame self.old.memory frame }
-        requires page { length bytes.now ≡ 4096 }
-        ensures { self.new ≡ record self.old { memory = with_page self.old.memory frame bytes.now } }
-    {
-        self.memory.copy_in(frame, bytes);
-    }
-
-    /// The same of 4,096 bytes from which those of the frame differ at most in a part.
+    /// Puts 4,096 bytes over those of a frame that there is, which differ from them at most in a part.
     pub fn copy_part_in(&mut self, frame: Frame, part: Part, bytes: &[u8])
         requires frame { HasFrame self.old.memory frame }
         requires page { length bytes.now ≡ 4096 }
