@@ -28,8 +28,8 @@ use thread_cache::ThreadRec;
 /// carries a place in the quantum must be of this board's journal.
 ///
 /// It is refused where the ticket's identifier isn't live any more (`Unknown`, `Stale`), and where no row of that page is loaded
-/// (`NotLoaded`). It costs a search, and a copy of the page where the quantum doesn't keep it since its frame changed last. It
-/// takes no memory.
+/// (`NotLoaded`). It costs a search, unless the page was copied last through the row that it has now; and a copy of the page where the
+/// quantum doesn't keep it since its frame changed last. It takes no memory.
 pub fn page(core: &Core, ticket: &Ticket, vpn: Vpn, quantum: &mut Quantum) -> Result<(), Refused>
     requires room { IsTrue (can_fill quantum.old.most quantum.old.views vpn) }
     requires kept { AreAllAsOf core.now.journal.entries quantum.old }

@@ -15,6 +15,7 @@ ghost use Rattle.alone_run.specs.board_turns.specs.Holds as holds;
 ghost use Rattle.processors.specs.Pages.{IsPagedFirst};
 ghost use Rattle.processors.specs.Sharing.{end_by, first_by, seen_by, IsSoOf, IsThere};
 
+use crate::recent::MOST_RECENT;
 use alone_run::turns::{Board, Committed, Found, Quantum, Refused, Ticket, commit_steps, find};
 use cache_ident::{NoMemory, Vpn};
 use std::sync::Wait;
@@ -70,7 +71,7 @@ pub(crate) fn pages(
     board: &Board,
     ticket: &Ticket,
     vpn: Vpn,
-    others: [Option<Vpn>; 8],
+    others: [Option<Vpn>; MOST_RECENT],
     quantum: &mut Quantum,
 ) -> Result<(), Refused>
     requires room { IsTrue (can_fill quantum.old.most quantum.old.views vpn) }

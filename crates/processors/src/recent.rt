@@ -7,13 +7,13 @@ use quantum::Paused;
 // For so many threads pages are kept. Of threads whose numbers are the same modulo this it is the one that ran last.
 const PLACES: usize = 8;
 
-// So many pages are kept of a thread.
-const MOST: usize = 8;
+/// So many pages are kept of a thread.
+pub(crate) const MOST_RECENT: usize = 8;
 
 #[derive(Clone, Copy)]
 struct Touched {
     thread: ThreadNo,
-    pages: [Option<Vpn>; MOST],
+    pages: [Option<Vpn>; MOST_RECENT],
 }
 
 /// The pages that threads touched in their last quanta on a processor. They are likely to touch them again, so whoever has the
@@ -24,8 +24,8 @@ pub(crate) struct Recent {
 }
 
 // The first pages that were touched.
-fn touched_in(quantum: &Quantum) -> [Option<Vpn>; MOST] {
-    let mut pages = [None; MOST];
+fn touched_in(quantum: &Quantum) -> [Option<Vpn>; MOST_RECENT] {
+    let mut pages = [None; MOST_RECENT];
     let touched = quantum.views().iter().filter(|view| view.touched());
     for (page, view) in pages.iter_mut().zip(touched) {
         *page = Some(view.vpn());
@@ -41,11 +41,11 @@ impl Recent {
         }
     }
 
-    pub(crate) fn of(&self, thread: ThreadNo) -> [Option<Vpn>; MOST] {
+    pub(crate) fn of(&self, thread: ThreadNo) -> [Option<Vpn>; MOST_RECENT] {
         let last = self.of_threads[thread.0 as usize % PLACES];
         match last {
             Some(touched) if touched.thread == thread => touched.pages,
-            _ => [None; MOST],
+            _ => [None; MOST_RECENT],
         }
     }
 
