@@ -10,12 +10,13 @@
 # - the eight threads on eight processors beside four other busy processes, twenty times. No run should take more than five times
 #   what one processor takes beside them in the middle of twenty.
 # PEERS is a folder with a plain interpreter in C and loops that it reads. Where it is given, its loop mix is taken, and the interpreter
-# runs in turn with the program; one processor should reach 0.85 of it. Else the loop is one that adds the words of a page.
+# runs in turn with the program; one processor should reach 0.85 of it; and how much more two and four interpreters do at once than one
+# does says what the machine itself has to give. Else the loop is one that adds the words of a page.
 #
-# What is timed is the whole program, the shortest of fifteen runs in turn, and where threads end the middle one, less that of runs of one
-# step. It wants the program that ./build leaves, and four processors that nobody else uses: a thread that waits for another one takes
-# steps meanwhile, of which there are a million. It fails where a run ends otherwise than it should; of the other bars it prints what
-# is missed.
+# What is timed is the whole program, the middle one of 31 runs in turn, less that of runs of one step. Not the shortest: a processor whose
+# neighbours rest may be twice as fast as usual for a moment, which one thread can meet and several can't. It wants the program that
+# ./build leaves, and four processors that nobody else uses: a thread that waits for another one takes steps meanwhile, of which there are
+# a million. It fails where a run ends otherwise than it should; of the other bars it prints what is missed.
 set -euo pipefail
 script=bench/processors.sh
 top="$(cd "$(dirname "${BASH_SOURCE[0]}")/.." && pwd)"
@@ -25,7 +26,7 @@ want_proved v_run
 place="$(mktemp -d)"
 busy=()
 trap '((${#busy[@]} == 0)) || kill "${busy[@]}" 2> /dev/null; rm -rf "$place"' EXIT
-runs=15
+runs=31
 failed=0
 steps=1000000
 
@@ -158,11 +159,9 @@ keep() {
     times[$1]+="$micros"$'\n'
 }
 
-# picked NAME: of the times of that name the shortest, or the middle one of runs that end, whose ways differ.
-picked() {
-    local place=1
-    [[ -z ${wanted-} ]] || place=$(((runs + 1) / 2))
-    printf '%s' "${times[$1]}" | sort -n | sed -n "${place}p"
+# middle NAME: of the times of that name the middle one.
+middle() {
+    printf '%s' "${times[$1]}" | sort -n | sed -n "$(((runs + 1) / 2))p"
 }
 
 # compare WHAT BARS CPUS..: times the file scenario on so many processors in turn. BARS has a word CPUS:TIMES for each bar.
@@ -190,7 +189,7 @@ compare() {
         fi
     done
     for it in "${!times[@]}"; do
-        [[ $it == few* ]] || echo "$it $(picked "$it") $(picked "few $it")"
+        [[ $it == few* ]] || echo "$it $(middle "$it") $(middle "few $it")"
     done | sort -n | awk -v bars="$bars" '
         BEGIN { n = split(bars, all, " "); for (i = 1; i <= n; i++) { split(all[i], of, ":"); bar[of[1]] = of[2] } }
         { time[$1] = $2 - $3 > 1 ? $2 - $3 : 1; order[++count] = $1 }
@@ -220,6 +219,24 @@ ending() {
     shift 3
     rm -f "$place/first"
     compare "$what" "$bars" "$@"
+}
+
+# several_peers: how much more several peers do at once than one does, by themselves, in the middle of the runs.
+several_peers() {
+    local run count it start end
+    for ((run = 0; run < runs; run++)); do
+        for count in 1 2 4; do
+            start=$EPOCHREALTIME
+            for ((it = 0; it < count; it++)); do
+                "$peer" --steps 10000000 < "$place/loop" > /dev/null &
+            done
+            wait
+            end=$EPOCHREALTIME
+            echo "$count $((${end/./} - ${start/./}))"
+        done
+    done | sort -k1,1n -k2,2n | awk -v runs="$runs" '
+        { if (++seen[$1] == (runs + 1) / 2) time[$1] = $2 }
+        END { printf "the machine: two peers at once do %.2f times what one does, four %.2f times\n", 2 * time[1] / time[2], 4 * time[1] / time[4] }'
 }
 
 # crowded: the eight threads beside four busy processes.
@@ -256,6 +273,7 @@ if [[ -n ${1:-} ]]; then
 else
     cp "$top/bench/loops/adding.scn" "$place/loop"
 fi
+[[ -z $peer ]] || several_peers
 apart 4 > "$place/scenario"
 compare 'four threads of one loop, each by itself' '2:1.8 4:3.0' 1 2 4
 apart 8 > "$place/scenario"
