@@ -12,4 +12,4 @@ mod ranks;
 
 pub use chains::chain_of;
 pub use loads::{Keep, loaded_among};
-pub use names::{Chain, MOST_CHAINED};
+pub use names::Chain;

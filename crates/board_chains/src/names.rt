@@ -5,16 +5,14 @@ ghost use Rattle.board_chains.specs.Lists.{has as has_name, with_also, with_any}
 
 use arrayvec::ArrayVec;
 use cache_ident::Name;
-
-/// How many descriptors a step needs at most: 5 kernels, 5 spaces, 5 threads and 6 rows.
-pub const MOST_CHAINED: usize = 21;
+use flat_state::MOST_WANTED;
 
 /// Names of what a step needs.
-pub type Chain = ArrayVec<Name, MOST_CHAINED>;
+pub type Chain = ArrayVec<Name, MOST_WANTED>;
 
 // Adds a name, if it isn't there.
 pub(crate) fn add(name: Name, names: &mut Chain)
-    requires { has_name names.old.items name ≡ false → length names.old.items < MOST_CHAINED }
+    requires { has_name names.old.items name ≡ false → length names.old.items < MOST_WANTED }
     ensures { names.new.items ≡ with_also names.old.items name }
 {
     if has(names, name) {
@@ -25,7 +23,7 @@ pub(crate) fn add(name: Name, names: &mut Chain)
 
 // Adds a name, if there is one and it isn't there.
 pub(crate) fn add_if_some(name: Option<Name>, names: &mut Chain)
-    requires { length names.old.items < MOST_CHAINED }
+    requires { length names.old.items < MOST_WANTED }
     ensures { names.new.items ≡ with_any names.old.items name }
 {
     if let Some(name) = name {

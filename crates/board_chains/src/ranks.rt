@@ -5,8 +5,9 @@ ghost use Rattle.cache_ident.specs.declared.names.Name.{Name};
 ghost use Rattle.board_chains.specs.Lists.{AreAllOnce};
 ghost use Rattle.board_chains.specs.Ranks.{is_row as is_row_def, number_of, rank_of, AreInOrder, IsBefore};
 
-use crate::names::{Chain, MOST_CHAINED, name_at};
+use crate::names::{Chain, name_at};
 use cache_ident::Name;
+use flat_state::MOST_WANTED;
 
 fn rank(name: Name) -> u32
     ensures { result ≡ rank_of name }
@@ -48,7 +49,7 @@ fn is_before(one: Name, other: Name) -> bool
 
 // The names of the list that are no row's, in order.
 pub(crate) fn numbered_among(names: &[Name]) -> Chain
-    requires few { length names.now ≤ MOST_CHAINED }
+    requires few { length names.now ≤ MOST_WANTED }
     requires apart { AreAllOnce names.now }
     ensures order { AreInOrder result.items }
     ensures exact { (name : Name) → Contains result.items name ↔ (Contains names.now name × (is_row_def name ≡ false)) }
@@ -64,7 +65,7 @@ pub(crate) fn numbered_among(names: &[Name]) -> Chain
 
 // Puts a name that isn't there at its place.
 fn insert(name: Name, numbered: &mut Chain)
-    requires room { length numbered.old.items < MOST_CHAINED }
+    requires room { length numbered.old.items < MOST_WANTED }
     requires order { AreInOrder numbered.old.items }
     requires plain { (other : Name) → Contains numbered.old.items other → is_row_def other ≡ false }
     requires its { is_row_def name ≡ false }

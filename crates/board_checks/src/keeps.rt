@@ -10,14 +10,12 @@ ghost use Rattle.board_checks.specs.Keeps.{HasAlso, IsAboveSome, IsKept, IsKeptF
 use arrayvec::ArrayVec;
 use cache_ident::{Ident, Name};
 use desc_tables::Tables;
+use flat_state::MOST_WANTED;
 use phys_groups::Row;
 use slot_cache::Descriptor;
 
-/// How many identifiers a load keeps at most: with the new descriptor 5 kernels, 5 spaces, 5 threads and 6 rows.
-pub const MOST_KEPT: usize = 21;
-
-/// The identifiers that a load keeps.
-pub type Keep = ArrayVec<Ident, MOST_KEPT>;
+/// The identifiers that a load keeps: with the new descriptor no more than one step wants.
+pub type Keep = ArrayVec<Ident, MOST_WANTED>;
 
 /// A kernel alone.
 pub(crate) fn keep_kernel(kernel: Ident) -> Keep
@@ -118,7 +116,7 @@ fn add_parents(tables: &Tables, name: Name, keep: &mut Keep)
 
 // Adds an identifier, if it isn't there.
 fn add(ident: Ident, keep: &mut Keep)
-    requires room { length keep.old.items < MOST_KEPT }
+    requires room { length keep.old.items < MOST_WANTED }
     ensures { HasAlso keep.old.items keep.new.items ident }
 {
     if is_kept(keep, ident) {

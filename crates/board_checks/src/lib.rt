@@ -18,7 +18,7 @@ pub use completions::{check_complete, check_thread};
 pub use desc_tables::{Item, ItemRef, Tables};
 pub use holds::{check_lock, check_unload, check_unlock};
 pub use idents::{kernel_as, live, receiver_as, space_as, thread_as};
-pub use keeps::{Keep, MOST_KEPT};
+pub use keeps::Keep;
 pub use loads::{
     Loadable, check_load_kernel, check_load_mapping, check_load_space, check_load_thread,
 };

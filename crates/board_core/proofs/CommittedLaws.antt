@@ -27,7 +27,7 @@ use Rattle.cached_machine.specs.quantum.specs.LocalRun.{committed, status_by, to
 use Rattle.cached_machine.specs.Cached.{state_of, Cached}
 use Rattle.board_core.specs.Growth.{with_all_views, with_view, AreInMemory}
 use Rattle.board_core.proofs.OpeningLaws.{memory_shown}
-use Rattle.board_core.proofs.ClearedLaws.{touched_if_written}
+use Rattle.cached_machine.specs.quantum.proofs.Touched.{touched_if_written}
 use Rattle.board_core.proofs.TakingLaws.{all_views-push}
 
 -- ---- memory

@@ -14,7 +14,6 @@ pub mod StoresLaws
 pub mod StoredLaws
 pub mod RunningLaws
 pub mod TakingLaws
-pub mod ClearedLaws
 pub mod CommittedLaws
 pub mod AheadLaws
 pub mod CheckLaws

@@ -95,10 +95,6 @@ abbrev pub with_all_views : SpaceNo → FlatState → List View → FlatState
 with_all_views space s [] = s
 with_all_views space s (v ∷ vs) = with_all_views space (with_view space s v) vs
 
--- each frame holds what was copied of it
-abbrev pub AreAsCopied : List ℕ → List View → Type 0
-AreAsCopied memory vs = (v : View) → Contains vs v → page_at memory v.frame ≡ v.first
-
 -- the frame holds what was copied of it, or what the view holds now
 abbrev pub IsAsCopiedOrNow : List ℕ → View → Type 0
 IsAsCopiedOrNow memory v = (page_at memory v.frame ≡ v.first) ⊎ (page_at memory v.frame ≡ v.present)

@@ -7,7 +7,8 @@ ghost use Rattle.cached_machine.specs.quantum.specs.LocalRun.{committed, status_
 ghost use Rattle.cached_machine.specs.shown_state.specs.Shown.{flat_thread};
 ghost use Rattle.cached_machine.specs.Aside.{aside_of};
 ghost use Rattle.cached_machine.specs.Cached.{state_of};
-ghost use Rattle.board_core.specs.Growth.{with_all_views, with_view, AreAsCopied, AreHeld, AreInMemory, HoldAlike, IsAsCopiedOrNow, IsPutIn};
+ghost use Rattle.board_core.specs.Growth.{with_all_views, with_view, AreHeld, AreInMemory, HoldAlike, IsAsCopiedOrNow, IsPutIn};
+ghost use Rattle.board_ops.specs.page_views.specs.Views.{AreCopies};
 ghost use Rattle.board_core.specs.Stamps.{AreStamped, HaveStamps};
 
 use crate::core_record::put_stamp;
@@ -62,7 +63,7 @@ fn take_views(
     at: u64,
 )
     requires frames { AreInMemory machine.old.memory (touched_views views.now) }
-    requires found { AreAsCopied machine.old.memory (touched_views views.now) }
+    requires found { AreCopies machine.old.memory (touched_views views.now) }
     requires alike { HoldAlike (touched_views views.now) }
     requires places { HaveStamps machine.old.memory stamps.old.items }
     ensures state { state_of machine.new ≡ with_all_views space (state_of machine.old) views.now }

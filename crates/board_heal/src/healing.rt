@@ -11,10 +11,10 @@ ghost use Rattle.board_heal.specs.Refusals.{refusal_of_heal};
 
 use crate::checks::check_heal;
 use crate::loads::{load_missing, machine_of};
-use board_chains::{MOST_CHAINED, chain_of};
+use board_chains::chain_of;
 use board_core::{Core, Refused};
 use cache_ident::ThreadNo;
-use flat_state::NextStep;
+use flat_state::{MOST_WANTED, NextStep};
 
 /// Loads what is missing of the chain of a thread's next step, and takes that step: at most 21 loads, and nothing of the chain
 /// leaves for them. They come in this order: kernels, spaces and threads, each by their numbers; the signal rows that the row of
@@ -34,7 +34,7 @@ pub fn heal_step(core: &mut Core, cpu: u32, no: ThreadNo) -> Result<(), Refused>
     ensures enough { HasCallRoom core.old → IfErr result (λ why. why ≢ NoMemory) }
 {
     let checked = check_heal(core, no);
-    core.make_room(MOST_CHAINED, 1)?;
+    core.make_room(MOST_WANTED, 1)?;
     checked?;
     let next = known_step(core, no);
     let chain = chain_of(machine_of(core), no, &next);

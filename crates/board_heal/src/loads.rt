@@ -10,12 +10,13 @@ ghost use Rattle.board_heal.specs.Loads.{IsThereNow, MayComeNext};
 use board_chains::loaded_among;
 use board_core::{CachedMachine, Core};
 use cache_ident::Name;
+use flat_state::MOST_WANTED;
 
 // Loads a descriptor of a chain, if it isn't loaded, while what is loaded of the chain stays.
 pub(crate) fn load_missing(core: &mut Core, cpu: u32, name: Name, chain: &[Name])
     requires processor { cpu < 8 }
     requires sealed { core.old.sealed ≡ true }
-    requires short { length chain.now ≤ 21 }
+    requires short { length chain.now ≤ MOST_WANTED }
     requires next { MayComeNext core.old chain.now name }
     ensures { IsThereNow cpu chain.now name core.old core.new }
 {

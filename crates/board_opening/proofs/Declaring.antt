@@ -23,9 +23,6 @@ use Rattle.cache_board.specs.board_calls.specs.Calls.{refusal_of_declare, IsDecl
 use Rattle.cache_board.specs.Boards.{refusal_of_machine}
 use Rattle.board_opening.specs.Openings.{AreDeclared, IsNewBoard}
 
-abbrev pub BeginsWithMachine : List Decl → Type 0
-BeginsWithMachine ds = (machine : Machine) × (rest : List Decl) × (ds ≡ declaration.Machine machine ∷ rest)
-
 -- ---- refusals
 
 -- where no reason comes, memory was wanted
@@ -78,18 +75,6 @@ pub all_done : (start old : Recorded) (whole ds : List Decl) → ds ≡ [] → (
 all_done start old whole ds none so_far = so_far old (subst (λ (xs : List Decl). AreDeclared xs old old) (sym none) refl)
 
 -- ---- the machine
-
-pub some_first : (ds : List Decl) → BeginsWithMachine ds → 0 < length ds
-some_first [] (m, rest, e) = absurd cc
-some_first (d ∷ ds) h = omega arith
-
-pub is_first : (ds : List Decl) (d : Decl) (m : Machine) → get_or ds 0 d ≡ declaration.Machine m → 0 < length ds → ds ≡ declaration.Machine m ∷ drop 1 ds
-is_first [] d m is some = absurd (omega arith)
-is_first (x ∷ xs) d m is some = ap (λ (y : Decl). y ∷ xs) is
-
--- it can't be anything else
-pub is_nothing_else : (ds : List Decl) (d : Decl) → BeginsWithMachine ds → ((m : Machine) → get_or ds 0 d ≡ declaration.Machine m → ⊥) → ⊥
-is_nothing_else ds d (m, rest, e) other = other m (ap (λ (xs : List Decl). get_or xs 0 d) e)
 
 pub new_so : (r : Result Recorded Refused) (b : Recorded) (m : Machine) (limit : ℕ) → r ≡ Ok b → IfOk r (λ x. x.journal.entries ≡ Declared (declaration.Machine m) ∷ [])
     → IfOk r (λ x. (x.sealed ≡ false) × (x.limit ≡ limit) × (x.checkouts ≡ 0) × (x.machine.machine ≡ m)) → IsSound b → IsNewBoard m limit b

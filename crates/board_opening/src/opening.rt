@@ -1,6 +1,6 @@
 //! The board of a scenario's declarations.
 
-ghost use Rattle.std.specs.Prelude.{◌≡◌, ◌∷◌, false, drop, None, List, IfOk, Ok, OnOk};
+ghost use Rattle.std.specs.Prelude.{◌≡◌, ◌∷◌, false, None, List, IfOk, Ok, OnOk};
 ghost use Rattle.std.specs.Result.{ForErr};
 ghost use Rattle.flat_state.specs.declared.events.Decl.{Decl};
 ghost use Rattle.flat_state.specs.declared.events.Decl.TheVariants as declaration;
@@ -13,6 +13,7 @@ ghost use Rattle.cache_board.specs.cached_machine.specs.Cached.{state_of};
 ghost use Rattle.board_opening.specs.Openings.{AreDeclared, IsBoardOf, IsNewBoard};
 
 use cache_board::{Board, Refused};
+use flat_rules::first_machine;
 use flat_state::{Decl, Machine};
 use std::alloc::{AllocError, Global};
 
@@ -52,17 +53,6 @@ fn declare_all(board: &mut Board, decls: &[Decl]) -> Result<(), AllocError>
         answered(declared)?;
     }
     Ok(())
-}
-
-// The machine that stands first.
-fn first_machine(decls: &[Decl]) -> Machine
-    requires { (machine : Machine) × (rest : List Decl) × (decls.now ≡ declaration.Machine machine ∷ rest) }
-    ensures { decls.now ≡ declaration.Machine result ∷ drop 1 decls.now }
-{
-    match decls[0] {
-        Decl::Machine { machine } => machine,
-        _ => unreachable!(),
-    }
 }
 
 /// The board of declarations that fit, the first of which is the machine, and which takes at most so many steps. It costs what

@@ -1,6 +1,9 @@
 //! The rules of a declaration.
 
-ghost use Rattle.std.specs.Prelude.{◌≡◌, ◌+◌, ◌<◌, None, Some, MatchResult, nat_le};
+ghost use Rattle.std.specs.Prelude.{◌≡◌, ◌+◌, ◌<◌, ◌∷◌, List, None, Some, MatchResult, drop, nat_le};
+ghost use Rattle.flat_state.specs.declared.events.Decl.{Decl};
+ghost use Rattle.flat_state.specs.declared.events.Decl.TheVariants as declaration;
+ghost use Rattle.flat_state.specs.declared.events.Machine.{Machine};
 ghost use Rattle.flat_state.specs.State.{groups_of};
 ghost use Rattle.flat_state.specs.Declaration.{agree as agree_def, are_capacities as are_capacities_def, broken_rule, caps_of, has_four as has_four_def, has_frame as has_frame_def, has_no_flag as has_no_flag_def, has_receiver as has_receiver_def, is_capacity as is_capacity_def, is_receiver_in as is_receiver_in_def, leaves_room as leaves_room_def, may_lock_kernels as may_lock_kernels_def, rule_of_early as rule_of_early_def, rule_of_kernel as rule_of_kernel_def, rule_of_machine as rule_of_machine_def, rule_of_map as rule_of_map_def, rule_of_right as rule_of_right_def, rule_of_space as rule_of_space_def, rule_of_thread as rule_of_thread_def, rule_of_word as rule_of_word_def};
 ghost use Rattle.flat_rules.specs.Readings.{Gives};
@@ -326,4 +329,15 @@ fn rule_of_word<T: Records>(tables: &T, frame: Frame, offset: u32) -> Result<(),
         return Err(15);
     }
     Ok(())
+}
+
+/// The machine that stands first among declarations.
+pub fn first_machine(decls: &[Decl]) -> Machine
+    requires { (machine : Machine) × (rest : List Decl) × (decls.now ≡ declaration.Machine machine ∷ rest) }
+    ensures { decls.now ≡ declaration.Machine result ∷ drop 1 decls.now }
+{
+    match decls[0] {
+        Decl::Machine { machine } => machine,
+        _ => unreachable!(),
+    }
 }

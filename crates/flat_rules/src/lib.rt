@@ -17,7 +17,7 @@ mod threads;
 mod translation;
 
 pub use changes::Changes;
-pub use declarations::{admit, rule_of_machine};
+pub use declarations::{admit, first_machine, rule_of_machine};
 pub use depends::parents;
 pub use look::{next_signal, next_step};
 pub use records::Records;

@@ -27,6 +27,12 @@ pub const STEP_CAPS: Caps = Caps {
     mappings: 6,
 };
 
+/// The most descriptors that one step wants loaded: those of `STEP_CAPS`, of all kinds.
+pub const MOST_WANTED: usize = (STEP_CAPS.kernels
+    + STEP_CAPS.spaces
+    + STEP_CAPS.threads
+    + STEP_CAPS.mappings) as usize;
+
 /// How much memory a machine has, and how much its caches hold.
 #[derive(Clone, Copy, PartialEq, Eq, Debug)]
 pub struct Machine {

@@ -7,5 +7,5 @@
 mod events;
 mod records;
 
-pub use events::{Decl, Event, GREATEST_CAPS, MOST_DECLARED, Machine, STEP_CAPS};
+pub use events::{Decl, Event, GREATEST_CAPS, MOST_DECLARED, MOST_WANTED, Machine, STEP_CAPS};
 pub use records::{DataAccess, FlatKernel, FlatThread, NextStep, Settled, Signal};

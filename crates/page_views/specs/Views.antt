@@ -7,6 +7,7 @@ use Rattle.cache_ident.specs.declared.idents.Ident.{Ident}
 use Rattle.cache_ident.specs.declared.names.Vpn.{Vpn}
 use Rattle.cache_ident.specs.declared.names.Frame.{Frame}
 use Rattle.phys_groups.specs.declared.rows.Flags.{Flags}
+use Rattle.phys_groups.specs.Memory.{page_at}
 use Rattle.rv32_exec.specs.declared.statuses.Access.{Access}
 use Rattle.rv32_exec.specs.declared.statuses.Access.TheVariants.{Fetch, Read, Write}
 use Rattle.rv32_exec.specs.Pages.{Page, put_bytes}
@@ -93,6 +94,10 @@ filled vs vpn frame flags row bytes taken =
       taken = taken;
     }
 
+-- the views were copied from this memory
+abbrev pub AreCopies : List ℕ → List View → Type 0
+AreCopies memory vs = (v : View) → Contains vs v → page_at memory v.frame ≡ v.first
+
 -- ---- what is kept
 
 -- a frame's bytes, with the place of a journal as of which it has them
@@ -159,7 +164,7 @@ pub record IsRefilled (vpn : Vpn) (frame : Frame) (flags : Flags) (row : Ident) 
   pub most : after.most ≡ before.most
   pub kept : AreKept before.kept after.kept
 
--- nothing changed but the order of what is kept
+-- the views are the same, and all that is kept was kept before
 pub record IsReordered (before after : Table) : Type 0 where
   pub views : after.views ≡ before.views
   pub most : after.most ≡ before.most

@@ -14,7 +14,7 @@ use Rattle.flat_rules.specs.flat_state.specs.WellFormed.{IsWellFormed}
 use Rattle.flat_rules.specs.flat_state.specs.Call.{after_completion, complete_if, completion_for, is_completable}
 use Rattle.paged_steps.specs.memory_laws.specs.Apart.{over}
 use Rattle.paged_steps.specs.memory_laws.proofs.Apart.{completion_apart}
-use Rattle.quantum.specs.page_views.specs.Views.{View}
+use Rattle.quantum.specs.page_views.specs.Views.{View, AreCopies}
 use Rattle.quantum.specs.Ahead.{Ahead}
 use Rattle.quantum.specs.LocalRun.{committed, state_after, CouldRun, GoesThrough, IsLocalRun}
 use Rattle.run_journal.specs.declared.entries.Entry.{Entry}
@@ -27,7 +27,7 @@ use Rattle.flat_rules.specs.flat_state.specs.Signals.{full_among, receivers_of}
 use Rattle.quantum.specs.Ahead.{signal_store}
 use Rattle.quantum.specs.declared.paused.SignalStore.{SignalStore}
 use Rattle.flat_machine.specs.rv32_exec.specs.declared.statuses.Status.TheVariants.{Ready}
-use Rattle.paged_steps.specs.Aheads.{AreCopies, IsAheadOf, IsFresh, IsSentBy}
+use Rattle.paged_steps.specs.Aheads.{IsAheadOf, IsFresh, IsSentBy}
 use Rattle.flat_machine.specs.rv32_exec.specs.declared.statuses.Access.{Access}
 use Rattle.flat_machine.specs.rv32_exec.specs.declared.statuses.FaultKind.{FaultKind}
 use Rattle.flat_machine.specs.rv32_exec.specs.declared.statuses.Reason.TheVariants.{Fault}

@@ -155,24 +155,9 @@ all_done p q g h whole ds none so_far = so_far q h (subst (λ (xs : List Decl). 
 
 -- ---- the machine
 
-abbrev pub BeginsWithMachine : List Decl → Type 0
-BeginsWithMachine ds = (machine : Machine) × (rest : List Decl) × (ds ≡ decls.Machine machine ∷ rest)
-
-pub some_first : (ds : List Decl) → BeginsWithMachine ds → 0 < length ds
-some_first [] (m, rest, e) = absurd cc
-some_first (d ∷ ds) h = omega arith
-
 -- those behind the first are what a slice from there has
 pub whole_tail : (ds : List Decl) (m : Machine) → ds ≡ decls.Machine m ∷ drop 1 ds → ds ≡ decls.Machine m ∷ take (length ds - 1) (drop 1 ds)
 whole_tail ds m is = is ∙ ap (λ (xs : List Decl). decls.Machine m ∷ xs) (sym (take_all (length ds - 1) (drop 1 ds) (omega (arith, length-drop 1 ds))))
-
-pub is_first : (ds : List Decl) (d : Decl) (m : Machine) → get_or ds 0 d ≡ decls.Machine m → 0 < length ds → ds ≡ decls.Machine m ∷ drop 1 ds
-is_first [] d m is some = absurd (omega arith)
-is_first (x ∷ xs) d m is some = ap (λ (y : Decl). y ∷ xs) is
-
--- it can't be anything else
-pub is_nothing_else : (ds : List Decl) (d : Decl) → BeginsWithMachine ds → ((m : Machine) → get_or ds 0 d ≡ decls.Machine m → ⊥) → ⊥
-is_nothing_else ds d (m, rest, e) other = other m (ap (λ (xs : List Decl). get_or xs 0 d) e)
 
 -- a machine that stands first breaks no rule of machines
 pub machine_fits : (ds rest : List Decl) (m : Machine) → ds ≡ decls.Machine m ∷ rest → AllFit nothing_declared ds → rule_of_machine m ≡ None

@@ -9,7 +9,6 @@ mod sure_store;
 mod turns;
 
 pub use fault::PagedFault;
-pub use opening::first_machine;
 pub use page_store::{Failed, MemStore, Store};
 pub use run::{PagedRun, run_paged};
 pub use sure_store::run_in_memory;

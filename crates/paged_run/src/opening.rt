@@ -1,6 +1,6 @@
 //! The declarations of a scenario, before its run.
 
-ghost use Rattle.std.specs.Prelude.{◌≡◌, ◌<◌, ◌≤◌, ◌∷◌, [], List, ℕ, None, Some, IfOk, IsSome, OnOk, IsErrOf, drop};
+ghost use Rattle.std.specs.Prelude.{◌≡◌, ◌<◌, ◌≤◌, ◌∷◌, [], List, ℕ, None, Some, IfOk, IsSome, OnOk, IsErrOf};
 ghost use Rattle.byte_ports.specs.Faults.{HasRisen};
 ghost use Rattle.flat_rules.specs.flat_state.specs.declared.events.Decl.{Decl};
 ghost use Rattle.flat_rules.specs.flat_state.specs.declared.events.Decl.TheVariants as declaration;
@@ -18,7 +18,7 @@ use crate::fault::PagedFault;
 use crate::pager::Pager;
 use cache_ident::NoMemory;
 use flat_machine::{Decl, Event, Flat, Machine};
-use flat_rules::Records;
+use flat_rules::{Records, first_machine};
 use page_store::{Paged, Store};
 use paged_steps::Order;
 use phys_groups::GROUP_FRAMES;
@@ -49,17 +49,6 @@ pub(crate) fn opened<K: Store>(
     declare_all(&mut pager, store, &decls[1..])?;
     pager.journal.push(Entry::Sealed)?;
     Ok(pager)
-}
-
-/// The machine that stands first among declarations.
-pub fn first_machine(decls: &[Decl]) -> Machine
-    requires { (machine : Machine) × (rest : List Decl) × (decls.now ≡ declaration.Machine machine ∷ rest) }
-    ensures { decls.now ≡ declaration.Machine result ∷ drop 1 decls.now }
-{
-    match decls[0] {
-        Decl::Machine { machine } => machine,
-        _ => unreachable!(),
-    }
 }
 
 // A machine of which nothing else is declared.

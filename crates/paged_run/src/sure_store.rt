@@ -11,10 +11,10 @@ ghost use Rattle.page_store.specs.MemStores.{new_stock};
 ghost use Rattle.paged_run.specs.Runs.{IsPagedRun};
 
 use crate::fault::PagedFault;
-use crate::opening::first_machine;
 use crate::run::{PagedRun, run_paged};
 use cache_ident::{Frame, NoMemory};
 use flat_machine::Decl;
+use flat_rules::first_machine;
 use page_store::{Failed, MemStore, Store};
 use std::alloc::{AllocError, Global};
 use std::marker::Model;

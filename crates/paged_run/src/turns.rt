@@ -4,7 +4,7 @@ ghost use Rattle.std.specs.Prelude.{◌≡◌, ◌+◌, ◌<◌, ◌≤◌, List
 ghost use Rattle.byte_ports.specs.Faults.{HasRisen};
 ghost use Rattle.page_store.specs.Kept.{Kept, Means};
 ghost use Rattle.paged_steps.specs.Pages.{HasFrames};
-ghost use Rattle.paged_steps.specs.Aheads.{AreCopies};
+ghost use Rattle.quantum.specs.page_views.specs.Views.{AreCopies};
 ghost use Rattle.paged_steps.specs.Nexts.{GoesSo};
 ghost use Rattle.paged_steps.specs.Orders.{HasCall};
 ghost use Rattle.paged_steps.specs.declared.looking.Next.TheVariants as nexts;

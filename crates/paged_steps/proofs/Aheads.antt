@@ -20,11 +20,11 @@ use Rattle.flat_state.specs.State.{FlatState}
 use Rattle.flat_state.specs.Translation.{reached, rights_of, wants}
 use Rattle.flat_state.proofs.Finding.{find-contains, find-passes}
 use Rattle.quantum.specs.flat_laws.proofs.Members.{Contains-from_map, Contains-map, Contains-option, contains_nothing}
-use Rattle.quantum.specs.page_views.specs.Views.{can_fill, copied, copies_of, filled, is_of_page, is_touched_of, pages_of_views, present_in, Copied, View}
+use Rattle.quantum.specs.page_views.specs.Views.{can_fill, copied, copies_of, filled, is_of_page, is_touched_of, pages_of_views, present_in, Copied, View, AreCopies}
 use Rattle.quantum.specs.declared.paused.Paused.{Paused}
 use Rattle.quantum.specs.declared.paused.Paused.TheVariants as pauses
 use Rattle.quantum.specs.Ahead.{at_limit, begun, further, is_signal, more_with, one_ahead, outcome, pause_at, pause_before, pause_if_missed, signal_store, signals_next, standing, Ahead, HasSameCopies, IsRun}
-use Rattle.paged_steps.specs.Aheads.{AreCopies, IsAheadOf, IsFresh, IsOfRow, StandsSo}
+use Rattle.paged_steps.specs.Aheads.{IsAheadOf, IsFresh, IsOfRow, StandsSo}
 use Rattle.paged_steps.specs.declared.ahead.Stands.{Stands}
 use Rattle.paged_steps.specs.declared.ahead.Stands.TheVariants.{Whole, Signals}
 use Rattle.quantum.specs.declared.paused.SignalStore.{SignalStore}

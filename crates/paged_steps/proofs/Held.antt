@@ -18,12 +18,12 @@ use Rattle.flat_state.specs.Step.{after_step, faulted, outcome, step_if, step_of
 use Rattle.flat_state.specs.Translation.{reached, row_through}
 use Rattle.flat_state.specs.WellFormed.{IsWellFormed}
 use Rattle.memory_laws.specs.Apart.{over}
-use Rattle.quantum.specs.page_views.specs.Views.{pages_of_views, View}
+use Rattle.quantum.specs.page_views.specs.Views.{pages_of_views, View, AreCopies}
 use Rattle.quantum.specs.declared.paused.SignalStore.{SignalStore}
 use Rattle.quantum.specs.Ahead.{outcome as ahead_outcome, signal_store, Ahead}
 use Rattle.quantum.specs.LocalRun.{GoesThrough, IsLocalRun, Shows}
 use Rattle.ahead_laws.proofs.Missed.{missed_faults}
-use Rattle.paged_steps.specs.Aheads.{AreCopies, IsAheadOf, IsFresh, IsSentBy}
+use Rattle.paged_steps.specs.Aheads.{IsAheadOf, IsFresh, IsSentBy}
 use Rattle.paged_steps.proofs.Sending.{sends}
 use Rattle.paged_steps.proofs.Taking.{could_run, shows_of}
 

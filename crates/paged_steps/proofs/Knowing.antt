@@ -27,12 +27,12 @@ use Rattle.flat_state.proofs.FormedParts.{KeepsRow}
 use Rattle.flat_state.proofs.Places.{get-set_other, get-set_same}
 use Rattle.memory_laws.specs.Apart.{over}
 use Rattle.quantum.specs.flat_laws.proofs.Members.{find-map, Contains-behind, Contains-here}
-use Rattle.quantum.specs.page_views.specs.Views.{View}
+use Rattle.quantum.specs.page_views.specs.Views.{View, AreCopies}
 use Rattle.quantum.specs.declared.paused.Paused.{Paused}
 use Rattle.quantum.specs.declared.paused.SignalStore.{SignalStore}
 use Rattle.quantum.specs.Ahead.{signal_store, Ahead}
 use Rattle.quantum.specs.LocalRun.{committed, status_by, touched_views, with_marks_of, with_view_marks, with_views}
-use Rattle.paged_steps.specs.Aheads.{AreCopies, IsAheadOf, IsFresh, IsOfRow, IsSentBy}
+use Rattle.paged_steps.specs.Aheads.{IsAheadOf, IsFresh, IsOfRow, IsSentBy}
 use Rattle.paged_steps.specs.Knowing.{AreKept, AreSpared, IsHeldAhead, IsKnownHeld, Knows, KnowsNobody, KnowsNoMore}
 use Rattle.paged_steps.specs.declared.order.Order.{Order}
 use Rattle.paged_steps.proofs.Aheads.{reached_row}

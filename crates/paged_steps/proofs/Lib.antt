@@ -1,6 +1,5 @@
 pub mod Aheads
 pub mod Asked
-pub mod Used
 pub mod Marked
 pub mod Taking
 pub mod Sending

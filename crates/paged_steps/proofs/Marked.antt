@@ -17,7 +17,7 @@ use Rattle.quantum.specs.page_views.specs.Views.{View, HaveOneViewAPage}
 use Rattle.quantum.specs.Ahead.{Ahead}
 use Rattle.quantum.specs.LocalRun.{with_marks_of, with_view_marks, CouldRun, IsLocalRun}
 use Rattle.paged_steps.specs.Marks.{mark_of, marks_by}
-use Rattle.paged_steps.proofs.Used.{touched_if_written}
+use Rattle.quantum.proofs.Touched.{touched_if_written}
 
 -- one view more
 pub marks-push : (space : SpaceNo) (vs : List View) (v : View) (row : Row) → marks_by space (vs ++ v ∷ []) row ≡ mark_of space v (marks_by space vs row)

@@ -24,14 +24,14 @@ use Rattle.flat_state.specs.Pages.{pages_of}
 use Rattle.flat_state.specs.Signals.{full_among, is_held, next_action, next_signal, receivers_for, receivers_of, signal_of, signal_through}
 use Rattle.flat_state.specs.Translation.{reached}
 use Rattle.memory_laws.specs.Apart.{over}
-use Rattle.quantum.specs.page_views.specs.Views.{pages_of_views, view_through, View}
+use Rattle.quantum.specs.page_views.specs.Views.{pages_of_views, view_through, View, AreCopies}
 use Rattle.quantum.specs.declared.paused.SignalStore.{SignalStore}
 use Rattle.quantum.specs.Ahead.{is_signal, signal_store, signals_through, store_by, store_if, Ahead}
 use Rattle.quantum.specs.LocalRun.{Shows}
 use Rattle.quantum.proofs.Changed.{reaches, shows_at, through_parts}
 use Rattle.quantum.proofs.Signalling.{store_ahead}
 use Rattle.quantum.proofs.StepsIn.{same_action, ShowsAt}
-use Rattle.paged_steps.specs.Aheads.{AreCopies, IsAheadOf, IsFresh, IsSentBy}
+use Rattle.paged_steps.specs.Aheads.{IsAheadOf, IsFresh, IsSentBy}
 use Rattle.paged_steps.proofs.Aheads.{reached_row}
 use Rattle.paged_steps.proofs.Taking.{shows_of}
 

@@ -23,10 +23,10 @@ use Rattle.flat_state.proofs.FormedParts.{memory_formed}
 use Rattle.quantum.specs.flat_laws.proofs.Members.{Contains-filter}
 use Rattle.memory_laws.specs.Apart.{over}
 use Rattle.page_store.specs.Kept.{Kept}
-use Rattle.quantum.specs.page_views.specs.Views.{View, HaveOneViewAPage}
+use Rattle.quantum.specs.page_views.specs.Views.{View, HaveOneViewAPage, AreCopies}
 use Rattle.quantum.specs.Ahead.{Ahead}
 use Rattle.quantum.specs.LocalRun.{committed, status_by, touched_views, with_views, CouldRun, HaveOneContents, IsLocalRun, Shows}
-use Rattle.paged_steps.specs.Aheads.{AreCopies, IsAheadOf, IsOfRow, IsPutIf}
+use Rattle.paged_steps.specs.Aheads.{IsAheadOf, IsOfRow, IsPutIf}
 use Rattle.paged_steps.specs.Marks.{mark_of, marks_by}
 use Rattle.paged_steps.specs.Pages.{HasFrames}
 use Rattle.paged_steps.proofs.Marked.{all_marked, marks-push}

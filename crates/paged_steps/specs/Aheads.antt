@@ -41,10 +41,6 @@ pub record IsAheadOf (tables : FlatState) (t : FlatThread) (a : Ahead) : Type 0 
   pub fresh : a.steps ≡ 0 → IsFresh a
   pub aligned : a.context.pc % 4 ≡ 0
 
--- the views were copied from this memory
-abbrev pub AreCopies : List ℕ → List View → Type 0
-AreCopies memory vs = (v : View) → Contains vs v → page_at memory v.frame ≡ v.first
-
 -- memory has the view's bytes already, where nothing was stored to it
 abbrev pub IsPutIf : View → List ℕ → Type 0
 IsPutIf v memory = v.present ≡ v.first → page_at memory v.frame ≡ v.present

@@ -5,11 +5,11 @@ use Rattle.flat_state.specs.declared.records.FlatThread.{FlatThread}
 use Rattle.flat_state.specs.declared.records.Signal.{Signal}
 use Rattle.flat_state.specs.State.{is_ended, FlatState}
 use Rattle.flat_state.specs.Signals.{full_among, receivers_of}
-use Rattle.quantum.specs.page_views.specs.Views.{View}
+use Rattle.quantum.specs.page_views.specs.Views.{View, AreCopies}
 use Rattle.quantum.specs.declared.paused.SignalStore.{SignalStore}
 use Rattle.quantum.specs.Ahead.{signal_store, Ahead}
 use Rattle.quantum.specs.LocalRun.{status_by}
-use Rattle.paged_steps.specs.Aheads.{AreCopies, IsAheadOf, IsSentBy}
+use Rattle.paged_steps.specs.Aheads.{IsAheadOf, IsSentBy}
 use Rattle.paged_steps.specs.declared.order.Order.{Order}
 
 -- A thread's next step, as copies of its pages tell, is a store that signals, and a receiver has no room.

@@ -1,13 +1,13 @@
 //! Steps ahead of the machine, on copies of pages that are kept.
 
 ghost use Rattle.std.specs.Prelude.{◌≡◌, ◌<◌, ◌≤◌, List, ℕ, IfOk, IfNone, IfSome, OnOk, OnErr, IsTrue, Some, length};
-ghost use Rattle.quantum.specs.page_views.specs.Views.{can_fill};
+ghost use Rattle.quantum.specs.page_views.specs.Views.{can_fill, AreCopies};
 ghost use Rattle.page_store.specs.Kept.{Means};
 ghost use Rattle.flat_rules.specs.Readings.{OfThread};
 ghost use Rattle.quantum.specs.Ahead.{signal_store};
 ghost use Rattle.byte_ports.specs.Faults.{HasRisen};
 ghost use Rattle.paged_steps.specs.Pages.{HasFrames};
-ghost use Rattle.paged_steps.specs.Aheads.{AreCopies, HasFilled, IsAheadOf, StandsSo};
+ghost use Rattle.paged_steps.specs.Aheads.{HasFilled, IsAheadOf, StandsSo};
 
 use cache_ident::{Ident, ThreadNo};
 use flat_machine::Flat;

@@ -8,7 +8,7 @@ ghost use Rattle.memory_laws.specs.Apart.{over};
 ghost use Rattle.page_store.specs.Kept.{Means};
 ghost use Rattle.byte_ports.specs.Faults.{HasRisen};
 ghost use Rattle.paged_steps.specs.Pages.{HasFrames};
-ghost use Rattle.paged_steps.specs.Aheads.{AreCopies};
+ghost use Rattle.quantum.specs.page_views.specs.Views.{AreCopies};
 ghost use Rattle.paged_steps.specs.Knowing.{Knows};
 ghost use Rattle.paged_steps.specs.Nexts.{GoesSo};
 

@@ -10,13 +10,13 @@ ghost use Rattle.flat_state.specs.State.{with_thread};
 ghost use Rattle.flat_state.specs.Signals.{full_among, receivers_of, sent, HasRoom};
 ghost use Rattle.flat_rules.specs.Readings.{OfThread};
 ghost use Rattle.memory_laws.specs.Apart.{over};
-ghost use Rattle.quantum.specs.page_views.specs.Views.{View};
+ghost use Rattle.quantum.specs.page_views.specs.Views.{View, AreCopies};
 ghost use Rattle.page_store.specs.Kept.{Means};
 ghost use Rattle.quantum.specs.LocalRun.{committed, status_by as status_by_def, touched_views, with_views, HaveOneContents, IsLocalRun};
 ghost use Rattle.ahead_laws.specs.Signalled.{signalled_by};
 ghost use Rattle.byte_ports.specs.Faults.{HasRisen};
 ghost use Rattle.paged_steps.specs.Pages.{HasFrames};
-ghost use Rattle.paged_steps.specs.Aheads.{AreCopies, IsAheadOf, IsOfRow, IsPutIf, IsSentBy};
+ghost use Rattle.paged_steps.specs.Aheads.{IsAheadOf, IsOfRow, IsPutIf, IsSentBy};
 ghost use Rattle.paged_steps.specs.Marks.{marks_by};
 
 use cache_ident::{SpaceNo, ThreadNo, Vpn};

@@ -9,7 +9,8 @@ ghost use Rattle.page_store.specs.Kept.{Means};
 ghost use Rattle.quantum.specs.Ahead.{signal_store};
 ghost use Rattle.byte_ports.specs.Faults.{HasRisen};
 ghost use Rattle.paged_steps.specs.Pages.{HasFrames};
-ghost use Rattle.paged_steps.specs.Aheads.{AreCopies, IsAheadOf, IsSentBy, StandsSo};
+ghost use Rattle.paged_steps.specs.Aheads.{IsAheadOf, IsSentBy, StandsSo};
+ghost use Rattle.quantum.specs.page_views.specs.Views.{AreCopies};
 ghost use Rattle.paged_steps.specs.Nexts.{says_held, DoesSo};
 
 use crate::ahead::{Stands, run_ahead};

@@ -10,3 +10,4 @@ pub mod Going
 pub mod Looking
 pub mod Signalling
 pub mod Copies
+pub mod Touched

@@ -1,6 +1,7 @@
 //! Runs with two frames over a store that counts its writes, and fails at the calls that it is told.
 
-use paged_run::{MemStore, PagedFault, first_machine, run_paged};
+use flat_rules::first_machine;
+use paged_run::{MemStore, PagedFault, run_paged};
 use scenario_reader::read_opening;
 use std::alloc::Global;
 use std::process::Abort;

@@ -7,14 +7,14 @@ use Rattle.phys_groups.specs.Memory.{page_at}
 use Rattle.rv32_exec.specs.declared.contexts.Context.{Context}
 use Rattle.flat_state.specs.declared.records.FlatThread.{FlatThread}
 use Rattle.flat_state.specs.State.{FlatState}
-use Rattle.board_ops.specs.page_views.specs.Views.{View}
+use Rattle.board_ops.specs.page_views.specs.Views.{View, AreCopies}
 use Rattle.cached_machine.specs.quantum.specs.Ahead.{Ahead}
 use Rattle.cached_machine.specs.quantum.specs.LocalRun.{committed, status_by, touched_views, CouldRun}
 use Rattle.cached_machine.specs.shown_state.specs.Shown.{flat_thread}
 use Rattle.cached_machine.specs.Cached.{state_of, Cached}
-use Rattle.board_core.specs.Growth.{AreAsCopied, AreHeld, HoldAlike}
+use Rattle.board_core.specs.Growth.{AreHeld, HoldAlike}
 use Rattle.board_core.specs.Stamps.{AreStamped}
-use Rattle.board_core.proofs.ClearedLaws.{context_aligned}
+use Rattle.cached_machine.specs.quantum.proofs.Touched.{context_aligned}
 use Rattle.board_core.proofs.CommittedLaws.{here_then, taken_over, views_in_memory}
 use Rattle.board_core.proofs.OpeningLaws.{memory_shown}
 use Rattle.board_core.proofs.taking_over.take_over.Goals as goal
@@ -26,13 +26,13 @@ take_views-requires-clause-frames c = λ v within.
     (subst (λ (vs : List View). Contains (touched_views vs) v) c.views.ensures.views within)
 
 -- each touched view's frame holds what was copied of it
-found : (m : Cached) (t : FlatThread) (a : Ahead) → CouldRun (state_of m) t a → AreAsCopied m.memory (touched_views a.views)
+found : (m : Cached) (t : FlatThread) (a : Ahead) → CouldRun (state_of m) t a → AreCopies m.memory (touched_views a.views)
 found m t a could v there = ap (λ (x : List ℕ). page_at x v.frame) (sym (memory_shown m.machine m.memory m.held.contents)) ∙ (could.views v there).holds
 
 pub take_views-requires-clause-found : goal.take_views-requires-clause-found
 take_views-requires-clause-found c =
     let t = flat_thread c.thread_at.result.now in
-    subst (λ (vs : List View). AreAsCopied c.args.machine.now.memory (touched_views vs)) (sym c.views.ensures.views)
+    subst (λ (vs : List View). AreCopies c.args.machine.now.memory (touched_views vs)) (sym c.views.ensures.views)
     (found c.args.machine.now t c.args.quantum.now (c.requires.could t c.thread_at.ensures.thread))
 
 pub take_views-requires-clause-alike : goal.take_views-requires-clause-alike

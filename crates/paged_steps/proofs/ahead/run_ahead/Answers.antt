@@ -1,12 +1,12 @@
 use Rattle.std.proofs.Common.{◌≡◌, ◌-◌, ◌*◌, ◌/◌, ◌<◌, ◌≤◌, ℕ, true, false, None, length, refl, ap, sym, ◌∙◌, subst, inl, arith}
 use Rattle.phys_groups.specs.Translation.{through}
-use Rattle.quantum.specs.page_views.specs.Views.{can_fill, filled, View}
+use Rattle.quantum.specs.page_views.specs.Views.{can_fill, filled, View, AreCopies}
 use Rattle.flat_state.specs.Translation.{reached}
 use Rattle.flat_state.specs.declared.records.FlatThread.{FlatThread}
 use Rattle.quantum.specs.flat_laws.proofs.Members.{contains_nothing}
 use Rattle.quantum.specs.Ahead.{begun, standing, Ahead}
 use Rattle.paged_steps.specs.declared.ahead.Stands.TheVariants.{Faults}
-use Rattle.paged_steps.specs.Aheads.{AreCopies, IsAheadOf, StandsSo}
+use Rattle.paged_steps.specs.Aheads.{IsAheadOf, StandsSo}
 use Rattle.paged_steps.proofs.Aheads.{ahead_more, ahead_then, begun_ahead, copies_more, few_more, nonzero, ran_copies, ran_missed, ran_most, ran_within, reached_row, row_page, smaller, stands_default}
 use Rattle.paged_steps.proofs.Asked.{asked_more, asked_then, has_room, no_view, IsAskedSo}
 use Rattle.paged_steps.proofs.ahead.run_ahead.Goals as goal

@@ -3,7 +3,8 @@ use Rattle.page_store.specs.Kept.{Means}
 use Rattle.quantum.specs.Ahead.{standing}
 use Rattle.flat_rules.specs.Readings.{OfThread}
 use Rattle.paged_steps.specs.Pages.{HasFrames}
-use Rattle.paged_steps.specs.Aheads.{AreCopies, IsAheadOf}
+use Rattle.paged_steps.specs.Aheads.{IsAheadOf}
+use Rattle.quantum.specs.page_views.specs.Views.{AreCopies}
 use Rattle.paged_steps.proofs.Asked.{IsAskedSo}
 use Rattle.paged_steps.proofs.ahead.run_ahead.Given as goal
 

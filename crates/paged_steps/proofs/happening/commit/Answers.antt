@@ -6,9 +6,8 @@ use Rattle.flat_state.specs.declared.records.FlatThread.{FlatThread}
 use Rattle.flat_state.specs.State.{FlatState}
 use Rattle.memory_laws.specs.Apart.{over}
 use Rattle.page_store.specs.Kept.{Means}
-use Rattle.quantum.specs.page_views.specs.Views.{View}
+use Rattle.quantum.specs.page_views.specs.Views.{View, AreCopies}
 use Rattle.quantum.specs.LocalRun.{committed, status_by, touched_views, with_views, HaveOneContents}
-use Rattle.paged_steps.specs.Aheads.{AreCopies}
 use Rattle.paged_steps.specs.Marks.{marks_by}
 use Rattle.paged_steps.proofs.Taking.{committed_so, could_run, over_formed}
 use Rattle.paged_steps.proofs.happening.commit.Goals as goal

@@ -1,8 +1,8 @@
 use Rattle.std.proofs.Common.{◌≡◌, ℕ, List, length, map, take, Contains}
-use Rattle.quantum.specs.page_views.specs.Views.{View}
+use Rattle.quantum.specs.page_views.specs.Views.{View, AreCopies}
 use Rattle.page_store.specs.Kept.{Means}
 use Rattle.quantum.specs.LocalRun.{touched_views, with_views}
-use Rattle.paged_steps.specs.Aheads.{AreCopies, IsPutIf}
+use Rattle.paged_steps.specs.Aheads.{IsPutIf}
 use Rattle.paged_steps.specs.Marks.{marks_by}
 use Rattle.paged_steps.specs.Pages.{HasFrames}
 use Rattle.paged_steps.proofs.happening.take_views.Given as goal

@@ -4,7 +4,7 @@ use Rattle.cache_ident.specs.declared.names.ThreadNo.{ThreadNo}
 use Rattle.paged_steps.specs.memory_laws.specs.Apart.{over}
 use Rattle.page_store.specs.Kept.{Means}
 use Rattle.paged_steps.specs.declared.looking.Next.{Next}
-use Rattle.paged_steps.specs.Aheads.{AreCopies}
+use Rattle.quantum.specs.page_views.specs.Views.{AreCopies}
 use Rattle.paged_steps.proofs.Knowing.{knows_more}
 use Rattle.paged_steps.specs.Nexts.{GoesSo}
 use Rattle.paged_run.proofs.Settling.{none_of, some_of, spent_so, stuck_over, stuck_so, IsFree, NobodyRuns}

@@ -5,24 +5,24 @@ use Rattle.std.specs.Option.{option_map}
 use Rattle.cache_ident.specs.declared.names.ThreadNo.{ThreadNo}
 use Rattle.phys_groups.specs.declared.rows.Row.{Row}
 use Rattle.phys_groups.specs.Translation.{is_row_of}
-use Rattle.flat_state.specs.declared.events.Event.TheVariants.{Step}
-use Rattle.flat_state.specs.declared.records.FlatThread.{FlatThread}
-use Rattle.flat_state.specs.Events.{after_events, applied}
-use Rattle.flat_state.specs.NextSteps.{data_row, faults, fetch_row, stores}
-use Rattle.flat_state.specs.Pages.{is_in, pages_of}
-use Rattle.flat_state.specs.Signals.{next_action}
-use Rattle.flat_state.specs.State.{FlatState}
-use Rattle.flat_state.specs.Step.{after_step, step_of}
-use Rattle.flat_state.specs.WellFormed.{IsWellFormed}
-use Rattle.flat_state.proofs.FormedEvents.{applied_formed}
-use Rattle.flat_state.proofs.FormedParts.{rows_formed, KeepsRow}
-use Rattle.flat_state.proofs.Places.{get_from_Contains, get_from_map, get-set_same, Contains-from_get}
-use Rattle.board_ops.specs.flat_laws.specs.Marks.{is_through, marked_by}
-use Rattle.board_ops.specs.flat_laws.proofs.Members.{find-map, Contains-map}
-use Rattle.board_ops.specs.flat_laws.proofs.RowMarks.{fault_marks_nothing, step_marks}
-use Rattle.board_ops.specs.page_views.specs.Views.{View}
-use Rattle.cached_machine.specs.quantum.specs.Ahead.{Ahead}
-use Rattle.cached_machine.specs.quantum.specs.LocalRun.{committed, state_after, status_by, with_marks_of, with_view_marks, CouldRun, IsLocalRun}
+use Rattle.flat_laws.specs.flat_state.specs.declared.events.Event.TheVariants.{Step}
+use Rattle.flat_laws.specs.flat_state.specs.declared.records.FlatThread.{FlatThread}
+use Rattle.flat_laws.specs.flat_state.specs.Events.{after_events, applied}
+use Rattle.flat_laws.specs.flat_state.specs.NextSteps.{data_row, faults, fetch_row, stores}
+use Rattle.flat_laws.specs.flat_state.specs.Pages.{is_in, pages_of}
+use Rattle.flat_laws.specs.flat_state.specs.Signals.{next_action}
+use Rattle.flat_laws.specs.flat_state.specs.State.{FlatState}
+use Rattle.flat_laws.specs.flat_state.specs.Step.{after_step, step_of}
+use Rattle.flat_laws.specs.flat_state.specs.WellFormed.{IsWellFormed}
+use Rattle.flat_laws.specs.flat_state.proofs.FormedEvents.{applied_formed}
+use Rattle.flat_laws.specs.flat_state.proofs.FormedParts.{rows_formed, KeepsRow}
+use Rattle.flat_laws.specs.flat_state.proofs.Places.{get_from_Contains, get_from_map, get-set_same, Contains-from_get}
+use Rattle.flat_laws.specs.Marks.{is_through, marked_by}
+use Rattle.flat_laws.proofs.Members.{find-map, Contains-map}
+use Rattle.flat_laws.proofs.RowMarks.{fault_marks_nothing, step_marks}
+use Rattle.page_views.specs.Views.{View}
+use Rattle.quantum.specs.Ahead.{Ahead}
+use Rattle.quantum.specs.LocalRun.{committed, state_after, status_by, with_marks_of, with_view_marks, CouldRun, IsLocalRun}
 
 -- what was stored to was used
 pub record AreUsed (rows : List Row) : Type 0 where
