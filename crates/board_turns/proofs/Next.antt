@@ -34,7 +34,7 @@ use Rattle.board_turns.specs.declared.committed.Committed.{Committed}
 use Rattle.board_turns.specs.declared.committed.Committed.TheVariants.{Taken, TooMany, Lost}
 use Rattle.board_turns.specs.declared.found.Found.{Found}
 use Rattle.board_turns.specs.declared.found.Found.TheVariants.{Out, Wanted, Nothing, Over}
-use Rattle.board_turns.specs.Holds.{AreTaken, HasCommitted, HasHealed, HasLeft}
+use Rattle.board_turns.specs.Holds.{found_if, AreTaken, HasCommitted, HasHealed, HasLeft}
 use Rattle.board_turns.specs.Looks.{settled_on, HasLooked, StandsAt}
 use Rattle.board_turns.specs.Paces.{must_bring, paced, wants_first, Beat}
 use Rattle.board_turns.specs.Turning.{turns_left, HasGrown, IsAtRest, IsAtRestBut, IsLeftBy, IsNext, IsOnQuantum, IsToStep, IsTriedBy, IsUnmarked}
@@ -94,16 +94,16 @@ module _ (a b : Recorded) (p r : ℕ) (known : Known) (beat : Beat) (ticket : Ti
         less = less_left a b p r grown on.owned.sound (omega (arith, steps, took, some));
       }
 
-  pub tried : (look : Option Bool) (committed : Committed) → IfSome look (λ want_first. (0 < q.steps) × (want_first ≡ wants_first (paced true beat))) → HasCommitted ticket q look a b committed → IsTriedBy a b known beat ticket committed
-  tried None (Taken None) order taken = rests a b p r grown known on.owned (unmarked_between taken.between taken)
-  tried None (Taken (Some found)) order taken = absurd taken.looked
-  tried (Some want_first) (Taken None) order taken = absurd taken.looked
-  tried (Some want_first) (Taken (Some found)) order taken = behind want_first found order.0 order.1 taken
-  tried look (TooMany left_steps) order many = (
+  pub tried : (look : Option Bool) (next : Found) (committed : Committed) → IfSome look (λ want_first. (0 < q.steps) × (want_first ≡ wants_first (paced true beat))) → HasCommitted ticket q look a b next committed → IsTriedBy a b known beat ticket next committed
+  tried None next (Taken false) order taken = rests a b p r grown known on.owned (unmarked_between taken.between taken)
+  tried None next (Taken true) order taken = absurd taken.looked
+  tried (Some want_first) next (Taken false) order taken = absurd taken.looked
+  tried (Some want_first) next (Taken true) order taken = behind want_first next order.0 order.1 taken
+  tried look next (TooMany left_steps) order many = (
     record { owned = owned_still a b p r grown known on.owned; out = room_out a b ticket many.only on.out },
     not_more a b p r grown,
   )
-  tried look Lost order lost =
+  tried look next Lost order lost =
       rests a b p r grown known on.owned (left_unmarked lost.between b ticket (room_out a lost.between ticket lost.only on.out) lost.left)
 
 -- what a try left behind no more than there was is left by the whole

@@ -36,6 +36,6 @@ few_steps limit before after answer run few =
     subst (λ (n : ℕ). n ≤ limit) (sym (ap (λ (a : Ahead). a.steps) run.took)) (within limit run.count before few run.went_on)
 
 pub fewer_than : (n m : ℕ) (committed : Committed) → n ≤ m → AreFewer n committed → AreFewer m committed
-fewer_than n m (Taken next) few fewer = tt
+fewer_than n m (Taken looked) few fewer = tt
 fewer_than n m (TooMany left) few fewer = omega (arith, few, fewer)
 fewer_than n m Lost few fewer = tt

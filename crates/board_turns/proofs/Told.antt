@@ -24,7 +24,7 @@ use Rattle.board_turns.specs.declared.committed.Committed.{Committed}
 use Rattle.board_turns.specs.declared.committed.Committed.TheVariants.{Taken, TooMany, Lost}
 use Rattle.board_turns.specs.declared.found.Found.{Found}
 use Rattle.board_turns.specs.declared.found.Found.TheVariants.{Out, Wanted, Nothing, Over}
-use Rattle.board_turns.specs.Holds.{HasCommitted, HasHealed}
+use Rattle.board_turns.specs.Holds.{found_if, HasCommitted, HasHealed}
 use Rattle.board_turns.specs.Looks.{HasLooked}
 use Rattle.board_turns.specs.Paces.{must_bring, paced, wants_first, Beat}
 use Rattle.board_turns.specs.Turning.{turns_left, HasGrown, IsAtRest, IsAtRestBut, IsLeftBy, IsNext, IsOnQuantum, IsToStep, IsTriedBy}
@@ -105,8 +105,8 @@ heal_alone a b known rests = told_once a b (λ x y. (k : Known) → IsAtRestBut 
 abbrev pub StaysOn : Ticket → Change
 StaysOn ticket x y = (known : Known) → IsOnQuantum x known ticket → IsOnQuantum y known ticket × (left y ≤ left x)
 
-abbrev pub Tries : Beat → Ticket → Committed → Change
-Tries beat ticket committed x y = (known : Known) → IsOnQuantum x known ticket → IsTriedBy x y known beat ticket committed
+abbrev pub Tries : Beat → Ticket → Found → Committed → Change
+Tries beat ticket next committed x y = (known : Known) → IsOnQuantum x known ticket → IsTriedBy x y known beat ticket next committed
 
 abbrev pub Leaves : Beat → Ticket → Option Found → Change
 Leaves beat ticket next x y = (known : Known) → IsOnQuantum x known ticket → IsLeftBy x y known beat next
@@ -117,28 +117,28 @@ no_more n = omega arith
 no_more_then : (k l m : ℕ) → l ≤ k → m ≤ l → m ≤ k
 no_more_then k l m first second = omega (arith, first, second)
 
-pub told_tried : (a m b : Option Recorded) (p r : ℕ) (beat : Beat) (ticket : Ticket) (q : Ahead) (look : Option Bool) (committed : Committed) → m ≡ a → OnTold a b (λ x y. HasGrown x p y r)
-    → IfSome look (λ want_first. (0 < q.steps) × (want_first ≡ wants_first (paced true beat))) → OnTold m b (λ x y. HasCommitted ticket q look x y committed) → OnTold a b (Tries beat ticket committed)
-told_tried a m b p r beat ticket q look committed same grown order made =
-    told_both a b (λ x y. HasGrown x p y r) (λ x y. HasCommitted ticket q look x y committed) (Tries beat ticket committed)
-    (λ x y grew commits known on. tried x y p r known beat ticket q on grew look committed order commits) grown
-    (subst (λ (o : Option Recorded). OnTold o b (λ x y. HasCommitted ticket q look x y committed)) same made)
+pub told_tried : (a m b : Option Recorded) (p r : ℕ) (beat : Beat) (ticket : Ticket) (q : Ahead) (look : Option Bool) (next : Found) (committed : Committed) → m ≡ a → OnTold a b (λ x y. HasGrown x p y r)
+    → IfSome look (λ want_first. (0 < q.steps) × (want_first ≡ wants_first (paced true beat))) → OnTold m b (λ x y. HasCommitted ticket q look x y next committed) → OnTold a b (Tries beat ticket next committed)
+told_tried a m b p r beat ticket q look next committed same grown order made =
+    told_both a b (λ x y. HasGrown x p y r) (λ x y. HasCommitted ticket q look x y next committed) (Tries beat ticket next committed)
+    (λ x y grew commits known on. tried x y p r known beat ticket q on grew look next committed order commits) grown
+    (subst (λ (o : Option Recorded). OnTold o b (λ x y. HasCommitted ticket q look x y next committed)) same made)
 
 module _ (beat : Beat) (ticket : Ticket) where
   pub stays_on : (a : Option Recorded) → OnTold a a (StaysOn ticket)
   stays_on a = told_here a (StaysOn ticket) (λ x known on. (on, no_more (left x)))
 
   module _ (a m b : Option Recorded) (before : OnTold a m (StaysOn ticket)) where
-    pub stays_longer : (left_steps : ℕ) → OnTold m b (Tries beat ticket (TooMany left_steps)) → OnTold a b (StaysOn ticket)
-    stays_longer left_steps tries = told_twice a m b (StaysOn ticket) (Tries beat ticket (TooMany left_steps)) (StaysOn ticket)
+    pub stays_longer : (next : Found) (left_steps : ℕ) → OnTold m b (Tries beat ticket next (TooMany left_steps)) → OnTold a b (StaysOn ticket)
+    stays_longer next left_steps tries = told_twice a m b (StaysOn ticket) (Tries beat ticket next (TooMany left_steps)) (StaysOn ticket)
         (λ x y z stays many known on. let one = stays known on in let two = many known one.0 in (two.0, no_more_then (left x) (left y) (left z) one.1 two.1)) before tries
 
-    pub leaves_taken : (next : Option Found) → OnTold m b (Tries beat ticket (Taken next)) → OnTold a b (Leaves beat ticket next)
-    leaves_taken next tries = told_twice a m b (StaysOn ticket) (Tries beat ticket (Taken next)) (Leaves beat ticket next)
-        (λ x y z stays takes known on. let one = stays known on in left_sooner x y z known beat next one.1 (takes known one.0)) before tries
+    pub leaves_taken : (next : Found) (looked : Bool) → OnTold m b (Tries beat ticket next (Taken looked)) → OnTold a b (Leaves beat ticket (found_if looked next))
+    leaves_taken next looked tries = told_twice a m b (StaysOn ticket) (Tries beat ticket next (Taken looked)) (Leaves beat ticket (found_if looked next))
+        (λ x y z stays takes known on. let one = stays known on in left_sooner x y z known beat (found_if looked next) one.1 (takes known one.0)) before tries
 
-    pub leaves_lost : OnTold m b (Tries beat ticket Lost) → OnTold a b (Leaves beat ticket None)
-    leaves_lost tries = told_twice a m b (StaysOn ticket) (Tries beat ticket Lost) (Leaves beat ticket None)
+    pub leaves_lost : (next : Found) → OnTold m b (Tries beat ticket next Lost) → OnTold a b (Leaves beat ticket None)
+    leaves_lost next tries = told_twice a m b (StaysOn ticket) (Tries beat ticket next Lost) (Leaves beat ticket None)
         (λ x y z stays loses known on. loses known (stays known on).0) before tries
 
 -- ---- a thread that ran

@@ -1,5 +1,5 @@
 -- What a processor leaves of a board that it held.
-use Rattle.std.specs.Prelude.{◌≡◌, ℕ, ◌<◌, Bool, Option, Some, None, Result, IfErr, OnOk}
+use Rattle.std.specs.Prelude.{◌≡◌, ℕ, ◌<◌, Bool, true, false, Option, Some, None, Result, IfErr, OnOk}
 use Rattle.std.specs.Result.{result_err}
 use Rattle.cache_ident.specs.declared.names.ThreadNo.{ThreadNo}
 use Rattle.cache_ident.specs.declared.names.Vpn.{Vpn}
@@ -29,6 +29,11 @@ pub record HasLeft (ticket : Ticket) (old new : Recorded) : Type 0 where
 
 -- ---- commits
 
+-- whom a look found that wrote it there, where one was made
+abbrev pub found_if : Bool → Found → Option Found
+found_if true next = Some next
+found_if false next = None
+
 -- whom a look in this order found, where one was asked for
 abbrev pub HasLookedIf : Option Bool → Recorded → Recorded → Option Found → Type 0
 HasLookedIf None old new None = new ≡ old
@@ -56,27 +61,27 @@ pub record AreLost (ticket : Ticket) (a : Ahead) (old new : Recorded) : Type 0 w
   pub only : IsRoomMade old between
   pub left : HasLeft ticket between new
 
--- what came of a commit, with a look behind it in this order, if any
-abbrev pub HasCommitted : Ticket → Ahead → Option Bool → Recorded → Recorded → Committed → Type 0
-HasCommitted ticket a look old new (Taken next) = AreTaken ticket a look old new next
-HasCommitted ticket a look old new (TooMany left) = AreTooMany ticket a left old new
-HasCommitted ticket a look old new Lost = AreLost ticket a old new
+-- what came of a commit, with a look behind it in this order, if any: whom that found it wrote there
+abbrev pub HasCommitted : Ticket → Ahead → Option Bool → Recorded → Recorded → Found → Committed → Type 0
+HasCommitted ticket a look old new next (Taken looked) = AreTaken ticket a look old new (found_if looked next)
+HasCommitted ticket a look old new next (TooMany left) = AreTooMany ticket a left old new
+HasCommitted ticket a look old new next Lost = AreLost ticket a old new
 
 -- whom a commit found, if anybody
-abbrev pub found_by : Committed → Option Found
-found_by (Taken next) = next
-found_by (TooMany left) = None
-found_by Lost = None
+abbrev pub found_by : Found → Committed → Option Found
+found_by next (Taken looked) = found_if looked next
+found_by next (TooMany left) = None
+found_by next Lost = None
 
 -- where the steps are too many, fewer are left
 abbrev pub AreFewer : ℕ → Committed → Type 0
 AreFewer steps (TooMany left) = left < steps
-AreFewer steps (Taken next) = Unit {0}
+AreFewer steps (Taken looked) = Unit {0}
 AreFewer steps Lost = Unit {0}
 
 -- how many of so many steps happened
 abbrev pub taken_by : Committed → ℕ → ℕ
-taken_by (Taken next) steps = steps
+taken_by (Taken looked) steps = steps
 taken_by (TooMany left) steps = 0
 taken_by Lost steps = 0
 

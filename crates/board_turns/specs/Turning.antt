@@ -19,6 +19,7 @@ use Rattle.cache_board.specs.board_threads.specs.declared.tickets.Ticket.{Ticket
 use Rattle.board_turns.specs.declared.committed.Committed.{Committed}
 use Rattle.board_turns.specs.declared.committed.Committed.TheVariants.{Taken, TooMany, Lost}
 use Rattle.board_turns.specs.declared.found.Found.{Found}
+use Rattle.board_turns.specs.Holds.{found_if}
 use Rattle.board_turns.specs.Looks.{HasLooked}
 use Rattle.board_turns.specs.Paces.{paced, wants_first, Beat}
 
@@ -80,11 +81,11 @@ abbrev pub IsLeftBy : Recorded → Recorded → Known → Beat → Option Found 
 IsLeftBy old new known beat None = IsAtRest new known
 IsLeftBy old new known beat (Some found) = IsFoundBehind old new known beat found
 
--- what came of steps on a processor
-abbrev pub IsTriedBy : Recorded → Recorded → Known → Beat → Ticket → Committed → Type 0
-IsTriedBy old new known beat ticket (Taken next) = IsLeftBy old new known beat next
-IsTriedBy old new known beat ticket (TooMany left_steps) = IsOnQuantum new known ticket × (left new ≤ left old)
-IsTriedBy old new known beat ticket Lost = IsAtRest new known
+-- what came of steps on a processor, where a look behind them wrote there whom it found
+abbrev pub IsTriedBy : Recorded → Recorded → Known → Beat → Ticket → Found → Committed → Type 0
+IsTriedBy old new known beat ticket next (Taken looked) = IsLeftBy old new known beat (found_if looked next)
+IsTriedBy old new known beat ticket next (TooMany left_steps) = IsOnQuantum new known ticket × (left new ≤ left old)
+IsTriedBy old new known beat ticket next Lost = IsAtRest new known
 
 -- ---- what a turn can bring
 

@@ -23,7 +23,7 @@ fn brought_by(committed: Committed, steps: u32, brought: u64) -> u64
     ensures most { result ≤ brought + taken_by committed steps }
 {
     match committed {
-        Committed::Taken(_) if steps > 0 => brought.saturating_add(1),
+        Committed::Taken { .. } if steps > 0 => brought.saturating_add(1),
         _ => brought,
     }
 }
@@ -44,7 +44,9 @@ impl Processor for Alone<'_> {
     fn at(&self, _point: Point) {}
 
     fn look(&mut self, want_first: bool) -> Found {
-        look(self.board, want_first)
+        let mut found = Found::Over;
+        look(self.board, want_first, &mut found);
+        found
     }
 
     fn page(&mut self, ticket: &Ticket, vpn: Vpn, quantum: &mut Quantum) -> Result<(), Refused> {
@@ -60,9 +62,10 @@ impl Processor for Alone<'_> {
         ticket: &Ticket,
         quantum: &mut Quantum,
         look: Option<bool>,
+        next: &mut Found,
     ) -> Result<Committed, NoMemory> {
         let steps = quantum.steps();
-        let committed = commit(self.board, ticket, quantum, look)?;
+        let committed = commit(self.board, ticket, quantum, look, next)?;
         self.brought = brought_by(committed, steps, self.brought);
         Ok(committed)
     }

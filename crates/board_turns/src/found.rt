@@ -4,6 +4,9 @@ use cache_board::Ticket;
 use cache_ident::ThreadNo;
 
 /// Whom a look at the board finds.
+///
+/// It is large, since a ticket has a thread's context. So what may look for the next thread behind something else is given the place
+/// that whom it finds is written to, and answers whether it looked.
 #[derive(Clone, Copy)]
 pub enum Found {
     /// This thread came to the processor, whose quantum begins with its context.

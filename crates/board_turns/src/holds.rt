@@ -6,7 +6,8 @@ ghost use Rattle.cache_board.specs.board_commits.specs.Tickets.{AreAllAsOf, AreO
 ghost use Rattle.cache_board.specs.board_core.specs.Core.{IsSound};
 ghost use Rattle.cache_board.specs.board_core.specs.Going.{IsOneEvent};
 ghost use Rattle.cache_board.specs.board_threads.specs.Tests.{IsWanted};
-ghost use Rattle.board_turns.specs.Holds.{found_by, taken_by, AreFewer, HasCommitted, HasHealed, HasLookedIf};
+ghost use Rattle.board_turns.specs.Holds.{found_by, found_if, taken_by, AreFewer, HasCommitted, HasHealed, HasLookedIf};
+ghost use Rattle.board_turns.specs.declared.found.Found.{Found};
 ghost use Rattle.board_turns.specs.Looks.{Allows, HasLooked, IsFound, IsFoundWanted, IsSoAlone};
 
 use crate::committed::Committed;
@@ -34,58 +35,62 @@ fn find_wanted(board: &Board) -> Option<Found>
     })
 }
 
-/// Finds a thread that can come to the processor, or else one that waits for its owners, or in the other order.
+/// Finds a thread that can come to the processor, or else one that waits for its owners, or in the other order, and writes whom to `next`.
 #[inline(always)]
-pub fn find(board: &mut Board, cpu: u32, want_first: bool) -> Found
+pub fn find(board: &mut Board, cpu: u32, want_first: bool, next: &mut Found)
     requires processor { cpu < 8 }
-    ensures found { IsFound cpu want_first board.old board.new result }
+    ensures found { IsFound cpu want_first board.old board.new next.new }
     ensures event { IsOneEvent cpu board.old board.new }
 {
     board.holds();
     if want_first {
-        return match find_wanted(board) {
-            Some(found) => found,
+        match find_wanted(board) {
+            Some(found) => *next = found,
             None => match board.checkout(cpu) {
-                Some(ticket) => Found::Out(ticket),
-                None => Found::Nothing,
+                Some(ticket) => *next = Found::Out(ticket),
+                None => *next = Found::Nothing,
             },
-        };
+        }
+        return;
     }
     match board.checkout(cpu) {
-        Some(ticket) => Found::Out(ticket),
+        Some(ticket) => *next = Found::Out(ticket),
         None => match find_wanted(board) {
-            Some(found) => found,
-            None => Found::Nothing,
+            Some(found) => *next = found,
+            None => *next = Found::Nothing,
         },
     }
 }
 
-/// Looks for the next thread, unless the run is over.
+/// Looks for the next thread, unless the run is over, and writes whom it finds to `next`.
 #[tactic(auto, using(crate::proofs::Looking::event_nothing, crate::proofs::Looking::looked_running, crate::proofs::Looking::so_alone))]
 #[inline(always)]
-pub(crate) fn look(board: &mut Board, want_first: bool) -> Found
-    ensures looked { HasLooked want_first board.old board.new result }
-    ensures so { IsSoAlone board.new result }
+pub(crate) fn look(board: &mut Board, want_first: bool, next: &mut Found)
+    ensures looked { HasLooked want_first board.old board.new next.new }
+    ensures so { IsSoAlone board.new next.new }
     ensures event { IsOneEvent 0 board.old board.new }
 {
     board.holds();
     match board.settled() {
-        Settled::Running => find(board, 0, want_first),
-        _ => Found::Over,
+        Settled::Running => find(board, 0, want_first, next),
+        _ => *next = Found::Over,
     }
 }
 
-// A look behind something else, if an order is given.
+// A look behind something else, if an order is given. Answers whether one is.
 #[tactic(auto, using(crate::proofs::Looking::event_nothing))]
-fn look_if(board: &mut Board, want_first: Option<bool>) -> Option<Found>
-    ensures looked { HasLookedIf want_first board.old board.new result }
-    ensures so { IfSome result (IsSoAlone board.new) }
+fn look_if(board: &mut Board, want_first: Option<bool>, next: &mut Found) -> bool
+    ensures looked { HasLookedIf want_first board.old board.new (found_if result next.new) }
+    ensures so { IfSome (found_if result next.new) (IsSoAlone board.new) }
     ensures event { IsOneEvent 0 board.old board.new }
 {
     board.holds();
     match want_first {
-        Some(want_first) => Some(look(board, want_first)),
-        None => None,
+        Some(want_first) => {
+            look(board, want_first, next);
+            true
+        }
+        None => false,
     }
 }
 
@@ -97,7 +102,7 @@ pub fn commit_steps(
     quantum: &mut Quantum,
 ) -> Result<Committed, NoMemory>
     requires views { AreOfTicket board.old.journal.entries ticket.now.thread quantum.old }
-    ensures committed { IfOk result (HasCommitted ticket.now quantum.old None board.old board.new) }
+    ensures committed { (next : Found) → IfOk result (HasCommitted ticket.now quantum.old None board.old board.new next) }
     ensures fewer { IfOk result (AreFewer quantum.old.steps) }
     ensures taken { IfOk result (λ committed. board.old.steps + taken_by committed quantum.old.steps ≤ board.new.steps) }
     ensures event { IsOneEvent ticket.now.cpu board.old board.new }
@@ -110,7 +115,7 @@ pub fn commit_steps(
             if steps > 0 {
                 quantum.happened(board.journal().len());
             }
-            Ok(Committed::Taken(None))
+            Ok(Committed::Taken { looked: false })
         }
         Err(Refused::Over { left }) if left > 0 => Ok(Committed::TooMany(left as u32)),
         Err(refused) => {
@@ -123,25 +128,28 @@ pub fn commit_steps(
     }
 }
 
-/// The same, and then looks, if an order is given.
+/// The same, and then looks, if an order is given. Whom the look found is written to `next`.
 #[inline(always)]
 pub(crate) fn commit(
     board: &mut Board,
     ticket: &Ticket,
     quantum: &mut Quantum,
     want_first: Option<bool>,
+    next: &mut Found,
 ) -> Result<Committed, NoMemory>
     requires own { ticket.now.cpu ≡ 0 }
     requires views { AreOfTicket board.old.journal.entries ticket.now.thread quantum.old }
-    ensures committed { IfOk result (HasCommitted ticket.now quantum.old want_first board.old board.new) }
-    ensures so { IfOk result (λ committed. IfSome (found_by committed) (IsSoAlone board.new)) }
+    ensures committed { IfOk result (HasCommitted ticket.now quantum.old want_first board.old board.new next.new) }
+    ensures so { IfOk result (λ committed. IfSome (found_by next.new committed) (IsSoAlone board.new)) }
     ensures fewer { IfOk result (AreFewer quantum.old.steps) }
     ensures taken { IfOk result (λ committed. board.old.steps + taken_by committed quantum.old.steps ≤ board.new.steps) }
     ensures event { IsOneEvent 0 board.old board.new }
     ensures kept { AreAllAsOf board.new.journal.entries quantum.new }
 {
     match commit_steps(board, ticket, quantum)? {
-        Committed::Taken(_) => Ok(Committed::Taken(look_if(board, want_first))),
+        Committed::Taken { .. } => Ok(Committed::Taken {
+            looked: look_if(board, want_first, next),
+        }),
         Committed::TooMany(left) => Ok(Committed::TooMany(left)),
         Committed::Lost => Ok(Committed::Lost),
     }

@@ -71,17 +71,19 @@ pub trait Processor: Port {
         ensures continued { continues self.old self.new };
 
     /// Makes the steps of the quantum happen, and gives the thread back, but where they are too many; and then looks for the next
-    /// thread in the given order, if one is given. A quantum whose steps happened keeps what they left of the pages.
+    /// thread in the given order, if one is given. Whom it finds then is written to `next`. A quantum whose steps happened keeps what
+    /// they left of the pages.
     fn commit(
         &mut self,
         ticket: &Ticket,
         quantum: &mut Quantum,
         look: Option<bool>,
+        next: &mut Found,
     ) -> Result<Committed, NoMemory>
         requires own { is_so self.old (Found.Out ticket.now) }
         requires views { AreOfTicket (seen self.old) ticket.now.thread quantum.old }
-        ensures told { OnTold (Self.board self.old) (Self.board self.new) (λ old new. IfOk result (HasCommitted ticket.now quantum.old look old new)) }
-        ensures so { IfOk result (λ committed. IfSome (found_by committed) (is_so self.new)) }
+        ensures told { OnTold (Self.board self.old) (Self.board self.new) (λ old new. IfOk result (HasCommitted ticket.now quantum.old look old new next.new)) }
+        ensures so { IfOk result (λ committed. IfSome (found_by next.new committed) (is_so self.new)) }
         ensures fewer { IfOk result (AreFewer quantum.old.steps) }
         ensures kept { AreAllAsOf (seen self.new) quantum.new }
         ensures continued { continues self.old self.new };

@@ -5,7 +5,7 @@ ghost use Rattle.cache_board.specs.board_commits.specs.Tickets.{AreAllAsOf, AreO
 ghost use Rattle.app_kernel.specs.owner_ports.specs.Boards.{OnTold};
 ghost use Rattle.app_kernel.specs.owners.specs.Known.{Known};
 ghost use Rattle.board_turns.specs.declared.found.Found.TheVariants as found_so;
-ghost use Rattle.board_turns.specs.Holds.{found_by, AreFewer};
+ghost use Rattle.board_turns.specs.Holds.{found_by, found_if, AreFewer};
 ghost use Rattle.board_turns.specs.Paces.{beat_of, paced, wants_first};
 ghost use Rattle.board_turns.specs.Turning.{IsLeftBy, IsOnQuantum, IsTriedBy};
 
@@ -32,11 +32,11 @@ pub(crate) enum Ask {
     Healing,
 }
 
-/// What came of a quantum: what its thread asks for, and whom a look in the hold of its commit found.
+/// What came of a quantum: what its thread asks for, and whether the next one was looked for in the hold of its commit.
 #[derive(Clone, Copy)]
 pub(crate) struct Ran {
     pub ask: Ask,
-    pub next: Option<Found>,
+    pub looked: bool,
 }
 
 // What came of steps: what their thread asks for, and whether they happened.
@@ -107,20 +107,22 @@ fn look_behind(ask: Ask, steps: u32, pace: Pace) -> Option<bool>
     }
 }
 
-// Runs a quantum of at most so many steps, from the ticket's context on, and commits it.
+// Runs a quantum of at most so many steps, from the ticket's context on, and commits it. Whom a look in the hold of the commit found is
+// written to `next`.
 fn try_steps<P: Processor>(
     port: &mut P,
     ticket: &Ticket,
     quantum: &mut Quantum,
     pace: Pace,
     most: u32,
+    next: &mut Found,
 ) -> Result<Tried, NoMemory>
     requires own { P.is_so port.old (found_so.Out ticket.now) }
     requires kept { AreAllAsOf (P.seen port.old) quantum.old }
     ensures kept { AreAllAsOf (P.seen port.new) quantum.new }
-    ensures so { IfOk result (λ tried. IfSome (found_by tried.committed) (P.is_so port.new)) }
+    ensures so { IfOk result (λ tried. IfSome (found_by next.new tried.committed) (P.is_so port.new)) }
     ensures fewer { IfOk result (λ tried. AreFewer most tried.committed) }
-    ensures told { OnTold (P.board port.old) (P.board port.new) (λ old new. (known : Known) → IsOnQuantum old known ticket.now → IfOk result (λ tried. IsTriedBy old new known (beat_of pace) ticket.now tried.committed)) }
+    ensures told { OnTold (P.board port.old) (P.board port.new) (λ old new. (known : Known) → IsOnQuantum old known ticket.now → IfOk result (λ tried. IsTriedBy old new known (beat_of pace) ticket.now next.new tried.committed)) }
     ensures continued { P.continues port.old port.new }
 {
     quantum.begin(ticket.context, ticket.no);
@@ -129,41 +131,43 @@ fn try_steps<P: Processor>(
     let ask = ask_of(port, ticket, quantum, paused);
     let look = look_behind(ask, quantum.steps(), pace);
     port.at(Point::BeforeCommit);
-    let committed = port.commit(ticket, quantum, look)?;
+    let committed = port.commit(ticket, quantum, look, next)?;
     Ok(Tried { ask, committed })
 }
 
 /// Runs a quantum of at most so many steps, from the ticket's context on, and commits it; and where fewer steps are left, one of as
-/// many. Nothing else that refuses it is tried again. Answers what the thread asks for, or whom a look in the same hold found.
+/// many. Nothing else that refuses it is tried again. Answers what the thread asks for, and whether the next one was looked for in the
+/// same hold: whom that look found is written to `next`.
 pub(crate) fn run_quantum<P: Processor>(
     port: &mut P,
     ticket: &Ticket,
     quantum: &mut Quantum,
     pace: Pace,
     length: u32,
+    next: &mut Found,
 ) -> Result<Ran, NoMemory>
     requires own { P.is_so port.old (found_so.Out ticket.now) }
     requires kept { AreAllAsOf (P.seen port.old) quantum.old }
     ensures kept { AreAllAsOf (P.seen port.new) quantum.new }
-    ensures so { IfOk result (λ ran. IfSome ran.next (P.is_so port.new)) }
-    ensures told { OnTold (P.board port.old) (P.board port.new) (λ old new. (known : Known) → IsOnQuantum old known ticket.now → IfOk result (λ ran. IsLeftBy old new known (beat_of pace) ran.next)) }
+    ensures so { IfOk result (λ ran. IfSome (found_if ran.looked next.new) (P.is_so port.new)) }
+    ensures told { OnTold (P.board port.old) (P.board port.new) (λ old new. (known : Known) → IsOnQuantum old known ticket.now → IfOk result (λ ran. IsLeftBy old new known (beat_of pace) (found_if ran.looked next.new))) }
     ensures continued { P.continues port.old port.new }
 {
     let mut most = length;
     loop {
-        let tried = try_steps(port, ticket, quantum, pace, most)?;
+        let tried = try_steps(port, ticket, quantum, pace, most, next)?;
         match tried.committed {
-            Committed::Taken(next) => {
+            Committed::Taken { looked } => {
                 return Ok(Ran {
                     ask: tried.ask,
-                    next,
+                    looked,
                 });
             }
             Committed::TooMany(left) => most = left,
             Committed::Lost => {
                 return Ok(Ran {
                     ask: Ask::Nothing,
-                    next: None,
+                    looked: false,
                 });
             }
         }

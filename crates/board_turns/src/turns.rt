@@ -11,6 +11,7 @@ ghost use Rattle.app_kernel.specs.owner_ports.specs.Boards.{OnTold};
 ghost use Rattle.app_kernel.specs.owners.specs.Known.{Known};
 ghost use Rattle.app_kernel.specs.reach_laws.specs.Reaching.{IsOwned};
 ghost use Rattle.board_turns.specs.declared.found.Found.TheVariants as found_so;
+ghost use Rattle.board_turns.specs.Holds.{found_if};
 ghost use Rattle.board_turns.specs.Paces.{beat_of, must_bring, Beat};
 ghost use Rattle.board_turns.specs.Turning.{turns_left, IsAtRest, IsAtRestBut, IsLeftBy, IsNext, IsOnQuantum, IsToStep};
 
@@ -106,7 +107,8 @@ fn grant<P: Processor>(
     }
 }
 
-// Runs a thread that came to the processor, and does what it asks for then. What was found in the same hold is handed on.
+// Runs a thread that came to the processor, and does what it asks for then. Answers whether the next one was looked for in the same hold:
+// whom that look found is written to `next`.
 fn run_thread<P: Processor>(
     port: &mut P,
     owners: &mut Owners,
@@ -114,50 +116,51 @@ fn run_thread<P: Processor>(
     pace: Pace,
     length: u32,
     ticket: &Ticket,
-) -> Result<Option<Found>, NoMemory>
+    next: &mut Found,
+) -> Result<bool, NoMemory>
     requires own { P.is_so port.old (found_so.Out ticket.now) }
     requires kept { AreAllAsOf (P.seen port.old) quantum.old }
     ensures kept { AreAllAsOf (P.seen port.new) quantum.new }
-    ensures so { IfOk result (λ next. IfSome next (P.is_so port.new)) }
+    ensures so { IfOk result (λ looked. IfSome (found_if looked next.new) (P.is_so port.new)) }
     ensures owned { OnTold (P.board port.old) (P.board port.new) (λ old new. IsOwned old owners.old → IsOwned new owners.new) }
-    ensures told { OnTold (P.board port.old) (P.board port.new) (λ old new. IsOnQuantum old owners.old ticket.now → IfOk result (IsLeftBy old new owners.new (beat_of pace))) }
+    ensures told { OnTold (P.board port.old) (P.board port.new) (λ old new. IsOnQuantum old owners.old ticket.now → IfOk result (λ looked. IsLeftBy old new owners.new (beat_of pace) (found_if looked next.new))) }
     ensures continued { P.continues port.old port.new }
 {
-    let ran = run_quantum(port, ticket, quantum, pace, length)?;
-    match ran.next {
-        Some(found) => Ok(Some(found)),
-        None => {
-            grant(port, owners, ticket.no, ran.ask)?;
-            Ok(None)
-        }
+    let ran = run_quantum(port, ticket, quantum, pace, length, next)?;
+    if ran.looked {
+        Ok(true)
+    } else {
+        grant(port, owners, ticket.no, ran.ask)?;
+        Ok(false)
     }
 }
 
-// What a turn does for whom it found.
+// What a turn does for whom it found. Answers whether the next one was looked for: whom that look found is written in place of the other.
 fn act<P: Processor>(
     port: &mut P,
     owners: &mut Owners,
     quantum: &mut Quantum,
     pace: Pace,
     length: u32,
-    found: Found,
-) -> Result<Option<Found>, NoMemory>
-    requires so { P.is_so port.old found }
+    found: &mut Found,
+) -> Result<bool, NoMemory>
+    requires so { P.is_so port.old found.old }
     requires kept { AreAllAsOf (P.seen port.old) quantum.old }
     ensures kept { AreAllAsOf (P.seen port.new) quantum.new }
-    ensures so { IfOk result (λ next. IfSome next (P.is_so port.new)) }
+    ensures so { IfOk result (λ looked. IfSome (found_if looked found.new) (P.is_so port.new)) }
     ensures owned { OnTold (P.board port.old) (P.board port.new) (λ old new. IsOwned old owners.old → IsOwned new owners.new) }
-    ensures told { OnTold (P.board port.old) (P.board port.new) (λ old new. IsNext old owners.old (beat_of pace) found → IfOk result (IsLeftBy old new owners.new (beat_of pace))) }
+    ensures told { OnTold (P.board port.old) (P.board port.new) (λ old new. IsNext old owners.old (beat_of pace) found.old → IfOk result (λ looked. IsLeftBy old new owners.new (beat_of pace) (found_if looked found.new))) }
     ensures continued { P.continues port.old port.new }
 {
-    match found {
-        Found::Out(ticket) => run_thread(port, owners, quantum, pace, length, &ticket),
+    match *found {
+        // The ticket is copied, since its place is written to while it is used.
+        Found::Out(ticket) => run_thread(port, owners, quantum, pace, length, &ticket, found),
         Found::Wanted { no, trapped, pc } => {
             ask_owners(port, owners, no, notice_of(trapped, pc))?;
-            Ok(None)
+            Ok(false)
         }
-        Found::Nothing => Ok(None),
-        Found::Over => Ok(None),
+        Found::Nothing => Ok(false),
+        Found::Over => Ok(false),
     }
 }
 
@@ -182,32 +185,34 @@ fn bring<P: Processor>(port: &mut P, owners: &mut Owners, found: Found) -> Resul
     }
 }
 
-// What a turn does, before whom it is for next is looked for, if that isn't found by then.
+// What a turn does, before whom it is for next is looked for, if nobody was by then. Answers whether somebody was: whom that look found
+// is written in place of the other.
 fn take<P: Processor>(
     port: &mut P,
     owners: &mut Owners,
     quantum: &mut Quantum,
     pace: Pace,
     length: u32,
-    found: Found,
-) -> Result<Option<Found>, NoMemory>
-    requires so { P.is_so port.old found }
+    found: &mut Found,
+) -> Result<bool, NoMemory>
+    requires so { P.is_so port.old found.old }
     requires kept { AreAllAsOf (P.seen port.old) quantum.old }
     ensures kept { AreAllAsOf (P.seen port.new) quantum.new }
-    ensures so { IfOk result (λ next. IfSome next (P.is_so port.new)) }
+    ensures so { IfOk result (λ looked. IfSome (found_if looked found.new) (P.is_so port.new)) }
     ensures owned { OnTold (P.board port.old) (P.board port.new) (λ old new. IsOwned old owners.old → IsOwned new owners.new) }
-    ensures told { OnTold (P.board port.old) (P.board port.new) (λ old new. IsNext old owners.old (beat_of pace) found → IfOk result (λ next. IsLeftBy old new owners.new (beat_of pace) next × (must_bring (beat_of pace) ≡ true → found ≢ found_so.Over → left new < left old))) }
+    ensures told { OnTold (P.board port.old) (P.board port.new) (λ old new. IsNext old owners.old (beat_of pace) found.old → IfOk result (λ looked. IsLeftBy old new owners.new (beat_of pace) (found_if looked found.new) × (must_bring (beat_of pace) ≡ true → found.old ≢ found_so.Over → left new < left old))) }
     ensures continued { P.continues port.old port.new }
 {
     if pace.must_bring() {
-        bring(port, owners, found)?;
-        Ok(None)
+        bring(port, owners, *found)?;
+        Ok(false)
     } else {
         act(port, owners, quantum, pace, length, found)
     }
 }
 
-/// Takes a turn for whom the last look found, in quanta of at most so many steps, and answers whom the next turn is for.
+/// Takes a turn for whom the last look found, in quanta of at most so many steps. Then `found` is whom the next turn is for; where memory
+/// is wanted, nothing is said of it.
 ///
 /// A thread that came to the processor runs a quantum, and its steps are committed. Its owners are asked for its call, and for a page
 /// that it misses, unless only no view was free for it; a step that signals is healed. For a thread that waits its owners are
@@ -218,31 +223,30 @@ pub fn turn<P: Processor>(
     quantum: &mut Quantum,
     pace: &mut Pace,
     length: u32,
-    found: Found,
-) -> Result<Found, NoMemory>
+    found: &mut Found,
+) -> Result<(), NoMemory>
     // What the last look found, and what the quantum keeps, is this processor's.
-    requires so { P.is_so port.old found }
+    requires so { P.is_so port.old found.old }
     requires kept { AreAllAsOf (P.seen port.old) quantum.old }
-    ensures so { IfOk result (P.is_so port.new) }
+    ensures so { OnOk result (P.is_so port.new found.new) }
     ensures kept { AreAllAsOf (P.seen port.new) quantum.new }
 
     // Where the board is told, and its owners are: the next turn is one as this, and is nearer to the end.
     ensures owned { OnTold (P.board port.old) (P.board port.new) (λ old new. IsOwned old owners.old → IsOwned new owners.new) }
-    ensures next { OnTold (P.board port.old) (P.board port.new) (λ old new. IsNext old owners.old (beat_of pace.old) found → IfOk result (IsNext new owners.new (beat_of pace.new))) }
-    ensures closer { OnTold (P.board port.old) (P.board port.new) (λ old new. IsNext old owners.old (beat_of pace.old) found → found ≢ found_so.Over → IfOk result (λ _. turns_left new (beat_of pace.new) < turns_left old (beat_of pace.old))) }
+    ensures next { OnTold (P.board port.old) (P.board port.new) (λ old new. IsNext old owners.old (beat_of pace.old) found.old → OnOk result (IsNext new owners.new (beat_of pace.new) found.new)) }
+    ensures closer { OnTold (P.board port.old) (P.board port.new) (λ old new. IsNext old owners.old (beat_of pace.old) found.old → found.old ≢ found_so.Over → OnOk result (turns_left new (beat_of pace.new) < turns_left old (beat_of pace.old))) }
 
     // It comes of the processor, also where memory is wanted.
     ensures continued { P.continues port.old port.new }
 {
     let before = port.brought();
-    match take(port, owners, quantum, *pace, length, found)? {
-        Some(next) => {
-            *pace = pace.after(true);
-            Ok(next)
-        }
-        None => {
-            *pace = pace.after(before < port.brought());
-            Ok(port.look(pace.wants_first()))
-        }
+    let looked = take(port, owners, quantum, *pace, length, found)?;
+    if looked {
+        *pace = pace.after(true);
+        Ok(())
+    } else {
+        *pace = pace.after(before < port.brought());
+        *found = port.look(pace.wants_first());
+        Ok(())
     }
 }

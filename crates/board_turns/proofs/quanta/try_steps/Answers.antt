@@ -21,5 +21,5 @@ returns-clause-told g c =
     let look = c.look_behind-look.result in
     let whole = L.further before asked.new.port after (L.further before ran.new.port asked.new.port ran.ensures.continued asked.ensures.continued) c.commit.ensures.continued in
     let order = subst (λ (n : ℕ). IfSome look (λ want_first. (0 < n) × (want_first ≡ wants_first (paced true (beat_of c.args.pace))))) c.steps.ensures.steps c.look_behind-look.ensures in
-    told_tried (g.P.Port.board before) (g.P.Port.board asked.new.port) (g.P.Port.board after) (g.P.Processor.progress before) (g.P.Processor.progress after) (beat_of c.args.pace) c.args.ticket.now ran.new.quantum look c.in_ok-committed.committed
+    told_tried (g.P.Port.board before) (g.P.Port.board asked.new.port) (g.P.Port.board after) (g.P.Processor.progress before) (g.P.Processor.progress after) (beat_of c.args.pace) c.args.ticket.now ran.new.quantum look c.commit.new.next c.in_ok-committed.committed
     (asked.ensures.same ∙ ran.ensures.same) (L.grew before after whole) order c.in_ok-committed.ensures.told
