@@ -57,7 +57,7 @@ fn take_turns(
     'turns: loop {
         match found {
             Found::Over => return Ok(()),
-            _ => found = turn(port, owners, quantum, &mut pace, QUANTUM, found)?,
+            _ => turn(port, owners, quantum, &mut pace, QUANTUM, &mut found)?,
         }
     }
 }

@@ -30,13 +30,13 @@ turns-preserved c =
     record {
       same = turn.ensures.continued.0 ∙ c.turns.invariant.same;
       grown = grown_more first.board.now before.board.now after.board.now first.brought before.brought after.brought c.turns.invariant.grown turn.ensures.continued.1;
-      next = c.in_ok-found-in_default.ensures.next c.turns.invariant.next;
-      so = c.in_ok-found-in_default.ensures.so;
+      next = c.in_ok-turn-in_default.ensures.next c.turns.invariant.next;
+      so = c.in_ok-turn-in_default.ensures.so;
       kept = turn.ensures.kept;
     }
 
-pub returns-in_err-found-in_default : goal.returns-in_err-found-in_default
-returns-in_err-found-in_default c =
+pub returns-in_err-turn-in_default : goal.returns-in_err-turn-in_default
+returns-in_err-turn-in_default c =
     let first = c.args.port.now in
     let before = c.turns.port in
     let turn = c.turn in
