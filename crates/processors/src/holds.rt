@@ -10,7 +10,7 @@ ghost use Rattle.alone_run.specs.board_commits.specs.Tickets.{AreAllAsOf, AreOfT
 ghost use Rattle.alone_run.specs.board_core.specs.Core.{contents_of};
 ghost use Rattle.alone_run.specs.board_core.specs.Going.{IsOneEvent};
 ghost use Rattle.alone_run.specs.cache_board.specs.Events.{past_of};
-ghost use Rattle.alone_run.specs.board_turns.specs.Holds.{AreFewer};
+ghost use Rattle.alone_run.specs.board_turns.specs.Holds.{found_if, AreFewer};
 ghost use Rattle.alone_run.specs.board_turns.specs.Holds as holds;
 ghost use Rattle.processors.specs.Pages.{IsPagedFirst};
 ghost use Rattle.processors.specs.Sharing.{end_by, first_by, seen_by, IsSoOf, IsThere};
@@ -39,29 +39,39 @@ pub(crate) fn hold<'a, R: Wait>(
     }
 }
 
-/// Looks for the next thread, unless as many steps were taken as the processor stops with.
-pub(crate) fn look(board: &mut Board, cpu: u32, limit: u64, want_first: bool) -> Found
+/// Looks for the next thread, unless as many steps were taken as the processor stops with, and writes whom it finds to `next`.
+pub(crate) fn look(board: &mut Board, cpu: u32, limit: u64, want_first: bool, next: &mut Found)
     requires processor { cpu < 8 }
-    ensures so { IsSoOf cpu limit board.new.journal.entries result }
+    ensures so { IsSoOf cpu limit board.new.journal.entries next.new }
     ensures event { IsOneEvent cpu board.old board.new }
 {
     board.holds();
     if board.steps() >= limit {
-        return Found::Over;
+        *next = Found::Over;
+        return;
     }
-    find(board, cpu, want_first)
+    find(board, cpu, want_first, next);
 }
 
-// A look behind something else, if an order is given.
-fn look_if(board: &mut Board, cpu: u32, limit: u64, want_first: Option<bool>) -> Option<Found>
+// A look behind something else, if an order is given. Answers whether one is.
+fn look_if(
+    board: &mut Board,
+    cpu: u32,
+    limit: u64,
+    want_first: Option<bool>,
+    next: &mut Found,
+) -> bool
     requires processor { cpu < 8 }
-    ensures so { IfSome result (IsSoOf cpu limit board.new.journal.entries) }
+    ensures so { IfSome (found_if result next.new) (IsSoOf cpu limit board.new.journal.entries) }
     ensures event { IsOneEvent cpu board.old board.new }
 {
     board.holds();
     match want_first {
-        Some(want_first) => Some(look(board, cpu, limit, want_first)),
-        None => None,
+        Some(want_first) => {
+            look(board, cpu, limit, want_first, next);
+            true
+        }
+        None => false,
     }
 }
 
@@ -95,23 +105,26 @@ pub(crate) fn pages(
 }
 
 /// Makes the steps of a quantum happen, and gives the thread back, but where they are too many and some are left; and then looks, if
-/// an order is given.
+/// an order is given. Whom the look found is written to `next`.
 pub(crate) fn commit(
     board: &mut Board,
     ticket: &Ticket,
     quantum: &mut Quantum,
     limit: u64,
     want_first: Option<bool>,
+    next: &mut Found,
 ) -> Result<Committed, NoMemory>
     requires processor { ticket.now.cpu < 8 }
     requires views { AreOfTicket board.old.journal.entries ticket.now.thread quantum.old }
-    ensures so { IfOk result (λ committed. IfSome (holds.found_by committed) (IsSoOf ticket.now.cpu limit board.new.journal.entries)) }
+    ensures so { IfOk result (λ committed. IfSome (holds.found_by next.new committed) (IsSoOf ticket.now.cpu limit board.new.journal.entries)) }
     ensures fewer { IfOk result (AreFewer quantum.old.steps) }
     ensures event { IsOneEvent ticket.now.cpu board.old board.new }
     ensures kept { AreAllAsOf board.new.journal.entries quantum.new }
 {
     match commit_steps(board, ticket, quantum)? {
-        Committed::Taken(_) => Ok(Committed::Taken(look_if(board, ticket.cpu, limit, want_first))),
+        Committed::Taken { .. } => Ok(Committed::Taken {
+            looked: look_if(board, ticket.cpu, limit, want_first, next),
+        }),
         Committed::TooMany(left) => Ok(Committed::TooMany(left)),
         Committed::Lost => Ok(Committed::Lost),
     }

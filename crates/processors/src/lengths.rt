@@ -1,9 +1,10 @@
 //! How long quanta are where several processors share a board.
 
 ghost use Rattle.std.specs.Prelude.{◌≡◌, replicate};
-ghost use Rattle.processors.specs.Lengths.{length_after, length_for, lengths_after};
+ghost use Rattle.processors.specs.Lengths.{length_after, length_for, lengths_after, runner_of};
 
 use alone_run::turns::Found;
+use cache_ident::ThreadNo;
 
 // How many steps a quantum has at most to begin with, and after one that was refused.
 const SHORTEST: u32 = 256;
@@ -27,6 +28,16 @@ fn length_after(length: u32, steps: u32, committed: bool) -> u32
     }
 }
 
+/// The thread of which a turn for whom was found may run a quantum. It is read before the turn, which writes the next one over it.
+pub(crate) fn runner(found: &Found) -> Option<ThreadNo>
+    ensures { result ≡ runner_of found.now }
+{
+    match found {
+        Found::Out(ticket) => Some(ticket.no),
+        _ => None,
+    }
+}
+
 /// How many steps the next quantum of a thread may have. A thread that runs to the end of its quanta gets longer ones, so that the
 /// board is held less often; one whose quanta are refused gets short ones, so that less is lost.
 #[derive(Clone, Copy)]
@@ -44,22 +55,22 @@ impl Lengths {
         }
     }
 
-    /// How many steps a turn for whom was found may take in one quantum.
-    pub(crate) fn for_turn(&self, found: Found) -> u32
-        ensures { result ≡ length_for self.now.of_threads found }
+    /// How many steps a turn that may run a quantum of this thread, or of none, may take in it.
+    pub(crate) fn for_turn(&self, runner: Option<ThreadNo>) -> u32
+        ensures { result ≡ length_for self.now.of_threads runner }
     {
-        match found {
-            Found::Out(ticket) => self.of_threads[ticket.no.0 as usize % PLACES],
-            _ => SHORTEST,
+        match runner {
+            Some(thread) => self.of_threads[thread.0 as usize % PLACES],
+            None => SHORTEST,
         }
     }
 
-    /// A turn for whom was found ran a quantum of so many steps, which were committed or refused.
-    pub(crate) fn note(&mut self, found: Found, steps: u32, committed: bool)
-        ensures { self.new.of_threads ≡ lengths_after self.old.of_threads found steps committed }
+    /// A turn ran a quantum of this thread, if of any, of so many steps, which were committed or refused.
+    pub(crate) fn note(&mut self, runner: Option<ThreadNo>, steps: u32, committed: bool)
+        ensures { self.new.of_threads ≡ lengths_after self.old.of_threads runner steps committed }
     {
-        if let Found::Out(ticket) = found {
-            let place = ticket.no.0 as usize % PLACES;
+        if let Some(thread) = runner {
+            let place = thread.0 as usize % PLACES;
             self.of_threads[place] = length_after(self.of_threads[place], steps, committed);
         }
     }

@@ -10,7 +10,7 @@ ghost use Rattle.alone_run.specs.board_turns.specs.Looks.{IsIdle};
 ghost use Rattle.processors.specs.Stops.{found_at, OnIdle, OnSpent};
 
 use crate::gate::Gate;
-use crate::lengths::Lengths;
+use crate::lengths::{Lengths, runner};
 use crate::sharing::Sharing;
 use alone_run::turns::{Board, Found, Owners, Pace, Processor, Quantum, turn};
 use std::sync::Wait;
@@ -52,16 +52,16 @@ fn take_turns<R: Wait, P: Processor + RanLast>(
             Found::Over => return Stop::Spent,
             Found::Out(_) | Found::Wanted { .. } => {}
         }
-        let length = lengths.for_turn(found);
+        let runner = runner(&found);
+        let length = lengths.for_turn(runner);
         let runs = !pace.must_bring();
         let before = port.brought();
-        let Ok(next) = turn(port, owners, quantum, &mut pace, length, found) else {
+        let Ok(()) = turn(port, owners, quantum, &mut pace, length, &mut found) else {
             return Stop::NoMemory;
         };
         if runs {
-            lengths.note(found, port.last_steps(), before < port.brought());
+            lengths.note(runner, port.last_steps(), before < port.brought());
         }
-        found = next;
     }
     unreachable!()
 }

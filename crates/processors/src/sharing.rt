@@ -207,7 +207,7 @@ fn brought_after(answer: Result<(), Refused>, brought: u64) -> u64 {
 // .. once a commit of so many steps came to this
 fn brought_by(committed: Committed, steps: u32, brought: u64) -> u64 {
     match committed {
-        Committed::Taken(_) if steps > 0 => brought.saturating_add(1),
+        Committed::Taken { .. } if steps > 0 => brought.saturating_add(1),
         _ => brought,
     }
 }
@@ -237,7 +237,14 @@ impl<R: Wait, G: Gate> Processor for Sharing<'_, R, G> {
 
     fn look(&mut self, want_first: bool) -> Found {
         let mut held = hold(self.rt, self.lock, &mut self.pass);
-        let found = look(held.value_mut(), self.cpu, self.limit, want_first);
+        let mut found = Found::Over;
+        look(
+            held.value_mut(),
+            self.cpu,
+            self.limit,
+            want_first,
+            &mut found,
+        );
         self.pass = Some(held.release());
         found
     }
@@ -262,12 +269,13 @@ impl<R: Wait, G: Gate> Processor for Sharing<'_, R, G> {
         ticket: &Ticket,
         quantum: &mut Quantum,
         look: Option<bool>,
+        next: &mut Found,
     ) -> Result<Committed, NoMemory> {
         let steps = quantum.steps();
         self.last_steps = steps;
         self.recent.note(ticket.no, quantum);
         let mut held = hold(self.rt, self.lock, &mut self.pass);
-        let answer = commit(held.value_mut(), ticket, quantum, self.limit, look);
+        let answer = commit(held.value_mut(), ticket, quantum, self.limit, look, next);
         self.pass = Some(held.release());
         let committed = answer?;
         self.brought = brought_by(committed, steps, self.brought);

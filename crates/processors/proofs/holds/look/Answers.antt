@@ -10,4 +10,4 @@ pub returns-then-steps-limit-clause-event : goal.returns-then-steps-limit-clause
 returns-then-steps-limit-clause-event c = event_nothing c.args.cpu c.args.board.now c.holds.ensures.sound
 
 pub returns-clause-so : goal.returns-clause-so
-returns-clause-so c = so_of c.args.cpu c.args.limit c.args.want_first c.args.board.now c.find.new.board c.find.result c.holds.ensures.sound c.find.ensures.found
+returns-clause-so c = so_of c.args.cpu c.args.limit c.args.want_first c.args.board.now c.find.new.board c.find.new.next c.holds.ensures.sound c.find.ensures.found

@@ -40,7 +40,7 @@ pub returns-clause-so : goal.returns-clause-so
 returns-clause-so g c =
     let at = c.self.inside in
     let new = c.commit-answer.new.board in
-    so_seen_if c.args.ticket.now.cpu at.cpu at.limit new.journal.entries (entries_of (seen_of c.release.result)) (holds.found_by c.in_ok-committed.committed)
+    so_seen_if c.args.ticket.now.cpu at.cpu at.limit new.journal.entries (entries_of (seen_of c.release.result)) (holds.found_by c.commit-answer.new.next c.in_ok-committed.committed)
     (c.requires.own ∙ sym (ap (λ (it : Sharer). it.cpu) c.self.view_is)) (journal_seen (seen_of c.release.result) new c.release.ensures.seen) c.in_ok-committed.ensures.so
 
 pub returns-in_err-committed-clause-kept : goal.returns-in_err-committed-clause-kept

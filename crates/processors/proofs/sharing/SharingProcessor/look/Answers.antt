@@ -10,17 +10,17 @@ pub release-requires : goal.release-requires
 release-requires g c =
     let at = c.self.inside in
     let held = c.hold-held in
-    record { signed = signed at.cpu (value_of held.result) c.value_mut.result.now c.look-found.new.board c.value_mut.ensures.value c.look-found.ensures.event (holder_first held.result) (found_by held.result) held.ensures.found (held.ensures.range.0 ∙ c.self.invariant.number) }
+    record { signed = signed at.cpu (value_of held.result) c.value_mut.result.now c.look.new.board c.value_mut.ensures.value c.look.ensures.event (holder_first held.result) (found_by held.result) held.ensures.found (held.ensures.range.0 ∙ c.self.invariant.number) }
 
 pub returns-clause-continued : goal.returns-clause-continued
 returns-clause-continued g c =
     let at = c.self.inside in
     let held = c.hold-held in
-    let seen = seen_on at.cpu (value_of held.result) c.value_mut.result.now c.look-found.new.board c.value_mut.ensures.value c.look-found.ensures.event (seen_by at.pass) (seen_of c.release.result) held.ensures.begins c.release.ensures.seen in
+    let seen = seen_on at.cpu (value_of held.result) c.value_mut.result.now c.look.new.board c.value_mut.ensures.value c.look.ensures.event (seen_by at.pass) (seen_of c.release.result) held.ensures.begins c.release.ensures.seen in
     sees_more at.lock.now at.cpu at.pass c.release.result at.limit at.heard _ at.brought _ (c.release.ensures.range.1 ∙ held.ensures.range.1) seen c.args.self.now c.self.view_is
 
 pub returns-clause-so : goal.returns-clause-so
 returns-clause-so g c =
     let at = c.self.inside in
-    let new = c.look-found.new.board in
-    so_seen at.cpu at.limit new.journal.entries (entries_of (seen_of c.release.result)) c.look-found.result (journal_seen (seen_of c.release.result) new c.release.ensures.seen) c.look-found.ensures.so
+    let new = c.look.new.board in
+    so_seen at.cpu at.limit new.journal.entries (entries_of (seen_of c.release.result)) c.look.new.found (journal_seen (seen_of c.release.result) new c.release.ensures.seen) c.look.ensures.so
