@@ -53,7 +53,8 @@ fn take_turns(
     ensures kept { AreAllAsOf port.new.board.now.journal.entries quantum.new }
 {
     let mut pace = Pace::new();
-    let mut found = port.look(pace.wants_first());
+    let mut found = Found::Over;
+    port.look(pace.wants_first(), quantum, &mut found);
     'turns: loop {
         match found {
             Found::Over => return Ok(()),

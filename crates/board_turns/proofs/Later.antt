@@ -1,9 +1,10 @@
 -- What a quantum has, as its processor sees more of the journal.
-use Rattle.std.proofs.Common.{◌≡◌, ℕ, ◌<◌, List, length, ap, sym, ◌∙◌, subst}
+use Rattle.std.proofs.Common.{◌≡◌, ℕ, ◌<◌, List, length, refl, ap, sym, ◌∙◌, subst}
 use mathlib.Core.List.{IsPrefix}
 use Rattle.cache_ident.specs.declared.idents.Ident.{Ident}
 use Rattle.cache_board.specs.run_journal.specs.declared.entries.Entry.{Entry}
-use Rattle.quantum.specs.Ahead.{happened, Ahead}
+use Rattle.quantum.specs.flat_laws.proofs.Members.{contains_nothing}
+use Rattle.quantum.specs.Ahead.{begun, happened, Ahead}
 use Rattle.cache_board.specs.board_core.specs.Core.{Recorded}
 use Rattle.cache_board.specs.board_core.specs.Going.{IsOneEvent}
 use Rattle.cache_board.specs.board_threads.specs.declared.tickets.Ticket.{Ticket}
@@ -11,6 +12,8 @@ use Rattle.cache_board.specs.board_commits.specs.Commits.{IsCommitted}
 use Rattle.cache_board.specs.board_commits.specs.Tickets.{AreAllAsOf, AreOfTicket}
 use Rattle.cache_board.specs.board_commits.proofs.KeptLaws.{kept_happened, kept_stays}
 use Rattle.cache_board.specs.board_commits.proofs.TicketLaws.{views_stay}
+use Rattle.board_turns.specs.declared.found.Found.TheVariants.{Out}
+use Rattle.board_turns.specs.Holds.{IsReadyFor}
 
 module _ (j k : List Entry) (a : Ahead) (begins : IsPrefix j k) where
   pub kept_later : AreAllAsOf j a → AreAllAsOf k a
@@ -18,6 +21,10 @@ module _ (j k : List Entry) (a : Ahead) (begins : IsPrefix j k) where
 
   pub views_later : (thread : Ident) → AreOfTicket j thread a → AreOfTicket k thread a
   views_later thread views = subst (λ (l : List Entry). AreOfTicket l thread a) begins.1 (views_stay j begins.0 thread a views)
+
+-- a quantum that is begun for a ticket
+pub begun_ready : (j : List Entry) (a after : Ahead) (ticket : Ticket) → after ≡ begun ticket.context a → AreAllAsOf j a → IsReadyFor j after (Out ticket)
+begun_ready j a after ticket is kept = subst (λ (x : Ahead). IsReadyFor j x (Out ticket)) (sym is) (record { views = λ v within. absurd (contains_nothing v within); kept = kept }, refl)
 
 -- one event more of the board
 module _ (cpu : ℕ) (old new : Recorded) (event : IsOneEvent cpu old new) (a : Ahead) (kept : AreAllAsOf old.journal.entries a) where

@@ -1,8 +1,9 @@
 -- What a processor leaves of a board that it held.
-use Rattle.std.specs.Prelude.{◌≡◌, ℕ, ◌<◌, Bool, true, false, Option, Some, None, Result, IfErr, OnOk}
+use Rattle.std.specs.Prelude.{◌≡◌, ℕ, ◌<◌, Bool, true, false, List, Option, Some, None, Result, IfErr, OnOk}
 use Rattle.std.specs.Result.{result_err}
 use Rattle.cache_ident.specs.declared.names.ThreadNo.{ThreadNo}
 use Rattle.cache_ident.specs.declared.names.Vpn.{Vpn}
+use Rattle.cache_board.specs.run_journal.specs.declared.entries.Entry.{Entry}
 use Rattle.cache_board.specs.board_ops.specs.declared.refusals.Refused.{Refused}
 use Rattle.cache_board.specs.board_ops.specs.declared.refusals.Refused.TheVariants as why
 use Rattle.quantum.specs.Ahead.{Ahead}
@@ -13,12 +14,14 @@ use Rattle.cache_board.specs.board_threads.specs.declared.tickets.Ticket.{Ticket
 use Rattle.cache_board.specs.board_threads.specs.Posts.{HasComeBack, IsOutWith, OnlyMarks}
 use Rattle.cache_board.specs.board_commits.specs.Commits.{IsCommitted, IsPaged}
 use Rattle.cache_board.specs.board_commits.specs.Refusals.{refusal_of_commit, refusal_of_page}
+use Rattle.cache_board.specs.board_commits.specs.Tickets.{AreOfTicket}
 use Rattle.cache_board.specs.board_heal.specs.Healed.{IsHealed}
 use Rattle.cache_board.specs.board_heal.specs.Promise.{HasStepped, IsHealable}
 use Rattle.cache_board.specs.board_heal.specs.Refusals.{refusal_of_heal}
 use Rattle.board_turns.specs.declared.committed.Committed.{Committed}
 use Rattle.board_turns.specs.declared.committed.Committed.TheVariants.{Taken, TooMany, Lost}
 use Rattle.board_turns.specs.declared.found.Found.{Found}
+use Rattle.board_turns.specs.declared.found.Found.TheVariants.{Out, Wanted, Nothing, Over}
 use Rattle.board_turns.specs.Looks.{HasLooked}
 
 -- the ticket's thread was given back, if the processor had it, and all else is as it was
@@ -72,6 +75,14 @@ abbrev pub found_by : Found → Committed → Option Found
 found_by next (Taken looked) = found_if looked next
 found_by next (TooMany left) = None
 found_by next Lost = None
+
+-- The quantum is ready for a turn for whom was found: for a thread that came to the processor it was begun, has no step yet, and only
+-- copies made for that thread.
+abbrev pub IsReadyFor : List Entry → Ahead → Found → Type 0
+IsReadyFor j a (Out ticket) = AreOfTicket j ticket.thread a × (a.steps ≡ 0)
+IsReadyFor j a (Wanted whom trapped pc) = Unit {0}
+IsReadyFor j a Nothing = Unit {0}
+IsReadyFor j a Over = Unit {0}
 
 -- where the steps are too many, fewer are left
 abbrev pub AreFewer : ℕ → Committed → Type 0

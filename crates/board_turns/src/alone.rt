@@ -43,10 +43,8 @@ impl Processor for Alone<'_> {
 
     fn at(&self, _point: Point) {}
 
-    fn look(&mut self, want_first: bool) -> Found {
-        let mut found = Found::Over;
-        look(self.board, want_first, &mut found);
-        found
+    fn look(&mut self, want_first: bool, quantum: &mut Quantum, next: &mut Found) {
+        look(self.board, want_first, quantum, next);
     }
 
     fn page(&mut self, ticket: &Ticket, vpn: Vpn, quantum: &mut Quantum) -> Result<(), Refused> {

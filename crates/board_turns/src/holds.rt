@@ -1,12 +1,13 @@
 //! What a processor does with the board while it holds it, and whoever has the board alone.
 
-ghost use Rattle.std.specs.Prelude.{◌≡◌, ◌<◌, ◌≤◌, ◌+◌, None, IfNone, IfOk, IfSome, OnErr, OnOk};
+ghost use Rattle.std.specs.Prelude.{◌≡◌, ◌<◌, ◌≤◌, ◌+◌, List, None, IfNone, IfOk, IfSome, OnErr, OnOk};
 ghost use Rattle.std.specs.Bool.{OnTrue};
+ghost use Rattle.cache_board.specs.run_journal.specs.declared.entries.Entry.{Entry};
 ghost use Rattle.cache_board.specs.board_commits.specs.Tickets.{AreAllAsOf, AreOfTicket};
 ghost use Rattle.cache_board.specs.board_core.specs.Core.{IsSound};
 ghost use Rattle.cache_board.specs.board_core.specs.Going.{IsOneEvent};
 ghost use Rattle.cache_board.specs.board_threads.specs.Tests.{IsWanted};
-ghost use Rattle.board_turns.specs.Holds.{found_by, found_if, taken_by, AreFewer, HasCommitted, HasHealed, HasLookedIf};
+ghost use Rattle.board_turns.specs.Holds.{found_by, found_if, taken_by, AreFewer, HasCommitted, HasHealed, HasLookedIf, IsReadyFor};
 ghost use Rattle.board_turns.specs.declared.found.Found.{Found};
 ghost use Rattle.board_turns.specs.Looks.{Allows, HasLooked, IsFound, IsFoundWanted, IsSoAlone};
 
@@ -62,10 +63,21 @@ pub fn find(board: &mut Board, cpu: u32, want_first: bool, next: &mut Found)
     }
 }
 
-/// Looks for the next thread, unless the run is over, and writes whom it finds to `next`.
+/// Begins the quantum of a thread that came to the processor, where one did, from the context of its ticket.
+#[inline(always)]
+pub fn begin(found: &Found, quantum: &mut Quantum)
+    ensures ready { (j : List Entry) → AreAllAsOf j quantum.old → IsReadyFor j quantum.new found.now }
+    ensures kept { (j : List Entry) → AreAllAsOf j quantum.old → AreAllAsOf j quantum.new }
+{
+    if let Found::Out(ticket) = found {
+        quantum.begin(ticket.context, ticket.no);
+    }
+}
+
+// Whom a look by whoever has the board alone finds.
 #[tactic(auto, using(crate::proofs::Looking::event_nothing, crate::proofs::Looking::looked_running, crate::proofs::Looking::so_alone))]
 #[inline(always)]
-pub(crate) fn look(board: &mut Board, want_first: bool, next: &mut Found)
+fn look_alone(board: &mut Board, want_first: bool, next: &mut Found)
     ensures looked { HasLooked want_first board.old board.new next.new }
     ensures so { IsSoAlone board.new next.new }
     ensures event { IsOneEvent 0 board.old board.new }
@@ -77,17 +89,40 @@ pub(crate) fn look(board: &mut Board, want_first: bool, next: &mut Found)
     }
 }
 
+/// Looks for the next thread, unless the run is over, and writes whom it finds to `next`. The quantum of a thread that came to the
+/// processor begins.
+#[inline(always)]
+pub(crate) fn look(board: &mut Board, want_first: bool, quantum: &mut Quantum, next: &mut Found)
+    requires kept { AreAllAsOf board.old.journal.entries quantum.old }
+    ensures looked { HasLooked want_first board.old board.new next.new }
+    ensures so { IsSoAlone board.new next.new }
+    ensures event { IsOneEvent 0 board.old board.new }
+    ensures ready { IsReadyFor board.new.journal.entries quantum.new next.new }
+    ensures kept { AreAllAsOf board.new.journal.entries quantum.new }
+{
+    look_alone(board, want_first, next);
+    begin(next, quantum);
+}
+
 // A look behind something else, if an order is given. Answers whether one is.
 #[tactic(auto, using(crate::proofs::Looking::event_nothing))]
-fn look_if(board: &mut Board, want_first: Option<bool>, next: &mut Found) -> bool
+fn look_if(
+    board: &mut Board,
+    want_first: Option<bool>,
+    quantum: &mut Quantum,
+    next: &mut Found,
+) -> bool
+    requires kept { AreAllAsOf board.old.journal.entries quantum.old }
     ensures looked { HasLookedIf want_first board.old board.new (found_if result next.new) }
     ensures so { IfSome (found_if result next.new) (IsSoAlone board.new) }
     ensures event { IsOneEvent 0 board.old board.new }
+    ensures ready { IfSome (found_if result next.new) (IsReadyFor board.new.journal.entries quantum.new) }
+    ensures kept { AreAllAsOf board.new.journal.entries quantum.new }
 {
     board.holds();
     match want_first {
         Some(want_first) => {
-            look(board, want_first, next);
+            look(board, want_first, quantum, next);
             true
         }
         None => false,
@@ -128,7 +163,7 @@ pub fn commit_steps(
     }
 }
 
-/// The same, and then looks, if an order is given. Whom the look found is written to `next`.
+/// The same, and then looks, if an order is given. Whom the look found is written to `next`, and a quantum begins for it.
 #[inline(always)]
 pub(crate) fn commit(
     board: &mut Board,
@@ -141,6 +176,7 @@ pub(crate) fn commit(
     requires views { AreOfTicket board.old.journal.entries ticket.now.thread quantum.old }
     ensures committed { IfOk result (HasCommitted ticket.now quantum.old want_first board.old board.new next.new) }
     ensures so { IfOk result (λ committed. IfSome (found_by next.new committed) (IsSoAlone board.new)) }
+    ensures ready { IfOk result (λ committed. IfSome (found_by next.new committed) (IsReadyFor board.new.journal.entries quantum.new)) }
     ensures fewer { IfOk result (AreFewer quantum.old.steps) }
     ensures taken { IfOk result (λ committed. board.old.steps + taken_by committed quantum.old.steps ≤ board.new.steps) }
     ensures event { IsOneEvent 0 board.old board.new }
@@ -148,7 +184,7 @@ pub(crate) fn commit(
 {
     match commit_steps(board, ticket, quantum)? {
         Committed::Taken { .. } => Ok(Committed::Taken {
-            looked: look_if(board, want_first, next),
+            looked: look_if(board, want_first, quantum, next),
         }),
         Committed::TooMany(left) => Ok(Committed::TooMany(left)),
         Committed::Lost => Ok(Committed::Lost),

@@ -20,7 +20,7 @@ pub use app_kernel::{Alone, Board, Heard, Owners, Port, PortCall, Refused};
 pub use cache_board::{Quantum, Ticket};
 pub use committed::Committed;
 pub use found::Found;
-pub use holds::{allows, commit_steps, find, leave_and_heal};
+pub use holds::{allows, begin, commit_steps, find, leave_and_heal};
 pub use pace::Pace;
 pub use point::Point;
 pub use processor::Processor;

@@ -9,7 +9,7 @@ ghost use Rattle.cache_board.specs.board_commits.specs.Tickets.{AreAllAsOf, AreO
 ghost use Rattle.cache_board.specs.board_threads.specs.declared.tickets.Ticket.{Ticket};
 ghost use Rattle.app_kernel.specs.owner_ports.specs.Boards.{OnTold};
 ghost use Rattle.board_turns.specs.declared.found.Found.{Found};
-ghost use Rattle.board_turns.specs.Holds.{found_by, AreFewer, HasCommitted, HasHealed, IsPageAnswer};
+ghost use Rattle.board_turns.specs.Holds.{found_by, AreFewer, HasCommitted, HasHealed, IsPageAnswer, IsReadyFor};
 ghost use Rattle.board_turns.specs.Looks.{Allows, HasLooked};
 ghost use Rattle.board_turns.specs.Turning.{HasGrown};
 
@@ -46,10 +46,14 @@ pub trait Processor: Port {
     fn at(&self, point: Point);
 
     /// Looks for the next thread: for one that can come to the processor, and where there is none for one that waits for its
-    /// owners, or in the other order.
-    fn look(&mut self, want_first: bool) -> Found
-        ensures told { OnTold (Self.board self.old) (Self.board self.new) (λ old new. HasLooked want_first old new result) }
-        ensures so { is_so self.new result }
+    /// owners, or in the other order. Whom it finds is written to `next`. The quantum of a thread that came to the processor begins, in
+    /// the same hold.
+    fn look(&mut self, want_first: bool, quantum: &mut Quantum, next: &mut Found)
+        requires kept { AreAllAsOf (seen self.old) quantum.old }
+        ensures told { OnTold (Self.board self.old) (Self.board self.new) (λ old new. HasLooked want_first old new next.new) }
+        ensures so { is_so self.new next.new }
+        ensures ready { IsReadyFor (seen self.new) quantum.new next.new }
+        ensures kept { AreAllAsOf (seen self.new) quantum.new }
         ensures continued { continues self.old self.new };
 
     /// Copies the page of a loaded row of the ticket's thread into the quantum, whatever the row's flags. Refused where no row of
@@ -71,8 +75,8 @@ pub trait Processor: Port {
         ensures continued { continues self.old self.new };
 
     /// Makes the steps of the quantum happen, and gives the thread back, but where they are too many; and then looks for the next
-    /// thread in the given order, if one is given. Whom it finds then is written to `next`. A quantum whose steps happened keeps what
-    /// they left of the pages.
+    /// thread in the given order, if one is given. Whom it finds then is written to `next`, and the quantum of a thread that came to the
+    /// processor begins. A quantum whose steps happened keeps what they left of the pages.
     fn commit(
         &mut self,
         ticket: &Ticket,
@@ -84,6 +88,7 @@ pub trait Processor: Port {
         requires views { AreOfTicket (seen self.old) ticket.now.thread quantum.old }
         ensures told { OnTold (Self.board self.old) (Self.board self.new) (λ old new. IfOk result (HasCommitted ticket.now quantum.old look old new next.new)) }
         ensures so { IfOk result (λ committed. IfSome (found_by next.new committed) (is_so self.new)) }
+        ensures ready { IfOk result (λ committed. IfSome (found_by next.new committed) (IsReadyFor (seen self.new) quantum.new)) }
         ensures fewer { IfOk result (AreFewer quantum.old.steps) }
         ensures kept { AreAllAsOf (seen self.new) quantum.new }
         ensures continued { continues self.old self.new };

@@ -5,7 +5,7 @@ ghost use Rattle.cache_board.specs.board_commits.specs.Tickets.{AreAllAsOf, AreO
 ghost use Rattle.app_kernel.specs.owner_ports.specs.Boards.{OnTold};
 ghost use Rattle.app_kernel.specs.owners.specs.Known.{Known};
 ghost use Rattle.board_turns.specs.declared.found.Found.TheVariants as found_so;
-ghost use Rattle.board_turns.specs.Holds.{found_by, found_if, AreFewer};
+ghost use Rattle.board_turns.specs.Holds.{found_by, found_if, AreFewer, IsReadyFor};
 ghost use Rattle.board_turns.specs.Paces.{beat_of, paced, wants_first};
 ghost use Rattle.board_turns.specs.Turning.{IsLeftBy, IsOnQuantum, IsTriedBy};
 
@@ -107,7 +107,7 @@ fn look_behind(ask: Ask, steps: u32, pace: Pace) -> Option<bool>
     }
 }
 
-// Runs a quantum of at most so many steps, from the ticket's context on, and commits it. Whom a look in the hold of the commit found is
+// Runs a quantum that was begun for the ticket, of at most so many steps, and commits it. Whom a look in the hold of the commit found is
 // written to `next`.
 fn try_steps<P: Processor>(
     port: &mut P,
@@ -118,14 +118,14 @@ fn try_steps<P: Processor>(
     next: &mut Found,
 ) -> Result<Tried, NoMemory>
     requires own { P.is_so port.old (found_so.Out ticket.now) }
-    requires kept { AreAllAsOf (P.seen port.old) quantum.old }
+    requires ready { IsReadyFor (P.seen port.old) quantum.old (found_so.Out ticket.now) }
     ensures kept { AreAllAsOf (P.seen port.new) quantum.new }
     ensures so { IfOk result (λ tried. IfSome (found_by next.new tried.committed) (P.is_so port.new)) }
+    ensures ready { IfOk result (λ tried. IfSome (found_by next.new tried.committed) (IsReadyFor (P.seen port.new) quantum.new)) }
     ensures fewer { IfOk result (λ tried. AreFewer most tried.committed) }
     ensures told { OnTold (P.board port.old) (P.board port.new) (λ old new. (known : Known) → IsOnQuantum old known ticket.now → IfOk result (λ tried. IsTriedBy old new known (beat_of pace) ticket.now next.new tried.committed)) }
     ensures continued { P.continues port.old port.new }
 {
-    quantum.begin(ticket.context, ticket.no);
     port.at(Point::InQuantum);
     let paused = run_ahead(port, ticket, quantum, most);
     let ask = ask_of(port, ticket, quantum, paused);
@@ -135,8 +135,8 @@ fn try_steps<P: Processor>(
     Ok(Tried { ask, committed })
 }
 
-/// Runs a quantum of at most so many steps, from the ticket's context on, and commits it; and where fewer steps are left, one of as
-/// many. Nothing else that refuses it is tried again. Answers what the thread asks for, and whether the next one was looked for in the
+/// Runs a quantum that was begun for the ticket, of at most so many steps, and commits it; and where fewer steps are left, one of as
+/// many, begun anew. Nothing else that refuses it is tried again. Answers what the thread asks for, and whether the next one was looked for in the
 /// same hold: whom that look found is written to `next`.
 pub(crate) fn run_quantum<P: Processor>(
     port: &mut P,
@@ -147,9 +147,10 @@ pub(crate) fn run_quantum<P: Processor>(
     next: &mut Found,
 ) -> Result<Ran, NoMemory>
     requires own { P.is_so port.old (found_so.Out ticket.now) }
-    requires kept { AreAllAsOf (P.seen port.old) quantum.old }
+    requires ready { IsReadyFor (P.seen port.old) quantum.old (found_so.Out ticket.now) }
     ensures kept { AreAllAsOf (P.seen port.new) quantum.new }
     ensures so { IfOk result (λ ran. IfSome (found_if ran.looked next.new) (P.is_so port.new)) }
+    ensures ready { IfOk result (λ ran. IfSome (found_if ran.looked next.new) (IsReadyFor (P.seen port.new) quantum.new)) }
     ensures told { OnTold (P.board port.old) (P.board port.new) (λ old new. (known : Known) → IsOnQuantum old known ticket.now → IfOk result (λ ran. IsLeftBy old new known (beat_of pace) (found_if ran.looked next.new))) }
     ensures continued { P.continues port.old port.new }
 {
@@ -163,7 +164,10 @@ pub(crate) fn run_quantum<P: Processor>(
                     looked,
                 });
             }
-            Committed::TooMany(left) => most = left,
+            Committed::TooMany(left) => {
+                quantum.begin(ticket.context, ticket.no);
+                most = left;
+            }
             Committed::Lost => {
                 return Ok(Ran {
                     ask: Ask::Nothing,

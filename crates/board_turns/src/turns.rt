@@ -11,7 +11,7 @@ ghost use Rattle.app_kernel.specs.owner_ports.specs.Boards.{OnTold};
 ghost use Rattle.app_kernel.specs.owners.specs.Known.{Known};
 ghost use Rattle.app_kernel.specs.reach_laws.specs.Reaching.{IsOwned};
 ghost use Rattle.board_turns.specs.declared.found.Found.TheVariants as found_so;
-ghost use Rattle.board_turns.specs.Holds.{found_if};
+ghost use Rattle.board_turns.specs.Holds.{found_if, IsReadyFor};
 ghost use Rattle.board_turns.specs.Paces.{beat_of, must_bring, Beat};
 ghost use Rattle.board_turns.specs.Turning.{turns_left, IsAtRest, IsAtRestBut, IsLeftBy, IsNext, IsOnQuantum, IsToStep};
 
@@ -119,9 +119,10 @@ fn run_thread<P: Processor>(
     next: &mut Found,
 ) -> Result<bool, NoMemory>
     requires own { P.is_so port.old (found_so.Out ticket.now) }
-    requires kept { AreAllAsOf (P.seen port.old) quantum.old }
+    requires ready { IsReadyFor (P.seen port.old) quantum.old (found_so.Out ticket.now) }
     ensures kept { AreAllAsOf (P.seen port.new) quantum.new }
     ensures so { IfOk result (λ looked. IfSome (found_if looked next.new) (P.is_so port.new)) }
+    ensures ready { IfOk result (λ looked. IfSome (found_if looked next.new) (IsReadyFor (P.seen port.new) quantum.new)) }
     ensures owned { OnTold (P.board port.old) (P.board port.new) (λ old new. IsOwned old owners.old → IsOwned new owners.new) }
     ensures told { OnTold (P.board port.old) (P.board port.new) (λ old new. IsOnQuantum old owners.old ticket.now → IfOk result (λ looked. IsLeftBy old new owners.new (beat_of pace) (found_if looked next.new))) }
     ensures continued { P.continues port.old port.new }
@@ -145,9 +146,11 @@ fn act<P: Processor>(
     found: &mut Found,
 ) -> Result<bool, NoMemory>
     requires so { P.is_so port.old found.old }
+    requires ready { IsReadyFor (P.seen port.old) quantum.old found.old }
     requires kept { AreAllAsOf (P.seen port.old) quantum.old }
     ensures kept { AreAllAsOf (P.seen port.new) quantum.new }
     ensures so { IfOk result (λ looked. IfSome (found_if looked found.new) (P.is_so port.new)) }
+    ensures ready { IfOk result (λ looked. IfSome (found_if looked found.new) (IsReadyFor (P.seen port.new) quantum.new)) }
     ensures owned { OnTold (P.board port.old) (P.board port.new) (λ old new. IsOwned old owners.old → IsOwned new owners.new) }
     ensures told { OnTold (P.board port.old) (P.board port.new) (λ old new. IsNext old owners.old (beat_of pace) found.old → IfOk result (λ looked. IsLeftBy old new owners.new (beat_of pace) (found_if looked found.new))) }
     ensures continued { P.continues port.old port.new }
@@ -196,9 +199,11 @@ fn take<P: Processor>(
     found: &mut Found,
 ) -> Result<bool, NoMemory>
     requires so { P.is_so port.old found.old }
+    requires ready { IsReadyFor (P.seen port.old) quantum.old found.old }
     requires kept { AreAllAsOf (P.seen port.old) quantum.old }
     ensures kept { AreAllAsOf (P.seen port.new) quantum.new }
     ensures so { IfOk result (λ looked. IfSome (found_if looked found.new) (P.is_so port.new)) }
+    ensures ready { IfOk result (λ looked. IfSome (found_if looked found.new) (IsReadyFor (P.seen port.new) quantum.new)) }
     ensures owned { OnTold (P.board port.old) (P.board port.new) (λ old new. IsOwned old owners.old → IsOwned new owners.new) }
     ensures told { OnTold (P.board port.old) (P.board port.new) (λ old new. IsNext old owners.old (beat_of pace) found.old → IfOk result (λ looked. IsLeftBy old new owners.new (beat_of pace) (found_if looked found.new) × (must_bring (beat_of pace) ≡ true → found.old ≢ found_so.Over → left new < left old))) }
     ensures continued { P.continues port.old port.new }
@@ -225,10 +230,12 @@ pub fn turn<P: Processor>(
     length: u32,
     found: &mut Found,
 ) -> Result<(), NoMemory>
-    // What the last look found, and what the quantum keeps, is this processor's.
+    // What the last look found, and what the quantum keeps, is this processor's; and for a thread that came to it the quantum was begun.
     requires so { P.is_so port.old found.old }
+    requires ready { IsReadyFor (P.seen port.old) quantum.old found.old }
     requires kept { AreAllAsOf (P.seen port.old) quantum.old }
     ensures so { OnOk result (P.is_so port.new found.new) }
+    ensures ready { OnOk result (IsReadyFor (P.seen port.new) quantum.new found.new) }
     ensures kept { AreAllAsOf (P.seen port.new) quantum.new }
 
     // Where the board is told, and its owners are: the next turn is one as this, and is nearer to the end.
@@ -246,7 +253,7 @@ pub fn turn<P: Processor>(
         Ok(())
     } else {
         *pace = pace.after(before < port.brought());
-        *found = port.look(pace.wants_first());
+        port.look(pace.wants_first(), quantum, found);
         Ok(())
     }
 }

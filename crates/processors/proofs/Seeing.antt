@@ -13,6 +13,7 @@ use Rattle.alone_run.specs.cache_board.specs.Pasts.{entries_of}
 use Rattle.alone_run.specs.cache_board.proofs.PastLaws.{kept_on, views_on}
 use Rattle.alone_run.specs.board_threads.specs.declared.tickets.Ticket.{Ticket}
 use Rattle.alone_run.specs.board_turns.specs.declared.found.Found.{Found}
+use Rattle.alone_run.specs.board_turns.specs.Holds.{IsReadyFor}
 use Rattle.alone_run.specs.board_turns.specs.Looks.{IsFound}
 use Rattle.alone_run.specs.board_turns.proofs.Looking.{so_found}
 use Rattle.processors.specs.Sharing.{IsSoOf}
@@ -56,6 +57,12 @@ views_seen after found b thread a same is views =
 
 pub kept_seen : (after : List (Entry × ℕ)) (b : Recorded) (a : Ahead) → after ≡ past_of b → AreAllAsOf b.journal.entries a → AreAllAsOf (entries_of after) a
 kept_seen after b a is kept = subst (λ (j : List Entry). AreAllAsOf j a) (sym (journal_seen after b is)) kept
+
+pub ready_seen : (after : List (Entry × ℕ)) (b : Recorded) (a : Ahead) (found : Found) → after ≡ past_of b → IsReadyFor b.journal.entries a found → IsReadyFor (entries_of after) a found
+ready_seen after b a found is ready = subst (λ (j : List Entry). IsReadyFor j a found) (sym (journal_seen after b is)) ready
+
+pub ready_seen_if : (after : List (Entry × ℕ)) (b : Recorded) (a : Ahead) (found : Option Found) → after ≡ past_of b → IfSome found (IsReadyFor b.journal.entries a) → IfSome found (IsReadyFor (entries_of after) a)
+ready_seen_if after b a found is ready = subst (λ (j : List Entry). IfSome found (IsReadyFor j a)) (sym (journal_seen after b is)) ready
 
 -- ---- tickets
 

@@ -1,13 +1,21 @@
 -- How long quanta are where several processors share a board.
-use Rattle.std.specs.Prelude.{ℕ, ◌*◌, ◌%◌, Bool, List, Option, Some, None, min, ltb, if◌then◌else◌, slice_index, slice_set}
+use Rattle.std.specs.Prelude.{ℕ, ◌*◌, ◌%◌, ◌&&◌, Bool, true, false, not, List, Option, Some, None, min, nat_le, if◌then◌else◌, slice_index, slice_set}
 use Rattle.cache_ident.specs.declared.names.ThreadNo.{ThreadNo}
 use Rattle.alone_run.specs.board_turns.specs.declared.found.Found.{Found}
 use Rattle.alone_run.specs.board_turns.specs.declared.found.Found.TheVariants.{Out, Wanted, Nothing, Over}
+use Rattle.processors.specs.declared.lengths.Length.{Length}
 
--- The length of a thread's next quantum, once one of that length took so many steps and was committed, or not: after one that ran to its
--- end it is twice as long, up to 1,024 steps, and after one that was refused it has 256.
-abbrev pub length_after : ℕ → ℕ → Bool → ℕ
-length_after length steps committed = if committed then (if ltb steps length then length else min (2 * length) 1024) else 256
+abbrev pub first_length : Length
+first_length = record { steps = 256; wary = false }
+
+-- How long a thread's next quantum may be, once one of that length took so many steps and was committed, or not. After one that was refused
+-- it has 256 steps; the next one that is committed leaves that so; and from then on each that ran to its end makes it twice as long, up to
+-- 1,024 steps.
+abbrev pub length_after : Length → ℕ → Bool → Length
+length_after length steps committed = record {
+  steps = if committed && nat_le length.steps steps && not length.wary then min (2 * length.steps) 1024 else (if committed then length.steps else 256);
+  wary = not committed;
+}
 
 -- of which thread a turn for whom was found may run a quantum
 abbrev pub runner_of : Found → Option ThreadNo
@@ -17,11 +25,11 @@ runner_of Nothing = None
 runner_of Over = None
 
 -- the length for the thread, if there is one
-abbrev pub length_for : List ℕ → Option ThreadNo → ℕ
-length_for lengths (Some whom) = slice_index lengths (whom.0 % 16)
+abbrev pub length_for : List Length → Option ThreadNo → ℕ
+length_for lengths (Some whom) = (slice_index lengths (whom.0 % 16)).steps
 length_for lengths None = 256
 
 -- .. once its quantum took so many steps
-abbrev pub lengths_after : List ℕ → Option ThreadNo → ℕ → Bool → List ℕ
+abbrev pub lengths_after : List Length → Option ThreadNo → ℕ → Bool → List Length
 lengths_after lengths (Some whom) steps committed = slice_set lengths (whom.0 % 16) (length_after (slice_index lengths (whom.0 % 16)) steps committed)
 lengths_after lengths None steps committed = lengths

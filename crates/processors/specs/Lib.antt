@@ -1,7 +1,6 @@
 pub use Rattle.alone_run.specs.board_turns
 pub mod Sharing
 pub mod Following
-pub mod Pages
 pub mod Parts
 pub mod Lengths
 pub mod Stops

@@ -1,22 +1,17 @@
 //! What one of several processors does while it holds the board.
 
-ghost use Rattle.std.specs.Prelude.{◌≡◌, ◌<◌, IfOk, IfSome, IsTrue, OnErr, OnOk};
-ghost use Rattle.std.specs.Result.{result_err};
+ghost use Rattle.std.specs.Prelude.{◌≡◌, ◌<◌, IfOk, IfSome};
 ghost use mathlib.Core.List.{IsPrefix};
 ghost use Rattle.turn_lock.specs.Passes.{found_by, held_lock, holder_end, holder_first, lock_of, value_of};
-ghost use Rattle.alone_run.specs.quantum.specs.page_views.specs.Views.{can_fill};
-ghost use Rattle.alone_run.specs.board_commits.specs.Refusals.{refusal_of_page};
 ghost use Rattle.alone_run.specs.board_commits.specs.Tickets.{AreAllAsOf, AreOfTicket};
-ghost use Rattle.alone_run.specs.board_core.specs.Core.{contents_of};
 ghost use Rattle.alone_run.specs.board_core.specs.Going.{IsOneEvent};
 ghost use Rattle.alone_run.specs.cache_board.specs.Events.{past_of};
-ghost use Rattle.alone_run.specs.board_turns.specs.Holds.{found_if, AreFewer};
+ghost use Rattle.alone_run.specs.board_turns.specs.Holds.{found_if, AreFewer, IsReadyFor};
 ghost use Rattle.alone_run.specs.board_turns.specs.Holds as holds;
-ghost use Rattle.processors.specs.Pages.{IsPagedFirst};
 ghost use Rattle.processors.specs.Sharing.{end_by, first_by, seen_by, IsSoOf, IsThere};
 
-use crate::recent::MOST_RECENT;
-use alone_run::turns::{Board, Committed, Found, Quantum, Refused, Ticket, commit_steps, find};
+use crate::recent::{MOST_RECENT, Recent};
+use alone_run::turns::{Board, Committed, Found, Quantum, Ticket, begin, commit_steps, find};
 use cache_ident::{NoMemory, Vpn};
 use std::sync::Wait;
 use turn_lock::{Held, Pass, Turn};
@@ -39,8 +34,8 @@ pub(crate) fn hold<'a, R: Wait>(
     }
 }
 
-/// Looks for the next thread, unless as many steps were taken as the processor stops with, and writes whom it finds to `next`.
-pub(crate) fn look(board: &mut Board, cpu: u32, limit: u64, want_first: bool, next: &mut Found)
+// Looks for the next thread, unless as many steps were taken as the processor stops with, and writes whom it finds to `next`.
+fn look_until(board: &mut Board, cpu: u32, limit: u64, want_first: bool, next: &mut Found)
     requires processor { cpu < 8 }
     ensures so { IsSoOf cpu limit board.new.journal.entries next.new }
     ensures event { IsOneEvent cpu board.old board.new }
@@ -53,77 +48,110 @@ pub(crate) fn look(board: &mut Board, cpu: u32, limit: u64, want_first: bool, ne
     find(board, cpu, want_first, next);
 }
 
+// Copies pages of the ticket's thread that have no view yet into its quantum, as far as their rows are loaded and there is room.
+fn copy_pages(
+    board: &Board,
+    ticket: &Ticket,
+    pages: [Option<Vpn>; MOST_RECENT],
+    quantum: &mut Quantum,
+)
+    requires views { AreOfTicket board.now.journal.entries ticket.now.thread quantum.old }
+    ensures views { AreOfTicket board.now.journal.entries ticket.now.thread quantum.new }
+    ensures steps { quantum.new.steps ≡ quantum.old.steps }
+{
+    for page in pages {
+        let Some(vpn) = page else {
+            return;
+        };
+        if quantum.can_fill(vpn) && board.page(ticket, vpn, quantum).is_err() {
+            return;
+        }
+    }
+}
+
+// Begins the quantum of a thread that came to the processor, where one did, with copies of the pages that it touched last there.
+fn begin_again(board: &Board, found: &Found, recent: &Recent, quantum: &mut Quantum)
+    requires kept { AreAllAsOf board.now.journal.entries quantum.old }
+    ensures ready { IsReadyFor board.now.journal.entries quantum.new found.now }
+    ensures kept { AreAllAsOf board.now.journal.entries quantum.new }
+{
+    begin(found, quantum);
+    if let Found::Out(ticket) = found {
+        copy_pages(board, ticket, recent.of(ticket.no), quantum);
+    }
+}
+
+/// Looks for the next thread, unless as many steps were taken as the processor stops with, and writes whom it finds to `next`. The
+/// quantum of a thread that came to the processor begins, with copies of the pages that it touched last there.
+pub(crate) fn look(
+    board: &mut Board,
+    cpu: u32,
+    limit: u64,
+    want_first: bool,
+    recent: &Recent,
+    quantum: &mut Quantum,
+    next: &mut Found,
+)
+    requires processor { cpu < 8 }
+    requires kept { AreAllAsOf board.old.journal.entries quantum.old }
+    ensures so { IsSoOf cpu limit board.new.journal.entries next.new }
+    ensures event { IsOneEvent cpu board.old board.new }
+    ensures ready { IsReadyFor board.new.journal.entries quantum.new next.new }
+    ensures kept { AreAllAsOf board.new.journal.entries quantum.new }
+{
+    look_until(board, cpu, limit, want_first, next);
+    begin_again(board, next, recent, quantum);
+}
+
 // A look behind something else, if an order is given. Answers whether one is.
 fn look_if(
     board: &mut Board,
     cpu: u32,
     limit: u64,
     want_first: Option<bool>,
+    recent: &Recent,
+    quantum: &mut Quantum,
     next: &mut Found,
 ) -> bool
     requires processor { cpu < 8 }
+    requires kept { AreAllAsOf board.old.journal.entries quantum.old }
     ensures so { IfSome (found_if result next.new) (IsSoOf cpu limit board.new.journal.entries) }
     ensures event { IsOneEvent cpu board.old board.new }
+    ensures ready { IfSome (found_if result next.new) (IsReadyFor board.new.journal.entries quantum.new) }
+    ensures kept { AreAllAsOf board.new.journal.entries quantum.new }
 {
     board.holds();
     match want_first {
         Some(want_first) => {
-            look(board, cpu, limit, want_first, next);
+            look(board, cpu, limit, want_first, recent, quantum, next);
             true
         }
         None => false,
     }
 }
 
-/// Copies the page of a loaded row of the ticket's thread into the quantum; and behind it, of other pages, those that have no view yet, as
-/// far as their rows are loaded and there is room.
-pub(crate) fn pages(
-    board: &Board,
-    ticket: &Ticket,
-    vpn: Vpn,
-    others: [Option<Vpn>; MOST_RECENT],
-    quantum: &mut Quantum,
-) -> Result<(), Refused>
-    requires room { IsTrue (can_fill quantum.old.most quantum.old.views vpn) }
-    requires kept { AreAllAsOf board.now.journal.entries quantum.old }
-    ensures exact { result_err result ≡ refusal_of_page (contents_of board.now) ticket.now vpn }
-    ensures refused { OnErr result (quantum.new ≡ quantum.old) }
-    ensures filled { OnOk result (IsPagedFirst board.now ticket.now vpn quantum.old quantum.new) }
-    ensures steps { quantum.new.steps ≡ quantum.old.steps }
-    ensures views { AreOfTicket board.now.journal.entries ticket.now.thread quantum.old → AreOfTicket board.now.journal.entries ticket.now.thread quantum.new }
-{
-    board.page(ticket, vpn, quantum)?;
-    for other in others {
-        let Some(other) = other else {
-            return Ok(());
-        };
-        if quantum.can_fill(other) && board.page(ticket, other, quantum).is_err() {
-            return Ok(());
-        }
-    }
-    Ok(())
-}
-
 /// Makes the steps of a quantum happen, and gives the thread back, but where they are too many and some are left; and then looks, if
-/// an order is given. Whom the look found is written to `next`.
+/// an order is given. Whom the look found is written to `next`, and a quantum begins for it.
 pub(crate) fn commit(
     board: &mut Board,
     ticket: &Ticket,
-    quantum: &mut Quantum,
     limit: u64,
     want_first: Option<bool>,
+    recent: &Recent,
+    quantum: &mut Quantum,
     next: &mut Found,
 ) -> Result<Committed, NoMemory>
     requires processor { ticket.now.cpu < 8 }
     requires views { AreOfTicket board.old.journal.entries ticket.now.thread quantum.old }
     ensures so { IfOk result (λ committed. IfSome (holds.found_by next.new committed) (IsSoOf ticket.now.cpu limit board.new.journal.entries)) }
+    ensures ready { IfOk result (λ committed. IfSome (holds.found_by next.new committed) (IsReadyFor board.new.journal.entries quantum.new)) }
     ensures fewer { IfOk result (AreFewer quantum.old.steps) }
     ensures event { IsOneEvent ticket.now.cpu board.old board.new }
     ensures kept { AreAllAsOf board.new.journal.entries quantum.new }
 {
     match commit_steps(board, ticket, quantum)? {
         Committed::Taken { .. } => Ok(Committed::Taken {
-            looked: look_if(board, ticket.cpu, limit, want_first, next),
+            looked: look_if(board, ticket.cpu, limit, want_first, recent, quantum, next),
         }),
         Committed::TooMany(left) => Ok(Committed::TooMany(left)),
         Committed::Lost => Ok(Committed::Lost),

@@ -1,7 +1,7 @@
 //! How long quanta are where several processors share a board.
 
 ghost use Rattle.std.specs.Prelude.{◌≡◌, replicate};
-ghost use Rattle.processors.specs.Lengths.{length_after, length_for, lengths_after, runner_of};
+ghost use Rattle.processors.specs.Lengths.{first_length, length_after, length_for, lengths_after, runner_of};
 
 use alone_run::turns::Found;
 use cache_ident::ThreadNo;
@@ -15,16 +15,34 @@ const LONGEST: u32 = 1_024;
 // For so many threads the lengths are kept. Threads whose numbers are the same modulo this have one length.
 const PLACES: usize = 16;
 
+/// How long a thread's next quantum may be.
+#[derive(Clone, Copy)]
+struct Length {
+    steps: u32,
+    // Whether the last one was refused. The next one that is committed doesn't make it longer then.
+    wary: bool,
+}
+
+const FIRST: Length = Length {
+    steps: SHORTEST,
+    wary: false,
+};
+
 // The length of a thread's next quantum, once one of that length took so many steps and was committed or refused.
-fn length_after(length: u32, steps: u32, committed: bool) -> u32
+fn length_after(length: Length, steps: u32, committed: bool) -> Length
     ensures { result ≡ length_after length steps committed }
 {
-    if !committed {
-        SHORTEST
-    } else if steps < length {
-        length
+    let longer = committed && length.steps <= steps && !length.wary;
+    let steps = if longer {
+        length.steps.saturating_mul(2).min(LONGEST)
+    } else if committed {
+        length.steps
     } else {
-        length.saturating_mul(2).min(LONGEST)
+        SHORTEST
+    };
+    Length {
+        steps,
+        wary: !committed,
     }
 }
 
@@ -39,19 +57,20 @@ pub(crate) fn runner(found: &Found) -> Option<ThreadNo>
 }
 
 /// How many steps the next quantum of a thread may have. A thread that runs to the end of its quanta gets longer ones, so that the
-/// board is held less often; one whose quanta are refused gets short ones, so that less is lost.
+/// board is held less often; one whose quanta are refused gets short ones, so that less is lost: of threads that write to one page each
+/// goes ahead only as far as the others let it.
 #[derive(Clone, Copy)]
 pub(crate) struct Lengths {
-    of_threads: [u32; PLACES],
+    of_threads: [Length; PLACES],
 }
 
 impl Lengths {
     /// All are the shortest.
     pub(crate) fn new() -> Lengths
-        ensures { result.of_threads ≡ replicate 16 256 }
+        ensures { result.of_threads ≡ replicate 16 first_length }
     {
         Lengths {
-            of_threads: [SHORTEST; PLACES],
+            of_threads: [FIRST; PLACES],
         }
     }
 
@@ -60,7 +79,7 @@ impl Lengths {
         ensures { result ≡ length_for self.now.of_threads runner }
     {
         match runner {
-            Some(thread) => self.of_threads[thread.0 as usize % PLACES],
+            Some(thread) => self.of_threads[thread.0 as usize % PLACES].steps,
             None => SHORTEST,
         }
     }

@@ -45,7 +45,8 @@ fn take_turns<R: Wait, P: Processor + RanLast>(
 {
     let mut lengths = Lengths::new();
     let mut pace = Pace::new();
-    let mut found = port.look(pace.wants_first());
+    let mut found = Found::Over;
+    port.look(pace.wants_first(), quantum, &mut found);
     'turns: for _ in rt.forever() {
         match found {
             Found::Nothing => return Stop::Idle,

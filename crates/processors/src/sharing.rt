@@ -7,7 +7,7 @@ ghost use Rattle.processors.specs.Following.{begins_with_seen, goes_further, goe
 ghost use Rattle.processors.specs.Sharing.{IsSoOf, SeesMore};
 
 use crate::gate::Gate;
-use crate::holds::{commit, hold, look, pages};
+use crate::holds::{commit, hold, look};
 use crate::recent::Recent;
 use crate::run::RanLast;
 use alone_run::turns::{
@@ -235,24 +235,23 @@ impl<R: Wait, G: Gate> Processor for Sharing<'_, R, G> {
         self.gate.at(self.cpu, point);
     }
 
-    fn look(&mut self, want_first: bool) -> Found {
+    fn look(&mut self, want_first: bool, quantum: &mut Quantum, next: &mut Found) {
         let mut held = hold(self.rt, self.lock, &mut self.pass);
-        let mut found = Found::Over;
         look(
             held.value_mut(),
             self.cpu,
             self.limit,
             want_first,
-            &mut found,
+            &self.recent,
+            quantum,
+            next,
         );
         self.pass = Some(held.release());
-        found
     }
 
     fn page(&mut self, ticket: &Ticket, vpn: Vpn, quantum: &mut Quantum) -> Result<(), Refused> {
-        let recent = self.recent.of(ticket.no);
         let held = hold(self.rt, self.lock, &mut self.pass);
-        let answer = pages(held.value(), ticket, vpn, recent, quantum);
+        let answer = held.value().page(ticket, vpn, quantum);
         self.pass = Some(held.release());
         answer
     }
@@ -275,7 +274,15 @@ impl<R: Wait, G: Gate> Processor for Sharing<'_, R, G> {
         self.last_steps = steps;
         self.recent.note(ticket.no, quantum);
         let mut held = hold(self.rt, self.lock, &mut self.pass);
-        let answer = commit(held.value_mut(), ticket, quantum, self.limit, look, next);
+        let answer = commit(
+            held.value_mut(),
+            ticket,
+            self.limit,
+            look,
+            &self.recent,
+            quantum,
+            next,
+        );
         self.pass = Some(held.release());
         let committed = answer?;
         self.brought = brought_by(committed, steps, self.brought);

@@ -16,7 +16,7 @@ use cache_ident::NoMemory;
 use flat_state::Decl;
 use std::alloc::{AllocError, Global};
 use std::sync::Wait;
-use std::thread::{Threads, map_vec};
+use std::thread::{Threads, join};
 use turn_lock::{Pass, Turn};
 
 // Runs the processor of a pass. Its owners and its quantum are made here, in its own thread; where there is no memory for them, it does
@@ -44,7 +44,40 @@ fn run_with_pass<R: Wait, G: Gate>(
     pass
 }
 
-// Runs the processors of the passes side by side.
+// Runs the processor of each pass in a thread of its own, and waits for all of them.
+fn run_each<R: Threads + Wait + Sync, G: Gate + Sync>(
+    rt: &R,
+    alloc: Global,
+    lock: &Turn<Board>,
+    passes: Vec<Pass<Board>>,
+    decls: &[Decl],
+    limit: u64,
+    gate: &G,
+) -> Result<Vec<Pass<Board>>, NoMemory>
+    requires passes { All (λ pass. IsPassOf lock.now pass × (first_of pass < 8)) passes.items }
+    ensures { IfOk result (λ after. AllZip (HasGoneOn lock.now) passes.items after.items) }
+{
+    let mut passes = passes;
+    let Some(pass) = passes.pop() else {
+        return Ok(passes);
+    };
+    let last = move || -> Pass<Board>
+        requires { IsSync R.row × (IsPassOf lock.now pass × (first_of pass < 8)) }
+        ensures { HasGoneOn lock.entry.now pass result }
+    { run_with_pass(rt, alloc, lock, pass, decls, limit, gate) };
+    let others = move || -> Result<Vec<Pass<Board>>, NoMemory>
+        requires { IsSync R.row × All (λ pass. IsPassOf lock.now pass × (first_of pass < 8)) passes.items }
+        ensures { IfOk result (λ after. AllZip (HasGoneOn lock.entry.now) passes.items after.items) }
+    { run_each(rt, alloc, lock, passes, decls, limit, gate) };
+    let (last, others) = join(rt, last, others);
+    let mut after = others?;
+    after.push(last)?;
+    Ok(after)
+}
+
+// Runs the processors of the passes side by side. This thread runs none of them, and has waited just before it makes the first thread:
+// where a system puts a new thread on the processor of the one that makes it, neither then stands in the other's way for the
+// milliseconds until the system looks again.
 fn run_with_passes<R: Threads + Wait + Sync, G: Gate + Sync>(
     rt: &R,
     alloc: Global,
@@ -57,14 +90,8 @@ fn run_with_passes<R: Threads + Wait + Sync, G: Gate + Sync>(
     requires passes { All (λ pass. IsPassOf lock.now pass × (first_of pass < 8)) passes.items }
     ensures { IfOk result (λ after. AllZip (HasGoneOn lock.now) passes.items after.items) }
 {
-    map_vec(
-        rt,
-        passes,
-        &|pass: Pass<Board>| -> Pass<Board>
-            requires { IsSync R.row × (IsPassOf lock.now pass × (first_of pass < 8)) }
-            ensures { HasGoneOn lock.entry.now pass result }
-        { run_with_pass(rt, alloc, lock, pass, decls, limit, gate) },
-    )
+    join(rt, || (), || ());
+    run_each(rt, alloc, lock, passes, decls, limit, gate)
 }
 
 /// Runs so many processors side by side on a board, with owners of these declarations, until each of them has nothing to do, or the board

@@ -1,24 +1,24 @@
 use Rattle.std.proofs.Common.{Bool, subst, rules, ◌∙◌}
-use Rattle.board_turns.specs.Following.{begins_with_seen, grown_more}
+use Rattle.board_turns.specs.Following.{grown_more}
 use Rattle.board_turns.specs.Looks.{HasLooked}
 use Rattle.board_turns.specs.Paces.{beat_of}
-use Rattle.board_turns.proofs.Later.{kept_later}
 use Rattle.board_turns.proofs.Next.{next_looked}
 use Rattle.alone_run.proofs.run.take_turns.Goals as goal
 
 pub turns-init : goal.turns-init
 turns-init c =
     let before = c.args.port.now in
-    let look = c.look-found in
+    let look = c.look in
     let after = look.new.self in
     let grown = look.ensures.continued.1 in
-    let looked = subst (λ (w : Bool). HasLooked w before.board.now after.board.now look.result) c.wants_first.ensures look.ensures.told in
+    let looked = subst (λ (w : Bool). HasLooked w before.board.now after.board.now look.new.next) c.wants_first.ensures look.ensures.told in
     record {
       same = look.ensures.continued.0;
       grown = grown;
-      next = next_looked before.board.now after.board.now before.brought after.brought grown c.args.owners.now (beat_of c.new-pace.result) look.result c.requires.rest looked;
+      next = next_looked before.board.now after.board.now before.brought after.brought grown c.args.owners.now (beat_of c.new-pace.result) look.new.next c.requires.rest looked;
       so = look.ensures.so;
-      kept = kept_later before.board.now.journal.entries after.board.now.journal.entries c.args.quantum.now (begins_with_seen before.board.now after.board.now before.brought after.brought grown) c.requires.kept;
+      ready = look.ensures.ready;
+      kept = look.ensures.kept;
     }
 
 pub turns-preserved : goal.turns-preserved
@@ -32,6 +32,7 @@ turns-preserved c =
       grown = grown_more first.board.now before.board.now after.board.now first.brought before.brought after.brought c.turns.invariant.grown turn.ensures.continued.1;
       next = c.in_ok-turn-in_default.ensures.next c.turns.invariant.next;
       so = c.in_ok-turn-in_default.ensures.so;
+      ready = c.in_ok-turn-in_default.ensures.ready;
       kept = turn.ensures.kept;
     }
 

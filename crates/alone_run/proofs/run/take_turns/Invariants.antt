@@ -1,5 +1,6 @@
 use Rattle.std.proofs.Common.{◌≡◌}
 use Rattle.board_turns.specs.board_commits.specs.Tickets.{AreAllAsOf}
+use Rattle.board_turns.specs.Holds.{IsReadyFor}
 use Rattle.board_turns.specs.Looks.{IsSoAlone}
 use Rattle.board_turns.specs.Paces.{beat_of}
 use Rattle.board_turns.specs.Turning.{turns_left, HasGrown, IsNext}
@@ -11,6 +12,7 @@ invariant-turns l = record {
   grown : HasGrown l.fn.port.board.now l.fn.port.brought l.port.board.now l.port.brought;
   next : IsNext l.port.board.now l.owners (beat_of l.pace) l.found;
   so : IsSoAlone l.port.board.now l.found;
+  ready : IsReadyFor l.port.board.now.journal.entries l.quantum l.found;
   kept : AreAllAsOf l.port.board.now.journal.entries l.quantum;
 }
 

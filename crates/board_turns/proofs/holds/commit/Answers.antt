@@ -1,7 +1,6 @@
 use Rattle.std.proofs.Common.{None, subst}
 use Rattle.board_turns.specs.declared.committed.Committed.{Committed}
 use Rattle.board_turns.specs.Holds.{found_if, HasCommitted}
-use Rattle.board_turns.proofs.Later.{kept_event}
 use Rattle.board_turns.proofs.Looking.{taken_then}
 use Rattle.board_turns.proofs.holds.commit.Goals as goal
 
@@ -24,6 +23,3 @@ pub returns-in-Lost-clause-committed : goal.returns-in-Lost-clause-committed
 returns-in-Lost-clause-committed c =
     let next = c.args.next.now in
     subst (λ (x : Committed). HasCommitted c.args.ticket.now c.args.quantum.now None c.args.board.now c.commit_steps.new.board next x) c.in-Lost.is (c.in_ok-commit_steps.ensures.committed next)
-
-pub returns-in-Taken-clause-kept : goal.returns-in-Taken-clause-kept
-returns-in-Taken-clause-kept c = kept_event 0 c.commit_steps.new.board c.look_if.new.board c.look_if.ensures.event c.commit_steps.new.quantum c.commit_steps.ensures.kept

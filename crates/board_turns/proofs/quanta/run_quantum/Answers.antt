@@ -2,6 +2,7 @@ use Rattle.std.proofs.Common.{subst}
 use Rattle.app_kernel.specs.owner_ports.specs.Boards.{OnTold}
 use Rattle.board_turns.specs.declared.committed.Committed.{Committed}
 use Rattle.board_turns.specs.Paces.{beat_of}
+use Rattle.board_turns.proofs.Later.{begun_ready}
 use Rattle.board_turns.proofs.Told.{leaves_lost, leaves_taken, stays_longer, Tries}
 use Rattle.board_turns.proofs.quanta.run_quantum.Goals as goal
 
@@ -29,7 +30,7 @@ loop-tried-preserved g c =
     let tries = subst (λ (x : Committed). OnTold m b (Tries (beat_of c.args.pace) c.args.ticket.now c.try_steps.new.next x)) c.in-TooMany.is c.in_ok-tried.ensures.told in
     record {
       own = L.owns before after c.args.ticket.now c.try_steps.ensures.continued c.loop-tried.invariant.own;
-      kept = c.try_steps.ensures.kept;
+      ready = begun_ready (g.P.Processor.seen after) c.try_steps.new.quantum c.begin.new.self c.args.ticket.now c.begin.ensures c.try_steps.ensures.kept;
       told = stays_longer (beat_of c.args.pace) c.args.ticket.now (g.P.Port.board c.args.port.now) m b c.loop-tried.invariant.told c.try_steps.new.next c.in-TooMany.left tries;
       continued = L.further c.args.port.now before after c.loop-tried.invariant.continued c.try_steps.ensures.continued;
     }

@@ -1,7 +1,8 @@
 use Rattle.std.proofs.Common.{Bool, Some, subst}
+use Rattle.std.specs.Prelude.{IfSome}
 use Rattle.app_kernel.specs.owner_ports.specs.Boards.{OnTold}
 use Rattle.app_kernel.specs.reach_laws.specs.Reaching.{IsOwned}
-use Rattle.board_turns.specs.Holds.{found_if}
+use Rattle.board_turns.specs.Holds.{found_if, IsReadyFor}
 use Rattle.board_turns.specs.Paces.{beat_of}
 use Rattle.board_turns.proofs.Later.{kept_later}
 use Rattle.board_turns.proofs.Told.{found_behind, granted, grown_owned, told_then, Leaves}
@@ -46,6 +47,10 @@ returns-in_ok-grant-clause-owned g c =
     let known = c.args.owners.now in
     told_then (g.P.Port.board before) (g.P.Port.board ran) (g.P.Port.board c.grant.new.port) (λ x. IsOwned x known) (λ x. IsOwned x known) (λ x. IsOwned x c.grant.new.owners)
     (grown_owned (g.P.Port.board before) (g.P.Port.board ran) (g.P.Processor.progress before) (g.P.Processor.progress ran) (g.met.P.Processor.grew before ran c.run_quantum.ensures.continued) known) c.grant.ensures.owned
+
+pub returns-then-ran-clause-ready : goal.returns-then-ran-clause-ready
+returns-then-ran-clause-ready g c =
+    subst (λ (looked : Bool). IfSome (found_if looked c.run_quantum.new.next) (IsReadyFor (g.P.Processor.seen c.run_quantum.new.port) c.run_quantum.new.quantum)) c.if-ran.true c.in_ok-ran.ensures.ready
 
 pub returns-then-ran-clause-told : goal.returns-then-ran-clause-told
 returns-then-ran-clause-told g c =

@@ -4,15 +4,8 @@ use Rattle.board_turns.specs.Holds.{found_if}
 use Rattle.board_turns.specs.Looks.{HasLooked}
 use Rattle.board_turns.specs.Paces.{beat_of, wants_first, Beat}
 use Rattle.board_turns.specs.Turning.{IsNext}
-use Rattle.board_turns.proofs.Later.{kept_later}
 use Rattle.board_turns.proofs.Told.{turn_looked, Takes}
 use Rattle.board_turns.proofs.turns.turn.Goals as goal
-
-pub returns-else-looked-clause-kept : goal.returns-else-looked-clause-kept
-returns-else-looked-clause-kept g c =
-    let mid = c.take.new.port in
-    let after = c.look.new.self in
-    kept_later (g.P.Processor.seen mid) (g.P.Processor.seen after) c.take.new.quantum (g.met.P.Processor.grows mid after c.look.ensures.continued) c.take.ensures.kept
 
 pub returns-else-looked-clause-next : goal.returns-else-looked-clause-next
 returns-else-looked-clause-next g c =
@@ -23,7 +16,7 @@ returns-else-looked-clause-next g c =
     let m = g.P.Port.board mid in
     let b = g.P.Port.board after in
     let takes = subst (λ (l : Bool). OnTold a m (Takes c.args.owners.now c.take.new.owners (beat_of c.args.pace.now) c.args.found.now (found_if l c.take.new.found))) c.if-looked.false c.in_ok-looked.ensures.told in
-    let looked = subst (λ (w : Bool). OnTold m b (λ x y. HasLooked w x y c.look.result)) (c.wants_first.ensures ∙ ap wants_first c.after-else-looked.ensures) c.look.ensures.told in
-    subst (λ (k : Beat). OnTold a b (λ x y. IsNext x c.args.owners.now (beat_of c.args.pace.now) c.args.found.now → IsNext y c.take.new.owners k c.look.result)) (sym c.after-else-looked.ensures)
-    (turn_looked a m b c.args.owners.now c.take.new.owners (beat_of c.args.pace.now) c.args.found.now c.look.result _ (g.P.Processor.progress before) (g.P.Processor.progress mid) (g.P.Processor.progress after)
+    let looked = subst (λ (w : Bool). OnTold m b (λ x y. HasLooked w x y c.look.new.next)) (c.wants_first.ensures ∙ ap wants_first c.after-else-looked.ensures) c.look.ensures.told in
+    subst (λ (k : Beat). OnTold a b (λ x y. IsNext x c.args.owners.now (beat_of c.args.pace.now) c.args.found.now → IsNext y c.take.new.owners k c.look.new.next)) (sym c.after-else-looked.ensures)
+    (turn_looked a m b c.args.owners.now c.take.new.owners (beat_of c.args.pace.now) c.args.found.now c.look.new.next _ (g.P.Processor.progress before) (g.P.Processor.progress mid) (g.P.Processor.progress after)
     (g.met.P.Processor.grew before mid c.take.ensures.continued) takes (g.met.P.Processor.grew mid after c.look.ensures.continued) looked)

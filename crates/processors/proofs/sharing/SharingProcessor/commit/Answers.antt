@@ -4,7 +4,7 @@ use Rattle.alone_run.specs.cache_board.specs.Pasts.{entries_of}
 use Rattle.alone_run.specs.board_turns.specs.Holds as holds
 use Rattle.processors.specs.Sharing.{seen_by, Sharer}
 use Rattle.processors.proofs.Holding.{journal_seen, seen_on, sees_more, signed}
-use Rattle.processors.proofs.Seeing.{kept_seen, so_seen_if, views_found}
+use Rattle.processors.proofs.Seeing.{kept_seen, ready_seen_if, so_seen_if, views_found}
 use Rattle.processors.proofs.sharing.SharingProcessor.commit.Goals as goal
 
 pub release-requires : goal.release-requires
@@ -48,3 +48,8 @@ returns-in_err-committed-clause-kept g c = kept_seen (seen_of c.release.result) 
 
 pub returns-clause-kept : goal.returns-clause-kept
 returns-clause-kept g c = kept_seen (seen_of c.release.result) c.commit-answer.new.board c.commit-answer.new.quantum c.release.ensures.seen c.commit-answer.ensures.kept
+
+pub returns-clause-ready : goal.returns-clause-ready
+returns-clause-ready g c =
+    let quantum = c.commit-answer.new.quantum in
+    ready_seen_if (seen_of c.release.result) c.commit-answer.new.board quantum (holds.found_by c.commit-answer.new.next c.in_ok-committed.committed) c.release.ensures.seen c.in_ok-committed.ensures.ready

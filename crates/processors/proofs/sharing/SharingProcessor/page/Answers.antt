@@ -17,8 +17,8 @@ returns-clause-continued g c =
     let seen = seen_still (seen_by at.pass) (seen_of c.release.result) (value_of held.result) held.ensures.begins c.release.ensures.seen in
     sees_more at.lock.now at.cpu at.pass c.release.result at.limit at.heard _ at.brought _ (c.release.ensures.range.1 ∙ held.ensures.range.1) seen c.args.self.now c.self.view_is
 
-pub pages-answer-requires-clause-kept : goal.pages-answer-requires-clause-kept
-pages-answer-requires-clause-kept g c =
+pub page-answer-requires-clause-kept : goal.page-answer-requires-clause-kept
+page-answer-requires-clause-kept g c =
     let at = c.self.inside in
     kept_found (seen_by at.pass) c.args.self.now.seen (value_of c.hold-held.result) c.value.result.now c.args.quantum.now (ap (λ (it : Sharer). it.seen) c.self.view_is) c.value.ensures c.hold-held.ensures.begins c.requires.kept
 
@@ -28,5 +28,5 @@ returns-clause-views g c = λ views.
     let b = c.value.result.now in
     let found = value_of c.hold-held.result in
     let thread = c.args.ticket.now.thread in
-    views_seen (seen_of c.release.result) found b thread c.pages-answer.new.quantum c.value.ensures c.release.ensures.seen
-    (c.pages-answer.ensures.views (views_found (seen_by at.pass) c.args.self.now.seen found b c.args.quantum.now (ap (λ (it : Sharer). it.seen) c.self.view_is) c.value.ensures c.hold-held.ensures.begins thread views))
+    views_seen (seen_of c.release.result) found b thread c.page-answer.new.quantum c.value.ensures c.release.ensures.seen
+    (c.page-answer.ensures.views (views_found (seen_by at.pass) c.args.self.now.seen found b c.args.quantum.now (ap (λ (it : Sharer). it.seen) c.self.view_is) c.value.ensures c.hold-held.ensures.begins thread views))
