@@ -1,6 +1,6 @@
 -- Parts of the numbers of a lock, one behind another, and what they have seen.
 use Rattle.std.proofs.Common.{◌≡◌, ℕ, suc, ◌<◌, ◌≤◌, List, [], ◌∷◌, ◌++◌, length, refl, sym, ◌∙◌, ap, subst, append_assoc, append-nil, arith}
-use Rattle.std.specs.Prelude.{slice_index_or, All, Result, Ok, Err, IfOk}
+use Rattle.std.specs.Prelude.{All}
 use Rattle.std.specs.List.{AllByRecursion, AllZip}
 use Rattle.std.proofs.lemmas.List.Elements.{All-from_recursion, recursion_from_All}
 use mathlib.Core.List.{IsPrefix}
@@ -41,19 +41,6 @@ nothing_left [] none = refl
 nothing_left (x ∷ xs) none = absurd (omega arith)
 
 -- ---- passes that go on side by side
-
--- what is so of the results of all jobs, place by place
-pub zip_from_each : {A B : Type 0} (R : A → B → Type 0) (xs : List A) (ys : List B) → length ys ≡ length xs → ((k : ℕ) (d : B) → k < length xs → (a : A) × ((e : A) → slice_index_or xs k e ≡ a) × R a (slice_index_or ys k d)) → AllZip R xs ys
-zip_from_each R [] [] same each = tt
-zip_from_each R [] (y ∷ ys) same each = absurd (omega arith)
-zip_from_each R (x ∷ xs) [] same each = absurd (omega arith)
-zip_from_each {B = B} R (x ∷ xs) (y ∷ ys) same each =
-    let first = each 0 y (omega arith) in
-    (subst (λ a. R a y) (sym (first.1 x)) first.2, zip_from_each R xs ys (omega arith) (λ k d less. each (suc k) d (omega arith)))
-
-pub both_when_ok : {X E : Type 0} (r : Result X E) (P Q W : X → Type 0) → ((x : X) → P x → Q x → W x) → IfOk r P → IfOk r Q → IfOk r W
-both_when_ok (Ok x) P Q W f p q = f x p q
-both_when_ok (Err e) P Q W f p q = tt
 
 module _ {X E : Type 0} {g : Ghosts X E} (lock : Turn X E) where
   -- parts that went on are parts still

@@ -45,6 +45,7 @@ fn run_with_pass<R: Wait, G: Gate>(
 }
 
 // Runs the processor of each pass in a thread of its own, and waits for all of them.
+#[cycle(each)]
 fn run_each<R: Threads + Wait + Sync, G: Gate + Sync>(
     rt: &R,
     alloc: Global,
