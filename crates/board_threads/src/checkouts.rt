@@ -35,6 +35,7 @@ const MOST_LOADED: usize = 256;
 ///
 /// It goes over the loaded threads, and looks at the next step of the first that is ready, unless no row has a receiver. Only where
 /// that isn't runnable, it sorts all that are ready, and looks at one after another until one is. It takes no memory.
+#[inline(always)]
 pub fn checkout(core: &mut Core, cpu: u32) -> Option<Ticket>
     requires processor { cpu < 8 }
     ensures nobody { IfNone result ((candidate : Candidate) → IsWaiting core.old candidate → ⊥) }
@@ -167,6 +168,7 @@ fn first_runnable(core: &Core, waiting: &[Candidate]) -> Option<ThreadNo>
 }
 
 // The ticket of a thread that is loaded. `near` may be the identifier that it is loaded with.
+#[inline(always)]
 fn ticket_of(core: &Core, cpu: u32, no: ThreadNo, near: Option<Ident>) -> Ticket
     requires processor { cpu < 8 }
     requires loaded { IsNameResident (residents_of (contents_of core.now)) (Name.Thread no) }

@@ -287,6 +287,7 @@ impl Board {
     /// Takes the next thread to a processor: of the loaded runnable ones that are on none, the one of the highest priority;
     /// among those the one that was checked out the longest ago; among those the one with the lowest number. None where there
     /// is none.
+    #[inline(always)]
     pub fn checkout(&mut self, cpu: u32) -> Option<Ticket>
         requires processor { cpu < 8 }
         ensures nobody { IfNone result ((candidate : Candidate) → IsWaiting self.old candidate → ⊥) }
