@@ -1,5 +1,5 @@
 -- How long quanta are where several processors share a board.
-use Rattle.std.specs.Prelude.{ℕ, ◌*◌, ◌%◌, ◌&&◌, Bool, true, false, not, List, Option, Some, None, min, nat_le, if◌then◌else◌, slice_index, slice_set}
+use Rattle.std.specs.Prelude.{ℕ, ◌*◌, ◌%◌, ◌&&◌, Bool, true, false, not, List, Option, Some, None, min, nat_le, if◌then◌else◌, slice_index_or, slice_set}
 use Rattle.cache_ident.specs.declared.names.ThreadNo.{ThreadNo}
 use Rattle.alone_run.specs.board_turns.specs.declared.found.Found.{Found}
 use Rattle.alone_run.specs.board_turns.specs.declared.found.Found.TheVariants.{Out, Wanted, Nothing, Over}
@@ -26,10 +26,10 @@ runner_of Over = None
 
 -- the length for the thread, if there is one
 abbrev pub length_for : List Length → Option ThreadNo → ℕ
-length_for lengths (Some whom) = (slice_index lengths (whom.0 % 16)).steps
+length_for lengths (Some whom) = (slice_index_or lengths (whom.0 % 16) first_length).steps
 length_for lengths None = 256
 
 -- .. once its quantum took so many steps
 abbrev pub lengths_after : List Length → Option ThreadNo → ℕ → Bool → List Length
-lengths_after lengths (Some whom) steps committed = slice_set lengths (whom.0 % 16) (length_after (slice_index lengths (whom.0 % 16)) steps committed)
+lengths_after lengths (Some whom) steps committed = slice_set lengths (whom.0 % 16) (length_after (slice_index_or lengths (whom.0 % 16) first_length) steps committed)
 lengths_after lengths None steps committed = lengths
