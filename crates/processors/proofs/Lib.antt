@@ -1,4 +1,5 @@
 pub mod Holding
+pub mod Paging
 pub mod Seeing
 pub mod Parting
 pub mod Stopping

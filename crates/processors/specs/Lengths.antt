@@ -1,5 +1,5 @@
 -- How long quanta are where several processors share a board.
-use Rattle.std.specs.Prelude.{ℕ, ◌*◌, ◌%◌, ◌&&◌, Bool, true, false, not, List, Option, Some, None, min, nat_le, if◌then◌else◌, slice_index_or, slice_set}
+use Rattle.std.specs.Prelude.{ℕ, ◌*◌, ◌%◌, ◌&&◌, Bool, false, not, List, Option, Some, None, min, nat_le, if◌then◌else◌, slice_index_or, slice_set}
 use Rattle.cache_ident.specs.declared.names.ThreadNo.{ThreadNo}
 use Rattle.alone_run.specs.board_turns.specs.declared.found.Found.{Found}
 use Rattle.alone_run.specs.board_turns.specs.declared.found.Found.TheVariants.{Out, Wanted, Nothing, Over}

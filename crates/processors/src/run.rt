@@ -1,6 +1,6 @@
 //! A processor on the board.
 
-ghost use Rattle.std.specs.Prelude.{◌≡◌, ◌<◌, ◌≤◌, IfSome};
+ghost use Rattle.std.specs.Prelude.{◌<◌, ◌≤◌, IfSome};
 ghost use mathlib.Core.List.{IsPrefix};
 ghost use Rattle.turn_lock.specs.Passes.{first_of, seen_of, HasSameRange, IsPassOf};
 ghost use Rattle.alone_run.specs.run_journal.specs.Entries.{steps_in};
