@@ -40,7 +40,7 @@ module _ {T : Type 0} (called : T → Name) where
       by next true passes here = omega (arith, ap length (filter_all (λ r. not (is_named called name r)) xs (kept passes)))
       by next false fails later = omega (arith, next later)
 
-  length-added : (rows new_rows : List (Shelved T)) (row : Shelved T) → IsAdded rows new_rows row → length new_rows ≡ length rows + 1
+  pub length-added : (rows new_rows : List (Shelved T)) (row : Shelved T) → IsAdded rows new_rows row → length new_rows ≡ length rows + 1
   length-added rows new_rows row added = ap length added.2 ∙ length-insert rows added.0 row added.1
 
   module _ (kind : Kind) where

@@ -1,5 +1,5 @@
 -- The descriptors of a kind in their seats, and what is seen of them.
-use Rattle.std.specs.Prelude.{◌≡◌, ℕ, ◌+◌, ◌≤◌, true, false, if◌then◌else◌, List, length, count_by, filter_map, is_some, slice_set, All, Contains, Option, Some, None}
+use Rattle.std.specs.Prelude.{◌≡◌, ◌⊎◌, ℕ, ◌+◌, ◌≤◌, true, false, if◌then◌else◌, List, length, count_by, filter_map, is_some, slice_set, All, Contains, Option, Some, None}
 use Rattle.std.specs.Ordering.{nat_cmp}
 use Rattle.cache_ident.specs.declared.idents.Ident.{Ident}
 use Rattle.cache_ident.specs.declared.idents.Kind.{Kind}
@@ -39,6 +39,13 @@ module _ {T : Type 0} where
   abbrev pub seen_in : List (Option ℕ) → Slab (Seat T) → Sorted Name ℕ → Seen T
   seen_in slots records index = record { cells = cells_in records.slots slots; shelf = record { room = index.room; rows = rows_in records.slots index.entries } }
 
+  -- no serial stands twice, and the list by serial has what is loaded and not locked
+  pub record AreBySerial (cells : List (Option (Loaded T))) (by_serial : Sorted ℕ ℕ) : Type 0 where
+    pub once : IsOncePerSerial cells
+    pub lists : Lists nat_cmp (IsUnlocked cells) by_serial.entries
+    pub len : length by_serial.entries ≡ count_by is_unlocked cells
+    pub room : by_serial.room ≡ length cells
+
   -- what is loaded sits in the seat that its slot holds
   pub record IsSeatFor (kind : Kind) (seats : List (Option (Seat T))) (slot key : ℕ) : Type 0 where
     pub seat : Seat T
@@ -48,23 +55,23 @@ module _ {T : Type 0} where
     pub kind_is : seat.loaded.ident.kind ≡ kind
 
 module _ {T : Type 0} (called : T → Name) where
-  -- a seat of that name is at its key
-  abbrev pub IsKept : List (Option (Seat T)) → Name × ℕ → Type 0
-  IsKept seats entry = (seat : Seat T) × (seat_at seats entry.1 ≡ Some seat) × (called seat.loaded.value ≡ entry.0)
+  -- the seat at the key has the name
+  abbrev pub HasName : List (Option (Seat T)) → Name → ℕ → Type 0
+  HasName seats name key = (seat : Seat T) × (seat_at seats key ≡ Some seat) × (called seat.loaded.value ≡ name)
+
+  -- so it has, or the name leads to the key
+  abbrev pub LeadsTo : List (Option (Seat T)) → List (Name × ℕ) → Name → ℕ → Type 0
+  LeadsTo seats entries name key = HasName seats name key ⊎ Contains entries (name, key)
 
   -- what holds of slots, seats and names together
   pub record IsSeated (kind : Kind) (slots : List (Option ℕ)) (by_serial : Sorted ℕ ℕ) (records : Slab (Seat T)) (index : Sorted Name ℕ) : Type 0 where
     -- a slot holds the key of what is loaded in it, and each that is loaded stands in its slot
     pub seated : (slot key : ℕ) → slot_at slots slot ≡ Some key → IsSeatFor kind records.slots slot key
     pub slotted : (key : ℕ) (seat : Seat T) → seat_at records.slots key ≡ Some seat → seat.is_loaded ≡ true → slot_at slots seat.loaded.ident.slot ≡ Some key
-    -- the list by serial has what is loaded and not locked
-    pub one_serial : IsOncePerSerial (cells_in records.slots slots)
-    pub serials : Lists nat_cmp (IsUnlocked (cells_in records.slots slots)) by_serial.entries
-    pub serials_len : length by_serial.entries ≡ count_by is_unlocked (cells_in records.slots slots)
-    pub serials_room : by_serial.room ≡ length slots
+    pub serials : AreBySerial (cells_in records.slots slots) by_serial
     -- each name leads to its seat, and there is no other
     pub index_is : IsIndex (order.ghosts).cmp index
-    pub kept : All (IsKept records.slots) index.entries
+    pub kept : All (λ entry. HasName records.slots entry.0 entry.1) index.entries
     pub listed : (key : ℕ) (seat : Seat T) → seat_at records.slots key ≡ Some seat → Contains index.entries (called seat.loaded.value, key)
     pub counted : slab_len records ≡ length index.entries
     pub all : count_by is_some (cells_in records.slots slots) + length (rows_in records.slots index.entries) ≡ length index.entries

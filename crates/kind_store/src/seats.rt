@@ -1,12 +1,12 @@
 //! The seats of a kind, and the slots and names that lead there.
 
-ghost use Rattle.std.specs.Prelude.{◌≡◌, ◌+◌, ◌-◌, ◌<◌, [], length, option_copied, replicate, slice_set, Some, None, IfNone, IfOk, IfSome, IsSome, OnErr, OnOk};
+ghost use Rattle.std.specs.Prelude.{◌≡◌, ◌≢◌, ◌<◌, [], All, length, option_copied, replicate, slice_set, Some, None, IfNone, IfOk, IfSome, IsSome, OnErr, OnOk};
 ghost use Rattle.std.specs.Fn.{FnOnceReturnsAtMut};
 ghost use Rattle.sorted_list.specs.Sorted.{IsAdded};
 ghost use Rattle.slot_cache.specs.Cells.{cell_at, changed, loaded_in, with_lock, with_value, HasExactlyLoaded, HasNoName, HasNoSerial, IsContent, IsFull, IsInOrderOfSlot, IsLoaded, IsLowestFree, IsVictim, LockIs, MayGo, MayNotGo, NameIs, NoneMayGo};
 ghost use Rattle.owner_shelf.specs.Rows.{content_under, rows_without, HasNoRow, LeavesName};
 ghost use Rattle.kind_store.specs.Kept.{content_of, count_of, kept_in, IsSound};
-ghost use Rattle.kind_store.specs.Seated.{IsPutBack, IsSeatOf, IsTakenIn, IsUpdated};
+ghost use Rattle.kind_store.specs.Seated.{HasName, IsPutBack, IsSeatOf, IsTakenIn, IsUpdated, LeadsTo};
 
 use cache_ident::{Ident, KernelNo, Name, NoMemory};
 use growing_list::GrowingList;
@@ -97,13 +97,14 @@ impl<T: Descriptor + Drop> Seats<T> {
         }
     }
 
-    /// The seat of a name. One search.
-    pub(crate) fn of_name(&self, name: Name) -> Option<&Seat<T>>
+    /// The seat of a name. One search, and constant time where what stands at the slot of `near` has the name.
+    #[inline(always)]
+    pub(crate) fn of_name(&self, name: Name, near: Option<Ident>) -> Option<&Seat<T>>
         ensures found { IfSome result (λ seat. IsSeatOf T.called self.now name seat.now) }
         ensures unloaded { IfNone result (HasNoName T.called self.now.cells name) }
         ensures absent { IfNone result (HasNoRow T.called self.now.shelf.rows name) }
     {
-        let key = self.by_name.find(&name)?;
+        let key = key_of(&self.slots, &self.records, &self.by_name, name, near)?;
         Some(&self.records[key])
     }
 
@@ -134,12 +135,23 @@ impl<T: Descriptor + Drop> Seats<T> {
     {
         for place in 0..self.by_serial.len() {
             if let Some((_, slot)) = self.by_serial.get(place) {
-                if let Some(ident) = may_go(self.at(slot), keep) {
+                if let Some(ident) = self.may_go(slot, keep) {
                     return Some(ident);
                 }
             }
         }
         None
+    }
+
+    // The identifier of what stands at a slot, if that is neither locked nor kept.
+    fn may_go(&self, slot: u32, keep: &[Ident]) -> Option<Ident>
+        ensures some { IfSome result (MayGo (cell_at self.now.cells slot) keep.now) }
+        ensures none { IfNone result (MayNotGo (cell_at self.now.cells slot) keep.now) }
+    {
+        match self.at(slot) {
+            Some(loaded) if !loaded.locked && !keep.contains(&loaded.ident) => Some(loaded.ident),
+            _ => None,
+        }
     }
 
     /// What is loaded, in order of slot.
@@ -265,8 +277,8 @@ impl<T: Descriptor + Drop> Seats<T> {
         mem::replace(&mut seat.loaded.value, value)
     }
 
-    /// Changes the content of a name in its seat, but for its name, and gives what the change gives. The search begins at
-    /// what is loaded with `near`, and is made only where that has another name.
+    /// Changes the content of a name in its seat, but for its name, and gives what the change gives. The seat is found as by
+    /// `of_name`.
     pub(crate) fn update<R, F: FnOnce(&mut T) -> R>(
         &mut self,
         name: Name,
@@ -279,40 +291,48 @@ impl<T: Descriptor + Drop> Seats<T> {
         ensures updated { IsUpdated T.called (FnOnceReturnsAtMut F.FnOnce change) self.old self.new name result }
         ensures sound { IsSound T.called T.KIND self.new.cells self.new.shelf }
     {
-        let Some(key) = self.key_of(name, near) else {
+        let Some(key) = key_of(&self.slots, &self.records, &self.by_name, name, near) else {
             unreachable!()
         };
         let seat = &mut self.records[key];
         change(&mut seat.loaded.value)
     }
+}
 
-    // The key of the seat of a name. No search is made where the name is loaded with the identifier `near`.
-    #[inline(always)]
-    fn key_of(&self, name: Name, near: Option<Ident>) -> Option<usize> {
-        match near {
-            Some(ident) if self.is_loaded_as(name, ident) => self.slots.get(ident.slot),
-            _ => self.by_name.find(&name),
-        }
-    }
-
-    // Whether a name is loaded with that identifier.
-    #[inline(always)]
-    pub(crate) fn is_loaded_as(&self, name: Name, ident: Ident) -> bool
-    {
-        match self.get(ident) {
-            Some(value) => value.name() == name,
-            None => false,
-        }
+// The key of the seat of a name. No search is made where what stands at the slot of `near` has it.
+#[inline(always)]
+fn key_of<T: Descriptor + Drop>(
+    slots: &Slots,
+    records: &Slab<Seat<T>>,
+    by_name: &GrowingList<Name, usize>,
+    name: Name,
+    near: Option<Ident>,
+) -> Option<usize>
+    ensures found { IfSome result (LeadsTo T.called records.now.slots by_name.now.entries name) }
+    ensures absent { IfNone result (All (λ entry. entry.0 ≢ name) by_name.now.entries) }
+{
+    match near_key(slots, records, name, near) {
+        Some(key) => Some(key),
+        None => by_name.find(&name),
     }
 }
 
-// The identifier of what is loaded, if it is neither locked nor kept.
-fn may_go<T>(loaded: Option<&Loaded<T>>, keep: &[Ident]) -> Option<Ident>
-    ensures some { IfSome result (λ ident. MayGo (option_copied loaded) keep.now ident) }
-    ensures none { IfNone result (MayNotGo (option_copied loaded) keep.now) }
+// The key that the slot of `near` holds, if the seat there is that of the name.
+#[inline(always)]
+fn near_key<T: Descriptor + Drop>(
+    slots: &Slots,
+    records: &Slab<Seat<T>>,
+    name: Name,
+    near: Option<Ident>,
+) -> Option<usize>
+    ensures { IfSome result (HasName T.called records.now.slots name) }
 {
-    match loaded {
-        Some(loaded) if !loaded.locked && !keep.contains(&loaded.ident) => Some(loaded.ident),
-        _ => None,
+    let ident = near?;
+    let key = slots.get(ident.slot)?;
+    let seat = records.get(key)?;
+    if seat.loaded.value.name() == name {
+        Some(key)
+    } else {
+        None
     }
 }

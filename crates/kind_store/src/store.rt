@@ -106,7 +106,7 @@ impl<T: Descriptor + Drop> KindStore<T> {
         ensures shelved { IfSome result (λ found. IfNone found.ident (HasNoName T.called self.now.cells name)) }
         ensures one { IsExactlyOne T.called T.KIND self.now }
     {
-        let seat = self.seats.of_name(name)?;
+        let seat = self.seats.of_name(name, None)?;
         let ident = if seat.is_loaded {
             Some(seat.loaded.ident)
         } else {
@@ -130,20 +130,15 @@ impl<T: Descriptor + Drop> KindStore<T> {
         ensures content { option_copied result ≡ content_of T.called self.now name }
         ensures one { IsExactlyOne T.called T.KIND self.now }
     {
-        match near {
-            Some(ident) if self.seats.is_loaded_as(name, ident) => self.seats.get(ident),
-            _ => {
-                let seat = self.seats.of_name(name)?;
-                Some(&seat.loaded.value)
-            }
-        }
+        let seat = self.seats.of_name(name, near)?;
+        Some(&seat.loaded.value)
     }
 
     /// The owner under which a descriptor stands on the shelf; `None` where it isn't there.
     pub fn owner_of(&self, name: Name) -> Option<KernelNo>
         ensures { result ≡ option_map (λ row. row.owner) (row_under T.called self.now.rows name) }
     {
-        match self.seats.of_name(name) {
+        match self.seats.of_name(name, None) {
             Some(seat) if !seat.is_loaded => Some(seat.owner),
             _ => None,
         }
@@ -165,12 +160,9 @@ impl<T: Descriptor + Drop> KindStore<T> {
         ensures absent { IfNone result (HasNoName T.called self.now.cells name) }
         ensures one { IsExactlyOne T.called T.KIND self.now }
     {
-        match near {
-            Some(ident) if self.seats.is_loaded_as(name, ident) => near,
-            _ => match self.seats.of_name(name) {
-                Some(seat) if seat.is_loaded => Some(seat.loaded.ident),
-                _ => None,
-            },
+        match self.seats.of_name(name, near) {
+            Some(seat) if seat.is_loaded => Some(seat.loaded.ident),
+            _ => None,
         }
     }
 
