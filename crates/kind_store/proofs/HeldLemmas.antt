@@ -108,13 +108,13 @@ module _ {T : Type 0} where
   -- each row is that of an entry
   pub row_from : (seats : List (Option (Seat T))) (entries : List (Name × ℕ)) (row : Shelved T) → Contains (rows_in seats entries) row → (e : Name × ℕ) × Contains entries e × (row_of (seat_at seats e.1) ≡ Some row)
   row_from seats [] row there = let never : there.0 < 0 = there.1 in absurd (omega (arith, never))
-  row_from seats (e ∷ es) row there = by (row_of (seat_at seats e.1)) refl there
+  row_from seats (e ∷ es) row there = by (λ later. row_from seats es row later) (row_of (seat_at seats e.1)) refl there
     where
-      by : (o : Option (Shelved T)) → row_of (seat_at seats e.1) ≡ o → Contains (cons_option o (rows_in seats es)) row → (x : Name × ℕ) × Contains (e ∷ es) x × (row_of (seat_at seats x.1) ≡ Some row)
-      by None is there = let it = row_from seats es row there in (it.0, Contains-later es e it.0 it.1, it.2)
-      by (Some first) is there = elim (Contains-cons_cases (rows_in seats es) first row there) [
+      by : (Contains (rows_in seats es) row → (x : Name × ℕ) × Contains es x × (row_of (seat_at seats x.1) ≡ Some row)) → (o : Option (Shelved T)) → row_of (seat_at seats e.1) ≡ o → Contains (cons_option o (rows_in seats es)) row → (x : Name × ℕ) × Contains (e ∷ es) x × (row_of (seat_at seats x.1) ≡ Some row)
+      by next None is there = let it = next there in (it.0, Contains-later es e it.0 it.1, it.2)
+      by next (Some first) is there = elim (Contains-cons_cases (rows_in seats es) first row there) [
         | inl same ↦ (e, (0, omega arith, refl), is ∙ ap (λ (r : Shelved T). Some r) (sym same))
-        | inr there ↦ let it = row_from seats es row there in (it.0, Contains-later es e it.0 it.1, it.2)
+        | inr later ↦ let it = next later in (it.0, Contains-later es e it.0 it.1, it.2)
       ]
 
 module _ {T : Type 0} (called : T → Name) where
@@ -166,17 +166,14 @@ module _ {T : Type 0} (called : T → Name) where
     -- each row has a name of its own where each entry has
     pub rows-once : (entries : List (Name × ℕ)) → All (λ entry. HasName called seats entry.0 entry.1) entries → AllPairs (λ a b. a.0 ≢ b.0) entries → AllPairs (λ a b. called a.content ≢ called b.content) (rows_in seats entries)
     rows-once [] kept once = λ i j d lt within. absurd (omega (arith, within))
-    rows-once (e ∷ es) kept once = by (row_of (seat_at seats e.1)) refl
+    rows-once (e ∷ es) kept once = by (rows-once es (All-tail Kept e es kept) (λ i j d lt within. once (suc i) (suc j) d (omega arith) (omega arith))) (row_of (seat_at seats e.1)) refl
       where
-        rest : AllPairs (λ a b. called a.content ≢ called b.content) (rows_in seats es)
-        rest = rows-once es (All-tail Kept e es kept) (λ i j d lt within. once (suc i) (suc j) d (omega arith) (omega arith))
-
         others : HasNoRow called (rows_in seats es) e.0
         others = rows-absent e.0 es (All-tail Kept e es kept) (λ k d within same. once 0 (suc k) d (omega arith) (omega arith) (sym same))
 
-        by : (o : Option (Shelved T)) → row_of (seat_at seats e.1) ≡ o → AllPairs (λ a b. called a.content ≢ called b.content) (cons_option o (rows_in seats es))
-        by None is = rest
-        by (Some row) is = AllPairs-cons (λ (a : Shelved T) (b : Shelved T). called a.content ≢ called b.content) row (rows_in seats es) (λ k d within same. others k d within (sym same ∙ row_named seats e.0 e.1 row (All-head Kept e es kept) is)) rest
+        by : AllPairs (λ a b. called a.content ≢ called b.content) (rows_in seats es) → (o : Option (Shelved T)) → row_of (seat_at seats e.1) ≡ o → AllPairs (λ a b. called a.content ≢ called b.content) (cons_option o (rows_in seats es))
+        by rest None is = rest
+        by rest (Some row) is = AllPairs-cons (λ (a : Shelved T) (b : Shelved T). called a.content ≢ called b.content) row (rows_in seats es) (λ k d within same. others k d within (sym same ∙ row_named seats e.0 e.1 row (All-head Kept e es kept) is)) rest
 
   -- where the seat of a name is no row any more, the others are the rows without the name
   pub rows-drop : (old new : List (Option (Seat T))) (name : Name) (entries : List (Name × ℕ)) → All (λ entry. HasName called old entry.0 entry.1) entries → All (λ entry. entry.0 ≡ name → row_of (seat_at new entry.1) ≡ None) entries → All (λ entry. entry.0 ≢ name → row_of (seat_at new entry.1) ≡ row_of (seat_at old entry.1)) entries → rows_in new entries ≡ rows_without called (rows_in old entries) name

@@ -94,7 +94,7 @@ module _ {T : Type 0} (called : T → Name) (kind : Kind) (slots : List (Option 
     pub put-sound : slab_len new ≡ slab_len records + 1 → new.capacity ≡ records.capacity → new_index.room ≡ index.room → IsIndex (order.ghosts).cmp new_index → IsSeated called kind slots by_serial new new_index
     put-sound len capacity room proper =
         let longer = ap length added.2 ∙ length-insert index.entries added.0 (called seat.loaded.value, key) added.1 in
-        let more = length-added rows (rows_in new.slots new_index.entries) row put-rows in
+        let more = length-added called rows (rows_in new.slots new_index.entries) row put-rows in
         record {
           seated = λ slot k at. let s = sound.seated slot k at in record { seat = s.seat; at = updates.others k (put_apart slot k at) ∙ s.at; loaded = s.loaded; slot_is = s.slot_is; kind_is = s.kind_is };
           slotted = λ k x at on. elim (cases_eq k key) [
@@ -262,7 +262,7 @@ module _ {T : Type 0} (called : T → Name) (kind : Kind) (slots : List (Option 
           let shelved = subst (λ v. content_under called rows (called v) ≡ Some v) (sym same) load-content in
           let free_at = subst (λ k. cell_at cells k ≡ None) (sym slot_is) load-free in
           let counted = count-loading called kind cells shelf (in_order called kind slots by_serial records index sound) x (omega (arith, slot_is, n, within)) free_at shelved in
-          let moved : count_by is_some (set cells slot (Some x)) + length (rows_without called rows (called seat.loaded.value)) ≡ count_by is_some cells + length rows = rw (slot_is, ap called same) at counted in
+          let moved : count_by is_some (set cells slot (Some x)) + length (rows_without called rows (called seat.loaded.value)) ≡ count_by is_some cells + length rows = subst (λ k. count_by is_some (set cells k (Some x)) + length (rows_without called rows (called seat.loaded.value)) ≡ count_by is_some cells + length rows) slot_is (subst (λ v. count_by is_some (set cells x.ident.slot (Some x)) + length (rows_without called rows (called v)) ≡ count_by is_some cells + length rows) same counted) in
           record {
             seated = λ other k at. elim (cases_eq other slot) [
               | inl is ↦
@@ -353,7 +353,7 @@ module _ {T : Type 0} (called : T → Name) (kind : Kind) (slots : List (Option 
             let slot = seat.loaded.ident.slot in
             let within = cell_within slots slot key holds in
             let count = count-take cells slot seat.loaded there in
-            let more = length-added rows (rows_in new.slots index.entries) (record { owner = now.owner; content = now.loaded.value }) leave-rows in
+            let more = length-added called rows (rows_in new.slots index.entries) (record { owner = now.owner; content = now.loaded.value }) leave-rows in
             record {
               seated = λ other k at. elim (cases_eq other slot) [
                 | inl is ↦ absurd (some_none (slot_at (set slots slot None) slot) k (ap (slot_at (set slots slot None)) (sym is) ∙ at) (here slots slot None within))
