@@ -1,5 +1,5 @@
 -- What stands at slots and on the shelf, once a seat or a slot has changed.
-use Rattle.std.proofs.Common.{◌≡◌, ◌≢◌, ◌⊎◌, ℕ, zero, suc, ◌+◌, ◌<◌, ◌≤◌, Bool, true, false, not, List, [], ◌∷◌, length, get_or, map, set, All, AllPairs, Contains, Option, Some, None, sym, ◌∙◌, ap, subst, inl, inr, refl, arith}
+use Rattle.std.proofs.Common.{◌≡◌, ◌≢◌, ◌⊎◌, ℕ, zero, suc, ◌+◌, ◌<◌, ◌≤◌, Bool, true, false, not, List, [], ◌∷◌, length, get_or, filter_map, map, set, All, AllPairs, Contains, Option, Some, None, sym, ◌∙◌, ap, subst, inl, inr, refl, arith}
 use Rattle.std.specs.List.{cons_option, insert, remove}
 use Rattle.std.specs.Option.{option_map}
 use Rattle.std.specs.Prelude.{if◌then◌else◌}
@@ -12,7 +12,7 @@ use Rattle.sorted_list.specs.Sorted.{IsAdded}
 use Rattle.sorted_list.proofs.ListLemmas.{Contains-cons_cases, Contains-later}
 use Rattle.slot_cache.specs.declared.loaded.Loaded.{Loaded}
 use Rattle.slot_cache.specs.declared.seats.Seat.{Seat}
-use Rattle.slot_cache.specs.Cells.{cell_at}
+use Rattle.slot_cache.specs.Cells.{cell_at, loaded_in}
 use Rattle.slot_cache.specs.Seats.{cells_in, held_in, seat_at}
 use Rattle.slot_cache.specs.Slots.{slot_at}
 use Rattle.slot_cache.proofs.SlotLemmas.{some_same}
@@ -51,6 +51,12 @@ module _ {T : Type 0} where
   -- a slot that is written changes what stands there
   pub cells-set : (seats : List (Option (Seat T))) (slots : List (Option ℕ)) (slot : ℕ) (c : Option ℕ) → cells_in seats (set slots slot c) ≡ set (cells_in seats slots) slot (held_in seats c)
   cells-set seats slots slot c = map-set (held_in seats) slots slot c
+
+  -- what is loaded is what sits in the seats that slots hold
+  pub loaded-taken : (seats : List (Option (Seat T))) (slots : List (Option ℕ)) → loaded_in (cells_in seats slots) ≡ filter_map (λ key. held_in seats (Some key)) (filter_map (λ slot. slot) slots)
+  loaded-taken seats [] = refl
+  loaded-taken seats (None ∷ slots) = loaded-taken seats slots
+  loaded-taken seats (Some key ∷ slots) = ap (cons_option (held_in seats (Some key))) (loaded-taken seats slots)
 
   -- rows of seats that stay are the same rows
   pub rows-same : (old new : List (Option (Seat T))) (entries : List (Name × ℕ)) → All (λ entry. row_of (seat_at new entry.1) ≡ row_of (seat_at old entry.1)) entries → rows_in new entries ≡ rows_in old entries

@@ -13,3 +13,4 @@ pub mod HeldLemmas
 pub mod SeatedLemmas
 pub mod SerialLemmas
 pub mod SeatEdits
+pub mod SeatUpdates

@@ -73,7 +73,7 @@ module _ {T : Type 0} (called : T → Name) (kind : Kind) (cells : List (Option 
 
   -- onto the shelf for the first time
   module _ (row : Shelved T) (absent : content_of called (kept_in cells shelf) (called row.content) ≡ None) where
-    new_unloaded : HasNoName called cells (called row.content)
+    pub new_unloaded : HasNoName called cells (called row.content)
     new_unloaded = no_loaded called (kept_in cells shelf) (called row.content) sound.slots.one_name absent
 
     pub new_absent : HasNoRow called shelf.rows (called row.content)

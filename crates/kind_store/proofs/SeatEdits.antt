@@ -1,8 +1,9 @@
 -- What seats, slots and names show once one has changed.
-use Rattle.std.proofs.Common.{◌≡◌, ◌≢◌, ◌⊎◌, ℕ, ◌+◌, ◌<◌, ◌≤◌, Bool, true, false, cond, List, length, get_or, set, count_by, is_some, All, Contains, Option, Some, None, sym, ◌∙◌, ap, subst, inl, inr, refl, arith}
+use Rattle.std.proofs.Common.{◌≡◌, ◌≢◌, ◌⊎◌, ℕ, zero, suc, ◌+◌, ◌<◌, ◌≤◌, Bool, true, false, cond, List, [], ◌∷◌, length, get_or, set, count_by, is_some, lit<, replicate, All, Contains, Option, Some, None, sym, ◌∙◌, ap, subst, inl, inr, refl, arith}
 use Rattle.std.specs.List.{insert, remove}
 use Rattle.std.specs.Option.{option_map}
 use Rattle.std.specs.Ordering.{nat_cmp}
+use Rattle.std.specs.Prelude.{OnErr, OnOk, Result, Ok, Err}
 use Rattle.std.proofs.lemmas.Bool.{cases_eq, false≢true}
 use Rattle.std.proofs.lemmas.List.{get_or_default, length-map, set-set}
 use Rattle.std.proofs.lemmas.List.Edits.{length-insert, length-remove}
@@ -14,7 +15,9 @@ use Rattle.cache_ident.specs.declared.names.Name.{Name}
 use Rattle.cache_ident.specs.contracts.names.NameOrd.TheImpl as order
 use Rattle.cache_ident.specs.contracts.names.NameOrd.TheImpl.Laws as laws
 use Rattle.sorted_list.specs.Sorted.{IsAdded, IsTakenOut, Sorted}
+use Rattle.sorted_list.specs.Sorted.{IsProper as IsProperList}
 use Rattle.growing_list.specs.Index.{IsIndex}
+use Rattle.growing_list.proofs.IndexLemmas.{index_grown}
 use Rattle.slab.specs.Slab.{Slab, slab_len, with_value, Updates}
 use Rattle.slab.proofs.SlabLemmas.{ContainsKey-within, Updates-with_value}
 use Rattle.slot_cache.specs.declared.loaded.Loaded.{Loaded}
@@ -23,7 +26,8 @@ use Rattle.slot_cache.specs.Cells.{cell_at}
 use Rattle.slot_cache.specs.Seats.{cells_in, held_in, seat_at}
 use Rattle.slot_cache.specs.Slots.{slot_at}
 use Rattle.slot_cache.proofs.IndexLemmas.{inserted, once, removed}
-use Rattle.slot_cache.proofs.SlotLemmas.{cell_within, count-same, count-take, elsewhere, here, pair_same, some_same}
+use Rattle.slot_cache.proofs.NameLemmas.{same_name}
+use Rattle.slot_cache.proofs.SlotLemmas.{all_none, cell_within, count-none, count-same, count-take, elsewhere, here, pair_same, some_same}
 use Rattle.owner_shelf.specs.declared.shelved.Shelved.{Shelved}
 use Rattle.owner_shelf.specs.Rows.{content_under, row_with, rows_with, rows_without, OnShelf}
 use Rattle.owner_shelf.proofs.SoundLemmas.{some_is}
@@ -32,10 +36,34 @@ use Rattle.kind_store.specs.Seated.{row_of, rows_in, AreBySerial, HasName, IsSea
 use Rattle.kind_store.proofs.ContentLemmas.{cases_name}
 use Rattle.kind_store.proofs.HeldLemmas.{cells-at, cells-one, cells-same, cells-set, row_named, rows-drop, rows-fill, rows-insert, rows-map, rows-same, rows-without_none}
 use Rattle.kind_store.proofs.SeatedLemmas.{in_order, kept_at, no_row_is, one_key, one_slot, others_apart, row_is, row_under_is, shown_at}
+use Rattle.kind_store.proofs.SerialLemmas.{serials-new}
 use Rattle.kind_store.proofs.SoundLemmas.{count-loading, count-retracting, length-added}
 
 some_none : {X : Type 0} (o : Option X) (x : X) → o ≡ Some x → o ≡ None → ⊥
 some_none o x some none = cc
+
+-- of slots that hold nothing
+pub cells-none : {T : Type 0} (seats : List (Option (Seat T))) (n : ℕ) → cells_in seats (replicate n None) ≡ replicate n None
+cells-none seats zero = refl
+cells-none seats (suc n) = ap (λ cs. None ∷ cs) (cells-none seats n)
+
+pub sound-none : {T : Type 0} (called : T → Name) (kind : Kind) (cap : ℕ) (slots : List (Option ℕ)) (by_serial : Sorted ℕ ℕ) (records : Slab (Seat T)) (index : Sorted Name ℕ) → slots ≡ replicate cap None → by_serial ≡ record { room = cap; entries = [] } → records.slots ≡ [] → index ≡ record { room = 0; entries = [] } → IsSeated called kind slots by_serial records index
+sound-none {T} called kind cap slots by_serial records index no_slot no_serial no_seat no_name =
+    let none : (slot key : ℕ) → slot_at slots slot ≡ Some key → ⊥ = λ slot key at. some_none (slot_at slots slot) key at (ap (λ l. slot_at l slot) no_slot ∙ all_none cap slot) in
+    let nothing : (key : ℕ) (seat : Seat T) → seat_at records.slots key ≡ Some seat → ⊥ = λ key seat at. some_none (seat_at records.slots key) seat at (ap (λ (l : List (Option (Seat T))). seat_at l key) no_seat) in
+    let entries = ap (λ (s : Sorted Name ℕ). s.entries) no_name in
+    let room = ap (λ (s : Sorted Name ℕ). s.room) no_name in
+    record {
+      seated = λ slot key at. absurd (none slot key at);
+      slotted = λ key seat at. absurd (nothing key seat at);
+      serials = rw (no_slot, cells-none records.slots cap) (serials-new cap by_serial no_serial);
+      index_is = rw no_name (record { rising = λ i j d lt within. absurd (omega (arith, within)); few = omega arith; small = lit< tt });
+      kept = rw entries (λ k d within. absurd (omega (arith, within)));
+      listed = λ key seat at. absurd (nothing key seat at);
+      counted = rw (no_seat, entries) refl;
+      all = rw (no_slot, cells-none records.slots cap, entries) (omega (arith, count-none T cap));
+      roomy = omega (arith, room);
+    }
 
 module _ {T : Type 0} (called : T → Name) (kind : Kind) (slots : List (Option ℕ)) (by_serial : Sorted ℕ ℕ) (records : Slab (Seat T)) (index : Sorted Name ℕ) (sound : IsSeated called kind slots by_serial records index) where
   abbrev cells : List (Option (Loaded T))
@@ -65,6 +93,15 @@ module _ {T : Type 0} (called : T → Name) (kind : Kind) (slots : List (Option 
       all = rw (same, entries) sound.all;
       roomy = roomy;
     }
+
+  -- whether there is room for more names or not
+  pub sound-after : {A B : Type 0} (result : Result A B) (room : ℕ) (new : Slab (Seat T)) (new_index : Sorted Name ℕ) → OnOk result (new_index ≡ record index { room = room }) → OnErr result (new_index ≡ index) → IsProperList (order.ghosts).cmp nat_cmp new_index → new.slots ≡ records.slots → index.room ≤ room → room ≤ new.capacity → IsSeated called kind slots by_serial new new_index
+  sound-after (Ok x) room new new_index ok err proper same grows roomy =
+      let entries = ap (λ (s : Sorted Name ℕ). s.entries) ok in
+      sound-grown new new_index same entries (index_grown (order.ghosts).cmp laws.total-law same_name nat_cmp index new_index sound.index_is entries proper) (rw (ap (λ (s : Sorted Name ℕ). s.room) ok) roomy)
+  sound-after (Err e) room new new_index ok err proper same grows roomy =
+      let entries = ap (λ (s : Sorted Name ℕ). s.entries) err in
+      sound-grown new new_index same entries (index_grown (order.ghosts).cmp laws.total-law same_name nat_cmp index new_index sound.index_is entries proper) (rw (ap (λ (s : Sorted Name ℕ). s.room) err) (omega (arith, grows, roomy)))
 
   -- a seat came to a key at which there was none
   module _ (new : Slab (Seat T)) (new_index : Sorted Name ℕ) (key : ℕ) (seat : Seat T) (vacant : seat_at records.slots key ≡ None) (updates : Updates records new key (Some seat)) (off : seat.is_loaded ≡ false) (added : IsAdded index.entries new_index.entries (called seat.loaded.value, key)) where

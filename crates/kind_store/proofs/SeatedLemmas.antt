@@ -1,9 +1,9 @@
 -- What seats, slots and names show.
-use Rattle.std.proofs.Common.{◌≡◌, ◌≢◌, ◌⊎◌, ℕ, zero, suc, ◌+◌, ◌<◌, ◌≤◌, Bool, true, false, List, length, get_or, count_by, is_some, All, AllPairs, Contains, Option, Some, None, sym, ◌∙◌, ap, subst, inl, inr, refl, arith}
+use Rattle.std.proofs.Common.{◌≡◌, ◌≢◌, ◌⊎◌, ℕ, zero, suc, ◌+◌, ◌<◌, ◌≤◌, Bool, true, false, List, length, get_or, count_by, is_some, All, AllPairs, Contains, Option, Some, None, IsSome, sym, ◌∙◌, ap, subst, inl, inr, refl, arith}
 use Rattle.std.specs.Option.{option_map}
 use Rattle.std.specs.Prelude.{if◌then◌else◌}
 use Rattle.std.proofs.lemmas.Bool.{cases_lt, false≢true}
-use Rattle.std.proofs.lemmas.List.{get_or_default}
+use Rattle.std.proofs.lemmas.List.{get_or_default, length-map}
 use Rattle.std.proofs.lemmas.List.Elements.{All-contains, Contains-get_or}
 use Rattle.cache_ident.specs.declared.idents.Ident.{Ident}
 use Rattle.cache_ident.specs.declared.idents.Kind.{Kind}
@@ -13,17 +13,18 @@ use Rattle.sorted_list.specs.Sorted.{Sorted}
 use Rattle.slab.specs.Slab.{Slab}
 use Rattle.slot_cache.specs.declared.loaded.Loaded.{Loaded}
 use Rattle.slot_cache.specs.declared.seats.Seat.{Seat}
-use Rattle.slot_cache.specs.Cells.{cell_at, HasNoName}
+use Rattle.slot_cache.specs.Cells.{cell_at, HasNoName, IsFull, IsLowestFree}
 use Rattle.slot_cache.specs.Index.{IsRising}
 use Rattle.slot_cache.specs.Seats.{cells_in, held_in, seat_at}
-use Rattle.slot_cache.specs.Slots.{slot_at}
+use Rattle.slot_cache.specs.Slots.{slot_at, HasNoGap, IsLowestGap}
 use Rattle.slot_cache.specs.Table.{IsPlaced}
 use Rattle.slot_cache.proofs.IndexLemmas.{less≢equal}
 use Rattle.slot_cache.proofs.NameLemmas.{name_itself}
 use Rattle.slot_cache.proofs.SlotLemmas.{some_same}
 use Rattle.owner_shelf.specs.declared.shelved.Shelved.{Shelved}
-use Rattle.owner_shelf.specs.Rows.{row_under, HasNoRow}
+use Rattle.owner_shelf.specs.Rows.{content_under, row_under, HasNoRow}
 use Rattle.owner_shelf.proofs.RowLaws.{under-absent}
+use Rattle.owner_shelf.proofs.SoundLemmas.{some_is}
 use Rattle.kind_store.specs.Kept.{IsSound}
 use Rattle.kind_store.specs.Seated.{row_of, rows_in, seen_in, HasName, IsSeated, IsSeatFor, IsSeatOf, IsShelvedAs, LeadsTo, Seen}
 use Rattle.kind_store.proofs.HeldLemmas.{cells-at, row_at, row_from, row_named, rows-absent, rows-once}
@@ -115,6 +116,26 @@ module _ {T : Type 0} (called : T → Name) (kind : Kind) (slots : List (Option 
       let same : s.seat.loaded ≡ l = ap (λ (x : Seat T). x.loaded) (some_same s.seat h.seat (sym s.at ∙ h.at)) ∙ h.is in
       (ap (λ (x : Loaded T). x.ident.slot) (sym same) ∙ s.slot_is, ap (λ (x : Loaded T). x.ident.kind) (sym same) ∙ s.kind_is)
 
+  -- so the free slots are those that hold no key
+  taken_is : (slot : ℕ) → IsSome (slot_at slots slot) → IsSome (cell_at (cells_in records.slots slots) slot)
+  taken_is slot some = by (slot_at slots slot) refl some
+    where
+      by : (c : Option ℕ) → slot_at slots slot ≡ c → IsSome c → IsSome (cell_at (cells_in records.slots slots) slot)
+      by None is none = absurd (false≢true none)
+      by (Some key) is some =
+          let s = sound.seated slot key is in
+          some_is (cell_at (cells_in records.slots slots) slot) s.seat.loaded (shown_at slot key s.seat is s.at)
+
+  pub lowest_free : (slot : ℕ) → IsLowestGap slots slot → IsLowestFree (cells_in records.slots slots) slot
+  lowest_free slot gap = record {
+    below = omega (arith, gap.below, length-map slots (held_in records.slots));
+    free = cells-at records.slots slots slot ∙ ap (held_in records.slots) gap.free;
+    lowest = λ other lower. taken_is other (gap.lowest other lower);
+  }
+
+  pub all_taken : HasNoGap slots → IsFull (cells_in records.slots slots)
+  all_taken full slot within = taken_is slot (full slot (omega (arith, within, length-map slots (held_in records.slots))))
+
   -- two slots hold two keys
   pub one_slot : (i j key : ℕ) → slot_at slots i ≡ Some key → slot_at slots j ≡ Some key → i ≡ j
   one_slot i j key at_i at_j =
@@ -143,6 +164,48 @@ module _ {T : Type 0} (called : T → Name) (kind : Kind) (slots : List (Option 
 
   pub row_under_is : (name : Name) (key : ℕ) → Contains index.entries (name, key) → row_under called (rows_in records.slots index.entries) name ≡ row_of (seat_at records.slots key)
   row_under_is name key there = row_at called records.slots name key index.entries sound.kept there.0 there.1 there.2 (others_apart index.entries name key there.0 sound.index_is.rising there.1 there.2)
+
+  -- the seat that a name leads to has it
+  pub seat_named : (name : Name) (key : ℕ) (seat : Seat T) → Contains index.entries (name, key) → seat_at records.slots key ≡ Some seat → called seat.loaded.value ≡ name
+  seat_named name key seat there at =
+      let own = kept_at name key there in
+      ap (λ (x : Seat T). called x.loaded.value) (some_same seat own.0 (sym at ∙ own.1)) ∙ own.2
+
+  -- a name of the shelf has a seat, which isn't loaded
+  pub shelved_off : (name : Name) (key : ℕ) (seat : Seat T) → Contains index.entries (name, key) → seat_at records.slots key ≡ Some seat → IsSome (content_under called (rows_in records.slots index.entries) name) → seat.is_loaded ≡ false
+  shelved_off name key seat there at some = by seat.is_loaded refl
+    where
+      by : (b : Bool) → seat.is_loaded ≡ b → b ≡ false
+      by true on =
+          let none = ap (option_map (λ (r : Shelved T). r.content)) (row_under_is name key there ∙ ap row_of at ∙ no_row_is seat on) in
+          absurd (false≢true (sym (ap is_some none) ∙ some))
+      by false off = refl
+
+  pub shelved_there : (name : Name) → IsSome (content_under called (rows_in records.slots index.entries) name) → All (λ entry. entry.0 ≢ name) index.entries → ⊥
+  shelved_there name some absent =
+      let none = ap (option_map (λ (r : Shelved T). r.content)) (under-absent called (rows_in records.slots index.entries) name (rows-absent called records.slots name index.entries sound.kept absent)) in
+      false≢true (sym (ap is_some none) ∙ some)
+
+  -- a slot at which nothing stands holds no key
+  pub slot_free : (slot : ℕ) → cell_at (cells_in records.slots slots) slot ≡ None → slot_at slots slot ≡ None
+  slot_free slot none = by (slot_at slots slot) refl
+    where
+      by : (c : Option ℕ) → slot_at slots slot ≡ c → c ≡ None
+      by None is = refl
+      by (Some key) is =
+          let s = sound.seated slot key is in
+          let there = shown_at slot key s.seat is s.at in
+          absurd (cc)
+
+  -- what is loaded at a slot is what sits in the seat that the slot holds
+  pub seat_there : (slot key : ℕ) (seat : Seat T) (l : Loaded T) → slot_at slots slot ≡ Some key → seat_at records.slots key ≡ Some seat → cell_at (cells_in records.slots slots) slot ≡ Some l → l ≡ seat.loaded
+  seat_there slot key seat l holds at there = some_same l seat.loaded (sym there ∙ shown_at slot key seat holds at)
+
+  pub seat_on : (slot key : ℕ) (seat : Seat T) → slot_at slots slot ≡ Some key → seat_at records.slots key ≡ Some seat → (seat.is_loaded ≡ true) × (seat.loaded.ident.slot ≡ slot)
+  seat_on slot key seat holds at =
+      let s = sound.seated slot key holds in
+      let same = some_same s.seat seat (sym s.at ∙ at) in
+      (ap (λ (x : Seat T). x.is_loaded) (sym same) ∙ s.loaded, ap (λ (x : Seat T). x.loaded.ident.slot) (sym same) ∙ s.slot_is)
 
   -- no row has the name of what is loaded
   pub apart : (slot : ℕ) (l : Loaded T) → cell_at (cells_in records.slots slots) slot ≡ Some l → HasNoRow called (rows_in records.slots index.entries) (called l.value)
@@ -190,6 +253,21 @@ module _ {T : Type 0} (called : T → Name) (kind : Kind) (slots : List (Option 
                 false≢true (sym off ∙ ap (λ (x : Seat T). x.is_loaded) (some_same seat h.seat (sym at ∙ ap (seat_at records.slots) (sym one) ∙ h.at)) ∙ h.loaded);
           };
         })
+
+    -- a name that is seen nowhere is that of no entry
+    pub new_name : (name : Name) → HasNoName called seen.cells name → HasNoRow called seen.shelf.rows name → All (λ entry. entry.0 ≢ name) index.entries
+    new_name name unloaded absent k d within same =
+        let e = get_or index.entries k d in
+        let has = sound.kept k d within in
+        let of = subst (λ n. IsSeatOf called seen n has.0) same (seat_seen e.0 e.1 has.0 (Contains-get_or index.entries k d within) has.1) in
+        by has.0.is_loaded refl of
+      where
+        by : (b : Bool) → (sound.kept k d within).0.is_loaded ≡ b → IsSeatOf called seen name (sound.kept k d within).0 → ⊥
+        by true on of = unloaded (sound.kept k d within).0.loaded.ident.slot (sound.kept k d within).0.loaded (of.loaded on) of.named
+        by false off of =
+            let row = (of.shelved off).row in
+            let none = under-absent called seen.shelf.rows name absent in
+            cc
 
     -- where no entry has a name, nothing has
     pub nothing_loaded : (name : Name) → All (λ entry. entry.0 ≢ name) index.entries → HasNoName called seen.cells name

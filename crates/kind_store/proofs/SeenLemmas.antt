@@ -1,11 +1,13 @@
 -- What a reader of a store learns.
 use Rattle.std.proofs.Common.{◌≡◌, Bool, true, false, List, Option, Some, None, ◌∙◌, ap, subst, refl}
-use Rattle.std.specs.Option.{option_map}
+use Rattle.std.specs.Option.{option_map, IfNone, IfSome}
+use Rattle.std.specs.Prelude.{if◌then◌else◌}
 use Rattle.cache_ident.specs.declared.idents.Kind.{Kind}
 use Rattle.cache_ident.specs.declared.names.Name.{Name}
 use Rattle.slot_cache.specs.declared.loaded.Loaded.{Loaded}
 use Rattle.slot_cache.specs.declared.seats.Seat.{Seat}
 use Rattle.slot_cache.specs.Cells.{HasNoName, IsFoundAs}
+use Rattle.slot_cache.specs.Seats.{ident_of}
 use Rattle.owner_shelf.specs.declared.shelved.Shelved.{Shelved}
 use Rattle.owner_shelf.specs.Rows.{row_under, HasNoRow, OnShelf}
 use Rattle.owner_shelf.proofs.RowLaws.{under-absent}
@@ -30,6 +32,18 @@ module _ {T : Type 0} (called : T → Name) (kind : Kind) (seen : Seen T) (sound
   pub no_content : HasNoName called seen.cells name → HasNoRow called seen.shelf.rows name → content_of called (kept_in seen.cells seen.shelf) name ≡ None
   no_content unloaded absent = content_off called name (kept_in seen.cells seen.shelf) unloaded ∙ ap (option_map (λ (r : Shelved T). r.content)) (under-absent called seen.shelf.rows name absent)
 
--- and what is loaded is found by its identifier
-pub seat_found : {T : Type 0} (called : T → Name) (seen : Seen T) (name : Name) (seat : Seat T) → IsSeatOf called seen name seat → seat.is_loaded ≡ true → IsFoundAs called seen.cells name seat.loaded.ident
-seat_found called seen name seat of on = (seat.loaded, of.loaded on, refl, of.named)
+-- and its identifier, if it is loaded
+module _ {T : Type 0} (called : T → Name) (seen : Seen T) (name : Name) (seat : Seat T) (of : IsSeatOf called seen name seat) where
+  pub seat_found : IfSome (ident_of seat) (IsFoundAs called seen.cells name)
+  seat_found = by seat.is_loaded refl
+    where
+      by : (b : Bool) → seat.is_loaded ≡ b → IfSome (if b then Some seat.loaded.ident else None) (IsFoundAs called seen.cells name)
+      by true on = (seat.loaded, of.loaded on, refl, of.named)
+      by false off = tt
+
+  pub seat_absent : IfNone (ident_of seat) (HasNoName called seen.cells name)
+  seat_absent = by seat.is_loaded refl
+    where
+      by : (b : Bool) → seat.is_loaded ≡ b → IfNone (if b then Some seat.loaded.ident else None) (HasNoName called seen.cells name)
+      by true on = tt
+      by false off = (of.shelved off).unloaded

@@ -107,12 +107,8 @@ impl<T: Descriptor + Drop> KindStore<T> {
         ensures one { IsExactlyOne T.called T.KIND self.now }
     {
         let seat = self.seats.of_name(name, None)?;
-        let ident = if seat.is_loaded {
-            Some(seat.loaded.ident)
-        } else {
-            None
-        };
         let value = &seat.loaded.value;
+        let ident = seat.ident();
         Some(Found { value, ident })
     }
 
@@ -138,9 +134,11 @@ impl<T: Descriptor + Drop> KindStore<T> {
     pub fn owner_of(&self, name: Name) -> Option<KernelNo>
         ensures { result ≡ option_map (λ row. row.owner) (row_under T.called self.now.rows name) }
     {
-        match self.seats.of_name(name, None) {
-            Some(seat) if !seat.is_loaded => Some(seat.owner),
-            _ => None,
+        let seat = self.seats.of_name(name, None)?;
+        if seat.is_loaded {
+            None
+        } else {
+            Some(seat.owner)
         }
     }
 
@@ -160,10 +158,8 @@ impl<T: Descriptor + Drop> KindStore<T> {
         ensures absent { IfNone result (HasNoName T.called self.now.cells name) }
         ensures one { IsExactlyOne T.called T.KIND self.now }
     {
-        match self.seats.of_name(name, near) {
-            Some(seat) if seat.is_loaded => Some(seat.loaded.ident),
-            _ => None,
-        }
+        let seat = self.seats.of_name(name, near)?;
+        seat.ident()
     }
 
     /// The content that is loaded with an identifier; `None` where it isn't loaded. Constant time.
