@@ -1,6 +1,6 @@
 //! The seats of a kind, and the slots and names that lead there.
 
-ghost use Rattle.std.specs.Prelude.{◌≡◌, ◌≢◌, ◌<◌, [], All, length, option_copied, replicate, slice_set, Some, None, IfNone, IfOk, IfSome, IsSome, OnErr, OnOk};
+ghost use Rattle.std.specs.Prelude.{◌≡◌, ◌≢◌, ◌<◌, ◌↔◌, [], All, Contains, length, option_copied, replicate, slice_set, Some, None, IfNone, IfOk, IfSome, IsSome, IsTrue, OnErr, OnOk};
 ghost use Rattle.std.specs.Fn.{FnOnceReturnsAtMut};
 ghost use Rattle.sorted_list.specs.Sorted.{IsAdded};
 ghost use Rattle.slot_cache.specs.Cells.{cell_at, changed, loaded_in, with_lock, with_value, HasExactlyLoaded, HasNoName, HasNoSerial, IsContent, IsFull, IsInOrderOfSlot, IsLoaded, IsLowestFree, IsVictim, LockIs, MayGo, MayNotGo, NameIs, NoneMayGo};
@@ -149,7 +149,7 @@ impl<T: Descriptor + Drop> Seats<T> {
         ensures none { IfNone result (MayNotGo (cell_at self.now.cells slot) keep.now) }
     {
         match self.at(slot) {
-            Some(loaded) if !loaded.locked && !keep.contains(&loaded.ident) => Some(loaded.ident),
+            Some(loaded) if !loaded.locked && !is_kept(keep, loaded.ident) => Some(loaded.ident),
             _ => None,
         }
     }
@@ -335,4 +335,10 @@ fn near_key<T: Descriptor + Drop>(
     } else {
         None
     }
+}
+
+fn is_kept(keep: &[Ident], ident: Ident) -> bool
+    ensures { IsTrue result ↔ Contains keep.now ident }
+{
+    keep.contains(&ident)
 }
