@@ -92,6 +92,12 @@ module _ {T : Type 0} (called : T → Name) (name : Name) where
         let off = other_stays x (λ same. absurd (omega (arith, one 0 x refl same))) in
         ap (λ (a : Loaded T). Some a ∷ cells_with called cells name left) off ∙ ap (λ (cs : List (Option (Loaded T))). Some x ∷ cs) (cells-there cells slot l there named (λ other a at same. omega (arith, one (suc other) a at same)))
 
+    -- all together
+    pub named-view : (cells : List (Option (Loaded T))) (shelf : OnShelf T) → kept_in (cells_with called cells name left) (record shelf { rows = rows_with called shelf.rows name left }) ≡ with_content called (kept_in cells shelf) name left
+    named-view cells shelf =
+        let count : count_of (cells_with called cells name left) (rows_with called shelf.rows name left) ≡ count_of cells shelf.rows = omega (arith, count-with cells, length-map shelf.rows (row_with called name left)) in
+        ap (λ n. record { cells = cells_with called cells name left; rows = rows_with called shelf.rows name left; room = shelf.room - n }) count
+
     module _ (kind : Kind) (cells : List (Option (Loaded T))) (shelf : OnShelf T) (sound : IsSound called kind cells shelf) where
       -- in its slot
       pub named-loaded : (ident : Ident) (l : Loaded T) → cell_at cells ident.slot ≡ Some l → l.ident ≡ ident → called l.value ≡ name → called left ≡ name → kept_in (changed cells ident.slot (with_value left)) shelf ≡ with_content called (kept_in cells shelf) name left

@@ -1,5 +1,5 @@
 -- What seats show once the content of one has changed there.
-use Rattle.std.proofs.Common.{◌≡◌, ℕ, Bool, true, false, List, set, Option, Some, sym, ◌∙◌, ap, refl}
+use Rattle.std.proofs.Common.{◌≡◌, ℕ, Bool, true, false, List, set, Option, Some, sym, ◌∙◌, ap, subst, refl}
 use Rattle.std.specs.Option.{option_map}
 use Rattle.cache_ident.specs.declared.idents.Kind.{Kind}
 use Rattle.cache_ident.specs.declared.names.Name.{Name}
@@ -10,12 +10,16 @@ use Rattle.slot_cache.specs.declared.loaded.Loaded.{Loaded}
 use Rattle.slot_cache.specs.declared.seats.Seat.{Seat}
 use Rattle.slot_cache.specs.Cells.{cell_at, changed, with_value}
 use Rattle.slot_cache.specs.Seats.{cells_in, seat_at}
-use Rattle.owner_shelf.specs.Rows.{rows_with}
+use Rattle.owner_shelf.specs.declared.shelved.Shelved.{Shelved}
+use Rattle.owner_shelf.specs.Rows.{rows_with, OnShelf}
 use Rattle.owner_shelf.proofs.UpdateLemmas.{with-absent}
-use Rattle.kind_store.specs.Changes.{cells_with}
+use Rattle.kind_store.specs.Changes.{cells_with, HasContent}
+use Rattle.kind_store.specs.Kept.{kept_in, IsSound}
+use Rattle.kind_store.specs.Rolls.{StaysEnrolled}
 use Rattle.kind_store.specs.Seated.{rows_in, seen_in, IsSeated}
-use Rattle.kind_store.proofs.NamedLemmas.{cells-absent, cells-there}
-use Rattle.kind_store.proofs.SeatedLemmas.{apart, one_name, seat_seen}
+use Rattle.kind_store.proofs.EditLemmas.{edit-contents, edit-enrolled, edit-view}
+use Rattle.kind_store.proofs.NamedLemmas.{cells-absent, cells-there, named-contents}
+use Rattle.kind_store.proofs.SeatedLemmas.{apart, in_order, one_name, seat_seen}
 use Rattle.kind_store.proofs.SeatEdits.{changed-cells, changed-rows, changed-sound, shelved-cells, shelved-rows, shelved-sound, there}
 use Rattle.kind_store.proofs.SerialLemmas.{serials-same}
 
@@ -57,3 +61,39 @@ module _ {T : Type 0} (called : T → Name) (kind : Kind) (slots : List (Option 
           let absent = apart called kind slots by_serial records index sound seat.loaded.ident.slot seat.loaded stands in
           changed-rows called kind slots by_serial records index sound key seat now at_key named on on refl ∙ sym (with-absent called (called seat.loaded.value) left named (rows_in records.slots index.entries) absent)
       by false off = shelved-rows called kind slots by_serial records index sound key seat now at_key named off off refl
+
+  abbrev shelf : OnShelf T
+  shelf = record { room = index.room; rows = rows_in records.slots index.entries }
+
+  -- the name has that content, and each other name the one that it had
+  pub update-contents : HasContent called (kept_in (cells_in records.slots slots) (record { room = index.room; rows = rows_in records.slots index.entries })) (kept_in (cells_in (with_seat records key (record { owner = seat.owner; is_loaded = seat.is_loaded; loaded = with_value left seat.loaded })).slots slots) (record { room = index.room; rows = rows_in (with_seat records key (record { owner = seat.owner; is_loaded = seat.is_loaded; loaded = with_value left seat.loaded })).slots index.entries })) (called seat.loaded.value) left
+  update-contents = by seat.is_loaded refl
+    where
+      all : IsSound called kind cells shelf
+      all = in_order called kind slots by_serial records index sound
+
+      by : (b : Bool) → seat.is_loaded ≡ b → HasContent called (kept_in cells shelf) (kept_in (cells_in (with_seat records key now).slots slots) (record { room = index.room; rows = rows_in (with_seat records key now).slots index.entries })) (called seat.loaded.value) left
+      by true on =
+          let slot = seat.loaded.ident.slot in
+          let stands = there called kind slots by_serial records index sound key seat now at_key named on in
+          let own = edit-contents called kind cells shelf all seat.loaded.ident seat.loaded stands refl (with_value left) refl named in
+          let view = edit-view called kind cells shelf all seat.loaded.ident seat.loaded stands refl (with_value left) refl in
+          let is = changed-cells called kind slots by_serial records index sound key seat now at_key named on ∙ ap (λ c. set cells slot (option_map (with_value left) c)) (sym stands) in
+          let rows = changed-rows called kind slots by_serial records index sound key seat now at_key named on on refl in
+          let seen = subst (λ kept. HasContent called (kept_in cells shelf) kept (called left) left) (sym view) own in
+          rw (is, rows) (subst (λ n. HasContent called (kept_in cells shelf) (kept_in (changed cells slot (with_value left)) shelf) n left) named seen)
+      by false off =
+          let shown = (seat_seen called kind slots by_serial records index sound (seen_in slots records index) refl (called seat.loaded.value) key seat (sound.listed key seat at_key) at_key).shelved off in
+          let was = ap (option_map (λ (r : Shelved T). r.content)) shown.row in
+          rw (shelved-cells called kind slots by_serial records index sound key seat now at_key named off off refl, shelved-rows called kind slots by_serial records index sound key seat now at_key named off off refl) (named-contents called (called seat.loaded.value) left kind cells shelf all named shown.unloaded seat.loaded.value was)
+
+  -- whatever roll agreed with what was loaded does still
+  pub update-enrolled : StaysEnrolled kind (cells_in records.slots slots) (cells_in (with_seat records key (record { owner = seat.owner; is_loaded = seat.is_loaded; loaded = with_value left seat.loaded })).slots slots)
+  update-enrolled = by seat.is_loaded refl
+    where
+      by : (b : Bool) → seat.is_loaded ≡ b → StaysEnrolled kind cells (cells_in (with_seat records key now).slots slots)
+      by true on =
+          let stands = there called kind slots by_serial records index sound key seat now at_key named on in
+          let is = changed-cells called kind slots by_serial records index sound key seat now at_key named on ∙ ap (λ c. set cells seat.loaded.ident.slot (option_map (with_value left) c)) (sym stands) in
+          subst (StaysEnrolled kind cells) (sym is) (edit-enrolled called kind cells shelf (in_order called kind slots by_serial records index sound) seat.loaded.ident seat.loaded stands refl (with_value left) refl)
+      by false off = subst (StaysEnrolled kind cells) (sym (shelved-cells called kind slots by_serial records index sound key seat now at_key named off off refl)) (λ issued enrolled. enrolled)

@@ -17,7 +17,7 @@ use Rattle.slot_cache.specs.Slots.{slot_at}
 use Rattle.slot_cache.specs.Table.{is_unlocked, IsOncePerSerial, IsUnlocked, Lists}
 use Rattle.owner_shelf.specs.declared.shelved.Shelved.{Shelved}
 use Rattle.owner_shelf.specs.Rows.{content_under, row_under, rows_with, rows_without, OnShelf}
-use Rattle.kind_store.specs.Changes.{cells_with}
+use Rattle.kind_store.specs.Changes.{cells_with, HasContent}
 use Rattle.kind_store.specs.Kept.{content_of, kept_in}
 
 -- what stands at each slot, and what stands on the shelf, with how many there can be
@@ -102,6 +102,7 @@ module _ {T : Type 0} (called : T → Name) where
     pub left : T
     pub called_with : call value result left
     pub is : new ≡ record { cells = cells_with called old.cells name left; shelf = record old.shelf { rows = rows_with called old.shelf.rows name left } }
+    pub contents : HasContent called (kept_in old.cells old.shelf) (kept_in new.cells new.shelf) name left
 
 -- what was loaded with the identifier went to the shelf, under the owner
 pub record IsPutBack {T : Type 0} (old new : Seen T) (ident : Ident) (owner : KernelNo) : Type 0 where

@@ -6,6 +6,7 @@ ghost use Rattle.sorted_list.specs.Sorted.{IsAdded};
 ghost use Rattle.slot_cache.specs.Cells.{cell_at, changed, loaded_in, with_lock, with_value, HasExactlyLoaded, HasNoName, HasNoSerial, IsContent, IsFull, IsInOrderOfSlot, IsLoaded, IsLowestFree, IsVictim, LockIs, MayGo, MayNotGo, NameIs, NoneMayGo};
 ghost use Rattle.owner_shelf.specs.Rows.{content_under, rows_without, HasNoRow, LeavesName};
 ghost use Rattle.kind_store.specs.Kept.{content_of, count_of, kept_in, IsSound};
+ghost use Rattle.kind_store.specs.Rolls.{StaysEnrolled};
 ghost use Rattle.kind_store.specs.Seated.{HasName, IsPutBack, IsSeatOf, IsTakenIn, IsUpdated, LeadsTo};
 
 use cache_ident::{Ident, KernelNo, Name, NoMemory};
@@ -289,6 +290,7 @@ impl<T: Descriptor + Drop> Seats<T> {
         requires callable { F.IsAlwaysCallable change }
         requires named { LeavesName T.called (FnOnceReturnsAtMut F.FnOnce change) (content_of T.called (kept_in self.old.cells self.old.shelf) name) }
         ensures updated { IsUpdated T.called (FnOnceReturnsAtMut F.FnOnce change) self.old self.new name result }
+        ensures enrolled { StaysEnrolled T.KIND self.old.cells self.new.cells }
         ensures sound { IsSound T.called T.KIND self.new.cells self.new.shelf }
     {
         let Some(key) = key_of(&self.slots, &self.records, &self.by_name, name, near) else {
