@@ -101,6 +101,7 @@ module _ {T : Type 0} (called : T → Name) where
     pub was : content_of called (kept_in old.cells old.shelf) name ≡ Some value
     pub left : T
     pub called_with : call value result left
+    pub named : called left ≡ name
     pub is : new ≡ record { cells = cells_with called old.cells name left; shelf = record old.shelf { rows = rows_with called old.shelf.rows name left } }
     pub contents : HasContent called (kept_in old.cells old.shelf) (kept_in new.cells new.shelf) name left
 

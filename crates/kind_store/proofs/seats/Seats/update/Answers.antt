@@ -79,6 +79,7 @@ returns-clause-updated g c =
       was = was;
       left = left;
       called_with = gave;
+      named = same ∙ own;
       is = rw (cells, rows, own) refl;
       contents = rw own at contents;
     })
