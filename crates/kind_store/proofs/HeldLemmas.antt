@@ -1,11 +1,10 @@
 -- What stands at slots and on the shelf, once a seat or a slot has changed.
-use Rattle.std.proofs.Common.{◌≡◌, ◌≢◌, ◌⊎◌, ℕ, zero, suc, ◌+◌, ◌<◌, ◌≤◌, Bool, true, false, not, List, [], ◌∷◌, length, get_or, filter_map, map, set, All, AllPairs, Contains, Option, Some, None, sym, ◌∙◌, ap, subst, inl, inr, refl, arith}
+use Rattle.std.proofs.Common.{◌≡◌, ◌≢◌, ℕ, zero, suc, ◌<◌, ◌≤◌, Bool, true, false, List, [], ◌∷◌, length, get_or, filter_map, map, set, All, AllPairs, Contains, Option, Some, None, sym, ◌∙◌, ap, subst, inl, inr, refl, arith}
 use Rattle.std.specs.List.{cons_option, insert, remove}
 use Rattle.std.specs.Option.{option_map}
 use Rattle.std.specs.Prelude.{if◌then◌else◌}
-use Rattle.std.proofs.lemmas.Bool.{false≢true}
 use Rattle.std.proofs.lemmas.List.{map-set}
-use Rattle.std.proofs.lemmas.List.Elements.{All-cons, All-head, All-tail, Contains-get_or}
+use Rattle.std.proofs.lemmas.List.Elements.{All-head, All-tail, Contains-get_or}
 use Rattle.std.proofs.lemmas.List.Kept.{AllPairs-cons}
 use Rattle.cache_ident.specs.declared.names.Name.{Name}
 use Rattle.sorted_list.specs.Sorted.{IsAdded}
@@ -17,7 +16,7 @@ use Rattle.slot_cache.specs.Seats.{cells_in, held_in, seat_at}
 use Rattle.slot_cache.specs.Slots.{slot_at}
 use Rattle.slot_cache.proofs.SlotLemmas.{some_same}
 use Rattle.owner_shelf.specs.declared.shelved.Shelved.{Shelved}
-use Rattle.owner_shelf.specs.Rows.{is_named, row_under, rows_without, HasNoRow}
+use Rattle.owner_shelf.specs.Rows.{row_under, rows_without, HasNoRow}
 use Rattle.owner_shelf.proofs.NameLemmas.{eq_apart, eq_same}
 use Rattle.owner_shelf.proofs.RowLaws.{under-absent}
 use Rattle.kind_store.specs.Seated.{row_of, rows_in, HasName}

@@ -1,11 +1,11 @@
 -- What seats, slots and names show once one has changed.
-use Rattle.std.proofs.Common.{◌≡◌, ◌≢◌, ◌⊎◌, ℕ, zero, suc, ◌+◌, ◌<◌, ◌≤◌, Bool, true, false, cond, List, [], ◌∷◌, length, get_or, set, count_by, is_some, lit<, replicate, All, Contains, Option, Some, None, sym, ◌∙◌, ap, subst, inl, inr, refl, arith}
-use Rattle.std.specs.List.{insert, remove}
+use Rattle.std.proofs.Common.{◌≡◌, ◌≢◌, ◌⊎◌, ℕ, zero, suc, ◌+◌, ◌<◌, ◌≤◌, true, false, cond, List, [], ◌∷◌, length, get_or, set, count_by, is_some, lit<, replicate, All, Contains, Option, Some, None, sym, ◌∙◌, ap, subst, inl, inr, refl, arith}
+use Rattle.std.specs.List.{insert}
 use Rattle.std.specs.Option.{option_map}
 use Rattle.std.specs.Ordering.{nat_cmp}
 use Rattle.std.specs.Prelude.{OnErr, OnOk, Result, Ok, Err}
 use Rattle.std.proofs.lemmas.Bool.{cases_eq, false≢true}
-use Rattle.std.proofs.lemmas.List.{get_or_default, length-map, set-set}
+use Rattle.std.proofs.lemmas.List.{length-map, set-set}
 use Rattle.std.proofs.lemmas.List.Edits.{length-insert, length-remove}
 use Rattle.std.proofs.lemmas.List.Elements.{All-contains, Contains-get_or}
 use Rattle.std.proofs.lemmas.List.Sums.{sum_by-set}
@@ -32,7 +32,7 @@ use Rattle.owner_shelf.specs.declared.shelved.Shelved.{Shelved}
 use Rattle.owner_shelf.specs.Rows.{content_under, row_with, rows_with, rows_without, OnShelf}
 use Rattle.owner_shelf.proofs.SoundLemmas.{some_is}
 use Rattle.owner_shelf.proofs.UpdateLemmas.{with-other, with-there}
-use Rattle.kind_store.specs.Seated.{row_of, rows_in, AreBySerial, HasName, IsSeated, IsSeatFor}
+use Rattle.kind_store.specs.Seated.{row_of, rows_in, AreBySerial, HasName, IsSeated}
 use Rattle.kind_store.proofs.ContentLemmas.{cases_name}
 use Rattle.kind_store.proofs.HeldLemmas.{cells-at, cells-one, cells-same, cells-set, row_named, rows-drop, rows-fill, rows-insert, rows-map, rows-same, rows-without_none}
 use Rattle.kind_store.proofs.SeatedLemmas.{in_order, kept_at, no_row_is, one_key, one_slot, others_apart, row_is, row_under_is, shown_at}
@@ -117,7 +117,7 @@ module _ {T : Type 0} (called : T → Name) (kind : Kind) (slots : List (Option 
     put_edit : (x : Name × ℕ) → (Contains index.entries x ⊎ (x ≡ (called seat.loaded.value, key))) → Contains new_index.entries x
     put_edit x from =
         let edit = inserted index.entries added.0 (called seat.loaded.value, key) added.1 in
-        subst (λ l. Contains l x) (sym added.2) (elim from [ | inl was ↦ edit.kept x was | inr is ↦ subst (Contains (insert index.entries added.0 (called seat.loaded.value, key))) (sym is) edit.here ])
+        subst (λ l. Contains l x) (sym added.2) (elim from [ inl was ↦ edit.kept x was | inr is ↦ subst (Contains (insert index.entries added.0 (called seat.loaded.value, key))) (sym is) edit.here ])
 
     pub put-cells : cells_in new.slots slots ≡ cells_in records.slots slots
     put-cells = cells-same records.slots new.slots slots (λ slot k at. ap (option_map (λ (x : Seat T). x.loaded)) (updates.others k (put_apart slot k at)))
@@ -189,13 +189,15 @@ module _ {T : Type 0} (called : T → Name) (kind : Kind) (slots : List (Option 
     take_old e in_new =
         let edit = removed index.entries taken.0 (name, key) taken.1 taken.2 (λ i j lt within here again. once (order.ghosts).cmp laws.total-law index.entries (name, key) i j sound.index_is.rising lt within here again) in
         let in_left = subst (λ l. Contains l e) taken.3 in_new in
-        let in_old = edit.only e in_left in
-        (in_old, λ same.
-            let has = kept_at called kind slots by_serial records index sound e.0 e.1 in_old in
-            elim (cases_name e.0 name) [
-              | inl named ↦ edit.gone e in_left (pair_same e name key (sym named) (sym same))
-              | inr apart ↦ take_own e has apart same
-            ])
+        let in_old = edit.only e in_left in (
+          in_old,
+          λ same.
+              let has = kept_at called kind slots by_serial records index sound e.0 e.1 in_old in
+              elim (cases_name e.0 name) [
+                | inl named ↦ edit.gone e in_left (pair_same e name key (sym named) (sym same))
+                | inr apart ↦ take_own e has apart same
+              ],
+        )
 
     pub take-sound : slab_len new + 1 ≡ slab_len records → new.capacity ≡ records.capacity → new_index.room ≡ index.room → IsIndex (order.ghosts).cmp new_index → IsSeated called kind slots by_serial new new_index
     take-sound len capacity room proper =

@@ -8,7 +8,7 @@ use Rattle.slab.specs.Slab.{Slab}
 use Rattle.slab.specs.Slab.{with_value as with_seat}
 use Rattle.slot_cache.specs.declared.loaded.Loaded.{Loaded}
 use Rattle.slot_cache.specs.declared.seats.Seat.{Seat}
-use Rattle.slot_cache.specs.Cells.{cell_at, changed, with_value}
+use Rattle.slot_cache.specs.Cells.{changed, with_value}
 use Rattle.slot_cache.specs.Seats.{cells_in, seat_at}
 use Rattle.owner_shelf.specs.declared.shelved.Shelved.{Shelved}
 use Rattle.owner_shelf.specs.Rows.{rows_with, OnShelf}

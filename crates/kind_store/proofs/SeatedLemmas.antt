@@ -1,11 +1,10 @@
 -- What seats, slots and names show.
-use Rattle.std.proofs.Common.{◌≡◌, ◌≢◌, ◌⊎◌, ℕ, zero, suc, ◌+◌, ◌<◌, ◌≤◌, Bool, true, false, List, length, get_or, count_by, is_some, All, AllPairs, Contains, Option, Some, None, IsSome, sym, ◌∙◌, ap, subst, inl, inr, refl, arith}
+use Rattle.std.proofs.Common.{◌≡◌, ◌≢◌, ℕ, ◌<◌, Bool, true, false, List, length, get_or, is_some, All, AllPairs, Contains, Option, Some, None, IsSome, sym, ◌∙◌, ap, subst, inl, inr, refl, arith}
 use Rattle.std.specs.Option.{option_map}
 use Rattle.std.specs.Prelude.{if◌then◌else◌}
 use Rattle.std.proofs.lemmas.Bool.{cases_lt, false≢true}
 use Rattle.std.proofs.lemmas.List.{get_or_default, length-map}
 use Rattle.std.proofs.lemmas.List.Elements.{All-contains, Contains-get_or}
-use Rattle.cache_ident.specs.declared.idents.Ident.{Ident}
 use Rattle.cache_ident.specs.declared.idents.Kind.{Kind}
 use Rattle.cache_ident.specs.declared.names.Name.{Name}
 use Rattle.cache_ident.specs.contracts.names.NameOrd.TheImpl as order
@@ -26,7 +25,7 @@ use Rattle.owner_shelf.specs.Rows.{content_under, row_under, HasNoRow}
 use Rattle.owner_shelf.proofs.RowLaws.{under-absent}
 use Rattle.owner_shelf.proofs.SoundLemmas.{some_is}
 use Rattle.kind_store.specs.Kept.{IsSound}
-use Rattle.kind_store.specs.Seated.{row_of, rows_in, seen_in, HasName, IsSeated, IsSeatFor, IsSeatOf, IsShelvedAs, LeadsTo, Seen}
+use Rattle.kind_store.specs.Seated.{row_of, rows_in, seen_in, HasName, IsSeated, IsSeatOf, LeadsTo, Seen}
 use Rattle.kind_store.proofs.HeldLemmas.{cells-at, row_at, row_from, row_named, rows-absent, rows-once}
 
 -- a name of a rising list stands at one place

@@ -9,7 +9,7 @@ use Rattle.slot_cache.specs.declared.seats.Seat.{Seat}
 use Rattle.slot_cache.specs.Cells.{HasNoName, IsFoundAs}
 use Rattle.slot_cache.specs.Seats.{ident_of}
 use Rattle.owner_shelf.specs.declared.shelved.Shelved.{Shelved}
-use Rattle.owner_shelf.specs.Rows.{row_under, HasNoRow, OnShelf}
+use Rattle.owner_shelf.specs.Rows.{HasNoRow, OnShelf}
 use Rattle.owner_shelf.proofs.RowLaws.{under-absent}
 use Rattle.kind_store.specs.Kept.{content_of, kept_in, IsExactlyOne, IsSound, Kept}
 use Rattle.kind_store.specs.Seated.{IsSeatOf, Seen}

@@ -1,6 +1,5 @@
 -- The list by serial, once what stands at a slot has changed.
-use Rattle.std.proofs.Common.{◌≡◌, ◌≢◌, ℕ, zero, suc, ◌+◌, ◌<◌, false, true, List, [], length, count_by, set, replicate, All, Contains, Option, Some, None, sym, ◌∙◌, ap, refl, arith}
-use Rattle.std.specs.declared.cmp.Ordering.TheVariants.{Equal}
+use Rattle.std.proofs.Common.{◌≡◌, ℕ, zero, suc, ◌+◌, ◌<◌, false, true, List, [], length, count_by, set, replicate, Option, Some, None, sym, ◌∙◌, ap, refl, arith}
 use Rattle.std.specs.Ordering.{nat_cmp}
 use Rattle.std.proofs.lemmas.Bool.{false≢true}
 use Rattle.std.proofs.lemmas.List.{length-replicate, length-set}
@@ -10,8 +9,8 @@ use Rattle.sorted_list.specs.Sorted.{Sorted}
 use Rattle.slot_cache.specs.declared.loaded.Loaded.{Loaded}
 use Rattle.slot_cache.specs.Cells.{cell_at, with_lock, HasNoSerial}
 use Rattle.slot_cache.specs.Index.{IsRelisted, IsRising}
-use Rattle.slot_cache.specs.Table.{is_unlocked, places_of, IsUnlocked, Lists}
-use Rattle.slot_cache.proofs.SlotLemmas.{all_none, as_it_is, cell_within, lists-nil, not_none, once-set, one_at, others_apart, some_same, unlocked-count_lock, unlocked-count_put, unlocked-count_same, unlocked-count_take, unlocked-set}
+use Rattle.slot_cache.specs.Table.{is_unlocked, places_of, IsUnlocked}
+use Rattle.slot_cache.proofs.SlotLemmas.{all_none, as_it_is, cell_within, lists-nil, not_none, once-set, one_at, others_apart, some_same, unlocked-count_lock, unlocked-count_put, unlocked-count_take, unlocked-set}
 use Rattle.kind_store.specs.Seated.{AreBySerial}
 
 none_counts : (T : Type 0) (n : ℕ) → 0 ≡ count_by (is_unlocked {T = T}) (replicate n None)

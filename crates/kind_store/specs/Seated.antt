@@ -8,7 +8,7 @@ use Rattle.cache_ident.specs.declared.names.Name.{Name}
 use Rattle.cache_ident.specs.contracts.names.NameOrd.TheImpl as order
 use Rattle.sorted_list.specs.Sorted.{IsAdded, Sorted}
 use Rattle.growing_list.specs.Index.{IsIndex}
-use Rattle.slab.specs.Slab.{Slab, get, slab_len}
+use Rattle.slab.specs.Slab.{Slab, slab_len}
 use Rattle.slot_cache.specs.declared.loaded.Loaded.{Loaded}
 use Rattle.slot_cache.specs.declared.seats.Seat.{Seat}
 use Rattle.slot_cache.specs.Cells.{cell_at, filled, just_loaded, HasNoName, IsContent}

@@ -1,8 +1,8 @@
 -- Rows once the content of a name changed where it stands.
-use Rattle.std.proofs.Common.{◌≡◌, ◌≢◌, Bool, true, false, List, [], ◌∷◌, get_or, Option, Some, None, sym, ◌∙◌, ap, refl}
+use Rattle.std.proofs.Common.{◌≡◌, ◌≢◌, Bool, true, false, List, [], ◌∷◌, Option, Some, None, sym, ◌∙◌, ap, refl}
 use Rattle.std.specs.Option.{option_map}
 use Rattle.std.specs.Prelude.{if◌then◌else◌}
-use Rattle.std.proofs.lemmas.List.Elements.{All-head, All-map, All-tail}
+use Rattle.std.proofs.lemmas.List.Elements.{All-head, All-tail}
 use Rattle.cache_ident.specs.declared.names.Name.{Name}
 use Rattle.cache_ident.specs.contracts.names.NamePartialEq.TheImpl as names
 use Rattle.owner_shelf.specs.declared.shelved.Shelved.{Shelved}
@@ -56,10 +56,6 @@ module _ {R : Type 0} (called : R → Name) (name : Name) (left : R) (same : cal
       by : (o : Option (Shelved R)) → row_under called rows other ≡ o → option_map (row_with called name left) o ≡ o
       by None is = refl
       by (Some row) is = ap (λ (r : Shelved R). Some r) (with-other row (λ named. apart (sym named ∙ found_named called rows other row is)))
-
-  -- where no row has a name, none has it then
-  pub absent-with : (rows : List (Shelved R)) (other : Name) → HasNoRow called rows other → HasNoRow called (rows_with called rows name left) other
-  absent-with rows other absent = All-map (λ (r : Shelved R). called r.content ≢ other) (row_with called name left) rows (λ k d within is. absent k d within (sym (name-with (get_or rows k d)) ∙ is))
 
   -- where no row has the name, none changes
   pub with-absent : (rows : List (Shelved R)) → HasNoRow called rows name → rows_with called rows name left ≡ rows

@@ -1,9 +1,7 @@
 -- Slots behind the written ones hold nothing.
 use Rattle.std.proofs.Common.{◌≡◌, ℕ, zero, suc, ◌+◌, ◌-◌, ◌<◌, ◌≤◌, cond, List, [], ◌∷◌, ◌++◌, length, get_or, set, Contains, Option, Some, None, IsSome, is_some, count_by, filter_map, replicate, sym, ◌∙◌, ap, subst, inl, inr, refl, arith, append_assoc, length-append}
 use Rattle.std.specs.declared.cmp.Ordering.TheVariants.{Equal}
-use Rattle.std.specs.declared.alloc.Global.{Global}
-use Rattle.std.specs.Prelude.{slice_get, Vec}
-use Rattle.std.specs.Vec.{with_item}
+use Rattle.std.specs.Prelude.{slice_get}
 use Rattle.std.proofs.Math.ListN.{get_or-append}
 use Rattle.std.proofs.lemmas.Bool.{cases_lt}
 use Rattle.std.proofs.lemmas.List.{append-nil, length_push, get_or-append_right, get_or_past, length-replicate, length-set, replicate-append-replicate, set-append_left}
@@ -145,9 +143,6 @@ none_first (x ∷ xs) none = absurd (apart none)
 module _ {X : Type 0} (cap : ℕ) (cells : List (Option X)) where
   pub grown_none : (new : List (Option X)) (slot : ℕ) → IsGrown cells new slot → slot_at (padded cap cells) slot ≡ None → slot_at new slot ≡ None
   grown_none new slot grown free = ap (λ c. slot_at c slot) grown.is ∙ grown_at cells grown.more slot ∙ unpad cap cells slot None free
-
-  pub grown_same : (new : List (Option X)) (slot : ℕ) → IsGrown cells new slot → (k : ℕ) → slot_at new k ≡ slot_at cells k
-  grown_same new slot grown k = ap (λ c. slot_at c k) grown.is ∙ grown_at cells grown.more k
 
   pub pad_grown_to : (new : List (Option X)) (slot : ℕ) → IsGrown cells new slot → length new ≤ cap → padded cap new ≡ padded cap cells
   pad_grown_to new slot grown few = ap (padded cap) grown.is ∙ pad_grown cap cells grown.more (subst (λ c. length c ≤ cap) grown.is few)

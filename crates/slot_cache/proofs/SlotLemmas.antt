@@ -1,5 +1,5 @@
 -- What an edit of the cells leaves in their indexes.
-use Rattle.std.proofs.Common.{◌≡◌, ◌≢◌, ◌⊎◌, ℕ, zero, suc, ◌+◌, ◌<◌, ◌≤◌, Bool, true, false, not, cond, List, [], length, get_or, set, Contains, Option, Some, None, unwrap_or, is_some, IsSome, count_by, replicate, All, sym, ◌∙◌, ap, subst, inl, inr, refl, arith}
+use Rattle.std.proofs.Common.{◌≡◌, ◌≢◌, ◌⊎◌, ℕ, zero, suc, ◌+◌, ◌<◌, ◌≤◌, Bool, true, false, not, cond, List, [], length, get_or, set, Contains, Option, Some, None, unwrap_or, is_some, IsSome, count_by, replicate, sym, ◌∙◌, ap, subst, inl, inr, refl, arith}
 use Rattle.std.specs.declared.cmp.Ordering.{Ordering}
 use Rattle.std.specs.declared.cmp.Ordering.TheVariants.{Less, Equal}
 use Rattle.std.specs.Ordering.{nat_cmp}
@@ -47,10 +47,6 @@ module _ {X : Type 0} where
   -- one descriptor stands at a slot
   pub one_at : (cells : List (Option X)) (slot : ℕ) (a b : X) → slot_at cells slot ≡ Some a → slot_at cells slot ≡ Some b → a ≡ b
   one_at cells slot a b first second = some_same a b (sym first ∙ second)
-
-  -- what a read of a cell gave stands at its slot
-  pub read_cell : (cells : List (Option X)) (slot : ℕ) (c : Option X) → slot < length cells → c ≡ get_or cells slot c → slot_at cells slot ≡ c
-  read_cell cells slot c within read = get_or_default cells slot None c within ∙ sym read
 
   -- what stands at a slot after a write there
   pub here : (cells : List (Option X)) (slot : ℕ) (c : Option X) → slot < length cells → slot_at (set cells slot c) slot ≡ c
@@ -124,12 +120,6 @@ module _ {T : Type 0} where
     | inl at ↦ absurd (not_none (set cells slot None) slot x (ap (cell_at (set cells slot None)) (sym at) ∙ there) (here cells slot None within))
     | inr apart ↦ placed k x (sym (elsewhere cells slot k None apart) ∙ there)
   ]
-
--- the place of the list by serials names one of the cells
-pub listed_within : {T : Type 0} (cells : List (Option (Loaded T))) (places : List (ℕ × ℕ)) → Lists nat_cmp (IsUnlocked cells) places → (k : ℕ) (d : ℕ × ℕ) → k < length places → (get_or places k d).1 < length cells
-listed_within cells places lists k d within =
-    let was = lists.sound (get_or places k d) (Contains-get_or places k d within) in
-    cell_within cells (get_or places k d).1 was.0 was.1
 
 -- of the first n places of an index none may go
 abbrev pub NoneBefore : {T : Type 0} → List (Option (Loaded T)) → List (ℕ × ℕ) → List Ident → ℕ → Type 0

@@ -1,4 +1,4 @@
-use Rattle.std.proofs.Common.{◌≡◌, false, refl, sym, ap, ◌∙◌}
+use Rattle.std.proofs.Common.{false, refl}
 use Rattle.std.specs.Ordering.{nat_cmp}
 use Rattle.slot_cache.specs.declared.seats.Seat.{Seat}
 use Rattle.owner_shelf.proofs.NameLemmas.{entry_absent, names_added}

@@ -1,12 +1,10 @@
-use Rattle.std.proofs.Common.{◌≡◌, List, Option, true, false, set, All, Contains, IsSome, Some, None, refl, sym, subst, ap, ◌∙◌, arith}
+use Rattle.std.proofs.Common.{◌≡◌, true, false, set, All, None, refl, sym, subst, ap, ◌∙◌, arith}
 use Rattle.std.specs.declared.cmp.Ordering.TheVariants.{Equal}
 use Rattle.std.specs.Ordering.{nat_cmp}
-use Rattle.std.proofs.lemmas.Bool.{false≢true}
 use Rattle.cache_ident.specs.declared.idents.Ident.{Ident}
 use Rattle.slab.specs.Slab.{with_value}
 use Rattle.slot_cache.specs.declared.loaded.Loaded.{Loaded}
 use Rattle.slot_cache.specs.declared.seats.Seat.{Seat}
-use Rattle.slot_cache.specs.Cells.{cell_at}
 use Rattle.slot_cache.specs.Index.{IsRelisted}
 use Rattle.slot_cache.specs.Seats.{cells_in}
 use Rattle.slot_cache.proofs.SlotLemmas.{locked_absent}

@@ -1,4 +1,4 @@
-use Rattle.std.proofs.Common.{◌≡◌, ◌<◌, List, true, false, length, set, IsSome, Some, refl, sym, subst, ap, ◌∙◌, arith}
+use Rattle.std.proofs.Common.{◌≡◌, ◌<◌, List, true, false, length, Some, refl, subst, ap, arith}
 use Rattle.std.proofs.lemmas.List.{length-map}
 use Rattle.slab.specs.Slab.{with_value}
 use Rattle.slot_cache.specs.declared.loaded.Loaded.{Loaded}
@@ -6,7 +6,7 @@ use Rattle.slot_cache.specs.declared.seats.Seat.{Seat}
 use Rattle.slot_cache.specs.Seats.{cells_in, held_in}
 use Rattle.slot_cache.proofs.SlotLemmas.{serial_absent}
 use Rattle.owner_shelf.specs.declared.shelved.Shelved.{Shelved}
-use Rattle.owner_shelf.specs.Rows.{content_under, rows_without, OnShelf}
+use Rattle.owner_shelf.specs.Rows.{content_under, rows_without}
 use Rattle.owner_shelf.proofs.NameLemmas.{found_name, no_name}
 use Rattle.owner_shelf.proofs.SoundLemmas.{some_is}
 use Rattle.kind_store.specs.Seated.{rows_in}

@@ -1,6 +1,5 @@
-use Rattle.std.proofs.Common.{◌≡◌, Some, refl, sym, ap, subst, ◌∙◌}
+use Rattle.std.proofs.Common.{refl}
 use Rattle.std.specs.Ordering.{nat_cmp}
-use Rattle.owner_shelf.specs.declared.shelved.Shelved.{Shelved}
 use Rattle.owner_shelf.proofs.NameLemmas.{found_name, names_taken, no_name}
 use Rattle.owner_shelf.proofs.SoundLemmas.{some_is}
 use Rattle.kind_store.proofs.SeatedLemmas.{in_order, kept_at, shelved_off, shelved_there}

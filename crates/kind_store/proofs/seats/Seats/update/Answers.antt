@@ -1,16 +1,8 @@
-use Rattle.std.proofs.Common.{◌≡◌, List, Option, IsSome, Some, None, is_some, refl, sym, subst, ap, ◌∙◌}
+use Rattle.std.proofs.Common.{is_some, refl, sym, ap, ◌∙◌}
 use Rattle.std.specs.Fn.{FnOnceReturnsAtMut}
 use Rattle.std.proofs.lemmas.Bool.{false≢true}
-use Rattle.slab.specs.Slab.{with_value as with_seat}
-use Rattle.slot_cache.specs.declared.loaded.Loaded.{Loaded}
-use Rattle.slot_cache.specs.declared.seats.Seat.{Seat}
-use Rattle.slot_cache.specs.Cells.{with_value}
-use Rattle.slot_cache.specs.Seats.{cells_in}
-use Rattle.owner_shelf.specs.Rows.{rows_with}
 use Rattle.owner_shelf.proofs.SoundLemmas.{some_is}
-use Rattle.kind_store.specs.Changes.{cells_with}
-use Rattle.kind_store.specs.Kept.{content_of, kept_in}
-use Rattle.kind_store.specs.Seated.{rows_in, seen_in, Seen}
+use Rattle.kind_store.specs.Seated.{seen_in}
 use Rattle.kind_store.proofs.SeatedLemmas.{in_order, kept_at, lead_is, nothing_loaded, nothing_shelved, seat_named, seat_seen}
 use Rattle.kind_store.proofs.SeatUpdates.{update-cells, update-contents, update-enrolled, update-rows, update-sound}
 use Rattle.kind_store.proofs.SeenLemmas.{no_content, seat_content}

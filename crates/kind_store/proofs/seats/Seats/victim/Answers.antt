@@ -1,4 +1,4 @@
-use Rattle.std.proofs.Common.{◌≡◌, ◌<◌, ℕ, get_or, length, sym, ◌∙◌, subst, arith}
+use Rattle.std.proofs.Common.{ℕ, get_or, sym, ◌∙◌, subst, arith}
 use Rattle.std.proofs.lemmas.Option.{get_or_from_slice_get, slice_get-get_or, slice_get_within}
 use Rattle.slot_cache.specs.Cells.{cell_at, MayNotGo}
 use Rattle.slot_cache.specs.Seats.{cells_in}

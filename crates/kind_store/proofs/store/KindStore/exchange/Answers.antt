@@ -1,7 +1,6 @@
 use Rattle.std.proofs.Common.{◌≡◌, Some, ap, subst, sym, ◌∙◌, arith}
 use Rattle.std.specs.Option.{option_map}
 use Rattle.cache_ident.specs.declared.names.Name.{Name}
-use Rattle.sorted_list.specs.Sorted.{IsAdded}
 use Rattle.owner_shelf.specs.declared.shelved.Shelved.{Shelved}
 use Rattle.owner_shelf.specs.Rows.{content_under, row_under, rows_without, OnShelf}
 use Rattle.owner_shelf.proofs.RowLaws.{absent-without}

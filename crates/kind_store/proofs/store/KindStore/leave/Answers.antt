@@ -1,4 +1,4 @@
-use Rattle.std.proofs.Common.{None, ap, set, subst, sym}
+use Rattle.std.proofs.Common.{None, ap, set, subst}
 use Rattle.cache_ident.specs.declared.idents.Ident.{Ident}
 use Rattle.cache_ident.specs.Rolls.{departed}
 use Rattle.owner_shelf.specs.declared.shelved.Shelved.{Shelved}

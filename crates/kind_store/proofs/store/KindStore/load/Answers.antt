@@ -1,4 +1,4 @@
-use Rattle.std.proofs.Common.{◌≡◌, Some, ◌++◌, ◌∷◌, [], not, ap, subst, sym, ◌∙◌, rules, arith}
+use Rattle.std.proofs.Common.{◌≡◌, Some, ◌++◌, ◌∷◌, [], not, ap, subst, sym, ◌∙◌, arith}
 use Rattle.std.proofs.lemmas.List.Elements.{All-filter}
 use Rattle.cache_ident.specs.declared.idents.Ident.{Ident}
 use Rattle.slot_cache.specs.Cells.{just_loaded, IsLowestFree}
