@@ -12,6 +12,7 @@ ghost use Rattle.page_views.specs.Views.{all_dated, as_happened, can_fill as can
 
 use crate::index::Index;
 use crate::page::{Origin, PageView};
+use crate::recent::Recent;
 use crate::slots::LastSlots;
 use crate::spots::Marked;
 use cache_ident::{Frame, Ident, NoMemory, Vpn};
@@ -44,6 +45,8 @@ pub struct PageViews {
     marked: Marked,
     // Where a page may be found that is kept.
     slots: LastSlots,
+    // Which pages threads touched last.
+    recent: Recent,
     // The number of the thread whose pages are views.
     whose: u32,
     pub(crate) decoded: DecodedWords,
@@ -73,6 +76,7 @@ impl PageViews {
             views: empty_slots(alloc, most)?,
             most,
             slots: LastSlots::none(),
+            recent: Recent::none(),
             whose: 0,
             index: Index::none(),
             marked: Marked::none(),
@@ -86,6 +90,16 @@ impl PageViews {
         ensures { self.new ≡ record self.old { views = []; kept = all_dated self.old.views self.old.kept } }
     {
         self.whose = whose;
+        // Where there is none, nothing is known of any.
+        if self.index.count > 0 {
+            self.give_up();
+        }
+    }
+
+    // Gives up every view.
+    fn give_up(&mut self)
+        ensures { self.new ≡ record self.old { views = []; kept = all_dated self.old.views self.old.kept } }
+    {
         self.index = Index::none();
         self.marked = Marked::none();
     }
@@ -95,6 +109,7 @@ impl PageViews {
         ensures { self.new ≡ record self.old { views = []; kept = nothing_kept self.old.most } }
     {
         self.clear(0);
+        self.recent = Recent::none();
         forget_each(&mut self.views);
     }
 
@@ -237,6 +252,24 @@ impl PageViews {
         happen_each(&mut self.views, self.index.count, place);
         self.index = Index::none();
         self.marked = Marked::none();
+    }
+
+    /// Notes which pages the thread touched, where it is likely to touch them again as its next ones; else none is noted of it.
+    pub fn note_recent(&mut self, again: bool)
+        ensures { self.new ≡ self.old }
+    {
+        if again {
+            self.recent
+                .note(self.whose, &self.views[..self.index.count]);
+        } else {
+            self.recent.forget(self.whose);
+        }
+    }
+
+    /// The page that was noted of the thread at a place, as far as one is known: the first `MOST_RECENT` that it touched, in the order in
+    /// which they became views. Any may be answered.
+    pub fn recent(&self, place: usize) -> Option<Vpn> {
+        self.recent.page(self.whose, place)
     }
 
     /// The identifier of the row that a page was copied through last, as far as it is known. Any may be answered, and whoever takes it

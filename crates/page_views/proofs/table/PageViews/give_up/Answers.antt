@@ -3,7 +3,7 @@ use Rattle.page_views.specs.declared.index.Index.{Index}
 use Rattle.page_views.specs.Views.{all_dated, table_of, Dated, Table}
 use Rattle.page_views.proofs.Keeping.{all_slots}
 use Rattle.page_views.proofs.Spotting.{none_marked_at}
-use Rattle.page_views.proofs.table.PageViews.clear.Goals as goal
+use Rattle.page_views.proofs.table.PageViews.give_up.Goals as goal
 
 pub invariant_of-self : goal.invariant_of-self
 invariant_of-self c = rw (c.none-self-inside.ensures, c.none-self-inside-2.ensures) (search (rules, none_marked_at))
