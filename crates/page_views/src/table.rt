@@ -90,6 +90,7 @@ impl PageViews {
         ensures { self.new ≡ record self.old { views = []; kept = all_dated self.old.views self.old.kept } }
     {
         self.whose = whose;
+        self.recent.begin();
         // Where there is none, nothing is known of any.
         if self.index.count > 0 {
             self.give_up();
@@ -259,15 +260,14 @@ impl PageViews {
         ensures { self.new ≡ self.old }
     {
         if again {
-            self.recent
-                .note(self.whose, &self.views[..self.index.count]);
+            self.recent.note(self.whose);
         } else {
             self.recent.forget(self.whose);
         }
     }
 
-    /// The page that was noted of the thread at a place, as far as one is known: the first `MOST_RECENT` that it touched, in the order in
-    /// which they became views. Any may be answered.
+    /// The page that was noted of the thread at a place, as far as one is known: the first `MOST_RECENT` that it touched, in this
+    /// order. Any may be answered.
     pub fn recent(&self, place: usize) -> Option<Vpn> {
         self.recent.page(self.whose, place)
     }
@@ -386,6 +386,8 @@ impl PageViews {
     {
         if let Some(place) = self.place(Vpn(page)) {
             let allowed = wants(access, self.views[place].flags());
+            let again = self.views[place].touched();
+            self.recent.touch(Vpn(page), again);
             self.views[place].mark(access);
             note_if(&mut self.marked, allowed, page, access, place);
         }
