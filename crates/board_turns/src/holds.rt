@@ -1,10 +1,8 @@
 //! What a processor does with the board while it holds it, and whoever has the board alone.
 
-ghost use Rattle.std.specs.Prelude.{◌≡◌, ◌<◌, ◌≤◌, ◌+◌, List, None, IfNone, IfOk, IfSome, OnErr, OnOk};
+ghost use Rattle.std.specs.Prelude.{◌≡◌, ◌<◌, ◌≤◌, ◌+◌, None, IfNone, IfOk, IfSome, OnOk};
 ghost use Rattle.std.specs.Bool.{OnTrue};
-ghost use Rattle.cache_board.specs.run_journal.specs.declared.entries.Entry.{Entry};
 ghost use Rattle.cache_board.specs.board_commits.specs.Tickets.{AreAllAsOf, AreOfTicket};
-ghost use Rattle.cache_board.specs.board_core.specs.Core.{IsSound};
 ghost use Rattle.cache_board.specs.board_core.specs.Going.{IsOneEvent};
 ghost use Rattle.cache_board.specs.board_threads.specs.Tests.{IsWanted};
 ghost use Rattle.board_turns.specs.Holds.{found_by, found_if, taken_by, AreFewer, HasCommitted, HasHealed, HasLookedIf, IsReadyFor};
@@ -64,12 +62,14 @@ pub fn find(board: &mut Board, cpu: u32, want_first: bool, next: &mut Found)
     }
 }
 
-// Copies the pages that the ticket's thread touched last, as far as their rows are loaded and there is room.
-fn copy_recent(board: &Board, ticket: &Ticket, quantum: &mut Quantum)
-    requires views { AreOfTicket board.now.journal.entries ticket.now.thread quantum.old }
+// Begins the quantum of a ticket's thread from the ticket's context, with copies of the pages that the thread touched last, as far as
+// their rows are loaded and there is room.
+fn begin_for(board: &Board, ticket: &Ticket, quantum: &mut Quantum)
+    requires kept { AreAllAsOf board.now.journal.entries quantum.old }
     ensures views { AreOfTicket board.now.journal.entries ticket.now.thread quantum.new }
-    ensures steps { quantum.new.steps ≡ quantum.old.steps }
+    ensures steps { quantum.new.steps ≡ 0 }
 {
+    quantum.begin(ticket.context, ticket.no);
     for place in 0..MOST_RECENT {
         let Some(vpn) = quantum.recent(place) else {
             return;
@@ -88,8 +88,7 @@ pub fn begin(board: &Board, found: &Found, quantum: &mut Quantum)
     ensures kept { AreAllAsOf board.now.journal.entries quantum.new }
 {
     if let Found::Out(ticket) = found {
-        quantum.begin(ticket.context, ticket.no);
-        copy_recent(board, ticket, quantum);
+        begin_for(board, ticket, quantum);
     }
 }
 

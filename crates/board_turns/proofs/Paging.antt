@@ -2,10 +2,10 @@
 use Rattle.std.proofs.Common.{◌≡◌, ap}
 use Rattle.std.specs.Prelude.{Result, Ok, Err, OnErr, OnOk}
 use Rattle.cache_ident.specs.declared.names.Vpn.{Vpn}
-use Rattle.alone_run.specs.board_commits.specs.Commits.{IsPaged}
-use Rattle.alone_run.specs.board_core.specs.Core.{Recorded}
-use Rattle.alone_run.specs.board_threads.specs.declared.tickets.Ticket.{Ticket}
-use Rattle.alone_run.specs.quantum.specs.Ahead.{Ahead}
+use Rattle.cache_board.specs.board_commits.specs.Commits.{IsPaged}
+use Rattle.cache_board.specs.board_core.specs.Core.{Recorded}
+use Rattle.cache_board.specs.board_threads.specs.declared.tickets.Ticket.{Ticket}
+use Rattle.quantum.specs.Ahead.{Ahead}
 
 -- whatever the answer is
 pub same_steps : {A E : Type 0} (b : Recorded) (ticket : Ticket) (vpn : Vpn) (old new : Ahead) (answer : Result A E) → OnErr answer (new ≡ old) → OnOk answer (IsPaged b ticket vpn old new) → new.steps ≡ old.steps
