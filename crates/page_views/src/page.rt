@@ -1,6 +1,6 @@
 //! One copied page.
 
-ghost use Rattle.std.specs.Prelude.{◌≡◌, ◌+◌, ◌<◌, length, None, Some, IfOk};
+ghost use Rattle.std.specs.Prelude.{◌≡◌, ◌+◌, ◌<◌, false, length, None, Some, IfOk};
 ghost use Rattle.std.specs.Bool.{OnTrue};
 ghost use Rattle.rv32_exec.specs.Pages.{number_at, put_bytes, size_of};
 ghost use Rattle.std.specs.Option.{option_copied};
@@ -26,16 +26,21 @@ pub(crate) struct Origin {
     pub(crate) taken: Option<u64>,
 }
 
-// What a view is: its contents, and what is known of them.
+// The number of the thread whose page a view is, and what accesses went through it.
+#[derive(Clone, Copy)]
+struct Usage {
+    whose: u32,
+    touched: bool,
+    written: bool,
+}
+
+// What a view is: its contents, and what is known of them. What stands before the contents has a size by which their words are aligned.
 #[derive(Drop)]
 struct Body {
     // Where the present contents may differ from the first ones.
     changed: Part,
     origin: Origin,
-    // The number of the thread whose page it is.
-    whose: u32,
-    touched: bool,
-    written: bool,
+    usage: Usage,
     present: [u8; PAGE_LENGTH],
     first: [u8; PAGE_LENGTH],
 }
@@ -56,7 +61,7 @@ impl Model for PageView {
 
     ghost Value = { View };
 
-    ghost view = { λ v. record { vpn = v.body.value.origin.vpn; frame = v.body.value.origin.frame; flags = v.body.value.origin.flags; row = v.body.value.origin.row; first = v.body.value.first; present = v.body.value.present; touched = v.body.value.touched; written = v.body.value.written; taken = v.body.value.origin.taken } };
+    ghost view = { λ v. record { vpn = v.body.value.origin.vpn; frame = v.body.value.origin.frame; flags = v.body.value.origin.flags; row = v.body.value.origin.row; first = v.body.value.first; present = v.body.value.present; touched = v.body.value.usage.touched; written = v.body.value.usage.written; taken = v.body.value.origin.taken } };
 
     ghost invariant = { λ v. AreAlikeBut v.body.value.changed v.body.value.first v.body.value.present × IsWithinPage v.body.value.changed };
 }
@@ -76,9 +81,7 @@ impl PageView {
         let body = Body {
             changed: Part::none(),
             origin,
-            whose: 0,
-            touched: false,
-            written: false,
+            usage: unused_by(0),
             present: [0; PAGE_LENGTH],
             first: [0; PAGE_LENGTH],
         };
@@ -120,7 +123,7 @@ impl PageView {
 
     // The number of the thread whose page it is.
     pub(crate) fn whose(&self) -> u32 {
-        self.body.whose
+        self.body.usage.whose
     }
 
     /// The bytes as they were copied.
@@ -159,14 +162,14 @@ impl PageView {
     pub fn touched(&self) -> bool
         ensures { result ≡ self.now.touched }
     {
-        self.body.touched
+        self.body.usage.touched
     }
 
     /// Whether a store went through it.
     pub fn written(&self) -> bool
         ensures { result ≡ self.now.written }
     {
-        self.body.written
+        self.body.usage.written
     }
 
     // The number from a place on.
@@ -201,9 +204,9 @@ impl PageView {
     pub(crate) fn mark(&mut self, access: Access)
         ensures { self.new ≡ mark_view access self.old }
     {
-        self.body.touched = true;
+        self.body.usage.touched = true;
         if matches!(access, Access::Write) {
-            self.body.written = true;
+            self.body.usage.written = true;
         }
     }
 
@@ -267,9 +270,7 @@ impl PageView {
         ensures { self.new ≡ viewed origin self.old.first self.old.present }
     {
         self.body.origin = origin;
-        self.body.whose = whose;
-        self.body.touched = false;
-        self.body.written = false;
+        self.body.usage = unused_by(whose);
     }
 
     // Its bytes carry no place any more.
@@ -277,6 +278,17 @@ impl PageView {
         ensures { self.new ≡ record self.old { taken = None } }
     {
         self.body.origin.taken = None;
+    }
+}
+
+// A thread's page, which no access went through yet.
+fn unused_by(whose: u32) -> Usage
+    ensures { result ≡ record { whose = whose; touched = false; written = false } }
+{
+    Usage {
+        whose,
+        touched: false,
+        written: false,
     }
 }
 

@@ -255,7 +255,9 @@ impl PageViews {
         self.marked = Marked::none();
     }
 
-    /// Notes which pages the thread touched, where it is likely to touch them again as its next ones; else none is noted of it.
+    /// Notes which pages the thread touched, where it is likely to touch them again as its next ones; else none is noted of it. It stays a
+    /// call, so that a run of steps is short.
+    #[inline(never)]
     pub fn note_recent(&mut self, again: bool)
         ensures { self.new ≡ self.old }
     {

@@ -4,8 +4,8 @@ use Rattle.board_turns.proofs.Paging.{same_steps}
 use Rattle.board_turns.proofs.holds.begin_for.Goals.{else-can_fill-via-then-can_fill+else-is_err, else-can_fill-via-else-can_fill}
 use Rattle.board_turns.proofs.holds.begin_for.Goals as goal
 
-pub loop-place-starts : goal.loop-place-starts
-loop-place-starts c =
+pub loop-place-init : goal.loop-place-init
+loop-place-init c =
     let begun = begun_ready c.args.board.now.journal.entries c.args.quantum.now c.begin.new.self c.args.ticket.now c.begin.ensures c.requires.kept in
     record { views = begun.0; steps = begun.1 }
 

@@ -1,6 +1,6 @@
 -- The part reaches over what is put.
-use Rattle.std.proofs.Common.{◌≡◌, ◌+◌, ◌≤◌, arith}
-use Rattle.rv32_exec.specs.Pages.{put_bytes, size_of}
+use Rattle.std.proofs.Common.{◌+◌, ◌≤◌, arith}
+use Rattle.rv32_exec.specs.Pages.{size_of}
 use Rattle.page_views.specs.Parts.{AreAlikeBut, IsWithinPage}
 use Rattle.page_views.proofs.Parts.{alike_put}
 use Rattle.page_views.proofs.page.PageView.put.Goals as goal
