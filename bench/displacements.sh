@@ -236,6 +236,16 @@ abbrev pub invariant-loop : goal.invariant-loop
 invariant-loop l = AreEnrolled Mapping l.roll.issued l.rows.cells
 PROOF
 done
+cat > "$program/proofs/lock_oldest/Answers.antt" <<'PROOF'
+use Rattle.displacement_times.proofs.lock_oldest.Goals.{in-Some, in_default}
+use Rattle.displacement_times.proofs.lock_oldest.Goals as goal
+
+pub loop-preserved : goal.loop-preserved
+loop-preserved c = elim c.match-victim.branch [
+  | in-Some w ↦ rw w.rows-is (w.lock.ensures.enrolled c.args.roll.now.issued c.loop.invariant)
+  | in_default w ↦ rw w.rows-is c.loop.invariant
+]
+PROOF
 cat > "$program/proofs/best_of/Invariants.antt" <<'PROOF'
 use Rattle.std.proofs.Common.{◌≡◌}
 use Rattle.cache_ident.specs.declared.idents.Kind.TheVariants.{Mapping}
