@@ -269,14 +269,7 @@ impl<R: Wait, G: Gate> Processor for Sharing<'_, R, G> {
         let steps = quantum.steps();
         self.last_steps = steps;
         let mut held = hold(self.rt, self.lock, &mut self.pass);
-        let answer = commit(
-            held.value_mut(),
-            ticket,
-            self.limit,
-            look,
-            quantum,
-            next,
-        );
+        let answer = commit(held.value_mut(), ticket, self.limit, look, quantum, next);
         self.pass = Some(held.release());
         let committed = answer?;
         self.brought = brought_by(committed, steps, self.brought);
