@@ -2,7 +2,7 @@
 
 ghost use Rattle.std.specs.Prelude.{◌<◌};
 
-use cache_ident::{Frame, Vpn};
+use cache_ident::{Frame, Ident, Vpn};
 
 const LINES: usize = 128;
 
@@ -21,7 +21,7 @@ fn line(vpn: Vpn, whose: u32) -> usize
 // given up.
 #[derive(Clone, Copy)]
 pub(crate) struct LastSlots {
-    by_page: [u8; LINES],
+    by_page: [(Vpn, Ident); LINES],
     by_frame: [u8; LINES],
     filled: [u32; LINES],
     now: u32,
@@ -30,23 +30,27 @@ pub(crate) struct LastSlots {
 impl LastSlots {
     pub(crate) fn none() -> LastSlots {
         LastSlots {
-            by_page: [0; LINES],
+            by_page: [(Vpn(0), Ident::default()); LINES],
             by_frame: [0; LINES],
             filled: [0; LINES],
             now: 0,
         }
     }
 
-    pub(crate) fn of_page(&self, vpn: Vpn, whose: u32) -> usize {
-        self.by_page[line(vpn, whose)] as usize
+    pub(crate) fn of_page(&self, vpn: Vpn, whose: u32) -> Option<Ident> {
+        let noted = self.by_page[line(vpn, whose)];
+        if noted.0 == vpn { Some(noted.1) } else { None }
     }
 
     pub(crate) fn of_frame(&self, frame: Frame) -> usize {
         self.by_frame[frame.0 as usize % LINES] as usize
     }
 
-    pub(crate) fn note(&mut self, vpn: Vpn, whose: u32, frame: Frame, slot: usize) {
-        self.by_page[line(vpn, whose)] = (slot % 256) as u8;
+    pub(crate) fn note_page(&mut self, vpn: Vpn, whose: u32, row: Ident) {
+        self.by_page[line(vpn, whose)] = (vpn, row);
+    }
+
+    pub(crate) fn note(&mut self, frame: Frame, slot: usize) {
         self.by_frame[frame.0 as usize % LINES] = (slot % 256) as u8;
     }
 

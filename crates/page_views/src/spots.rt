@@ -3,9 +3,10 @@
 ghost use Rattle.std.specs.Prelude.{◌≡◌, ◌%◌, IfSome};
 ghost use Rattle.page_views.specs.Spots.{marked_with, no_spot, no_spots, nothing_marked, with_spot, IsNoted, IsSpot};
 
+use crate::page::Origin;
 use rv32_exec::Access;
 
-const LINES: usize = 16;
+const LINES: usize = 64;
 
 // No page has this number.
 const NO_PAGE: u32 = u32::MAX;
@@ -15,6 +16,7 @@ const NO_PAGE: u32 = u32::MAX;
 pub(crate) struct Spot {
     pub(crate) page: u32,
     pub(crate) place: u8,
+    pub(crate) marked: bool,
 }
 
 impl Spot {
@@ -24,6 +26,7 @@ impl Spot {
         Spot {
             page: NO_PAGE,
             place: 0,
+            marked: false,
         }
     }
 
@@ -37,6 +40,11 @@ impl Spot {
         } else {
             None
         }
+    }
+
+    #[inline]
+    pub(crate) fn is_marked(&self, page: u32) -> bool {
+        self.page == page && self.marked
     }
 }
 
@@ -64,10 +72,20 @@ impl Spots {
     }
 
     // Notes the place of the view of a page.
-    pub(crate) fn note(&mut self, page: u32, place: u8)
+    pub(crate) fn note(&mut self, page: u32, place: u8, marked: bool)
         ensures { self.new ≡ with_spot page place self.old }
     {
-        self.spots[line_of(page)] = Spot { page, place };
+        self.spots[line_of(page)] = Spot { page, place, marked };
+    }
+
+    #[inline]
+    pub(crate) fn mark(&mut self, page: u32) {
+        self.spots[line_of(page)].marked = true;
+    }
+
+    #[inline]
+    pub(crate) fn is_marked(&self, page: u32) -> bool {
+        self.spots[line_of(page)].is_marked(page)
     }
 }
 
@@ -112,13 +130,41 @@ impl Marked {
     }
 
     // Notes the view of a page that lets the access through and has its mark.
-    pub(crate) fn note(&mut self, page: u32, access: Access, place: u8)
+    #[inline]
+    pub(crate) fn note(&mut self, page: u32, access: Access, place: u8, marked: bool)
         ensures { self.new ≡ marked_with page access place self.old }
     {
         match access {
-            Access::Fetch => self.fetch = Spot { page, place },
-            Access::Read => self.reads.note(page, place),
-            Access::Write => self.writes.note(page, place),
+            Access::Fetch => self.fetch = Spot { page, place, marked },
+            Access::Read => self.reads.note(page, place, marked),
+            Access::Write => self.writes.note(page, place, marked),
+        }
+    }
+
+    #[inline]
+    pub(crate) fn is_marked(&self, page: u32, access: Access) -> bool {
+        match access {
+            Access::Fetch => self.fetch.place(page).is_some(),
+            Access::Read => self.reads.is_marked(page),
+            Access::Write => self.writes.is_marked(page),
+        }
+    }
+
+    pub(crate) fn mark(&mut self, page: u32, access: Access) {
+        match access {
+            Access::Fetch => {}
+            Access::Read => self.reads.mark(page),
+            Access::Write => self.writes.mark(page),
+        }
+    }
+
+    // A view more.
+    pub(crate) fn add(&mut self, origin: &Origin, place: u8) {
+        if origin.flags.r {
+            self.reads.note(origin.vpn.0, place, false);
+        }
+        if origin.flags.w {
+            self.writes.note(origin.vpn.0, place, false);
         }
     }
 }

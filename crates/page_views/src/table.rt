@@ -187,8 +187,8 @@ impl PageViews {
         ensures { self.new ≡ with_filled self.old (viewed_beside self.old.views origin bytes.now) }
     {
         let shared = self.has_frame(origin.frame);
-        self.slots
-            .note(origin.vpn, self.whose, origin.frame, self.index.count);
+        self.slots.note_page(origin.vpn, self.whose, origin.row);
+        self.slots.note(origin.frame, self.index.count);
         self.slots.note_filled(origin.frame);
         fill_at(
             &mut self.views,
@@ -198,6 +198,7 @@ impl PageViews {
             bytes,
             shared,
         );
+        self.marked.add(&origin, self.index.count as u8);
         self.index.add(&origin, shared);
     }
 
@@ -228,8 +229,10 @@ impl PageViews {
             taken: self.views[slot].taken(),
         };
         self.slots.note_filled(frame);
+        self.slots.note_page(vpn, self.whose, row);
         exchange(&mut self.views, &mut self.slots, count, slot);
         recall_at(&mut self.views, count, origin, self.whose);
+        self.marked.add(&origin, count as u8);
         self.index.add(&origin, shared);
         true
     }
@@ -277,10 +280,7 @@ impl PageViews {
     /// The identifier of the row that a page was copied through last, as far as it is known. Any may be answered, and whoever takes it
     /// looks which row it is.
     pub fn near(&self, vpn: Vpn) -> Option<Ident> {
-        match self.views.get(self.slots.of_page(vpn, self.whose)) {
-            Some(view) if view.vpn() == vpn => Some(view.row()),
-            _ => None,
-        }
+        self.slots.of_page(vpn, self.whose)
     }
 
     /// The view that an access goes through: that of the page of `va`, where its flags let the access through.
@@ -374,9 +374,8 @@ impl PageViews {
         ensures { self.new ≡ record self.old { views = map (mark_view_of (record { 0 = va / 4096 }) access) self.old.views } }
     {
         let page = va / PAGE_BYTES;
-        match self.marked.place(page, access) {
-            Some(_) => {}
-            None => self.mark_anew(page, access),
+        if !self.marked.is_marked(page, access) {
+            self.mark_anew(page, access);
         }
     }
 
@@ -385,6 +384,21 @@ impl PageViews {
     #[inline(never)]
     fn mark_anew(&mut self, page: u32, access: Access)
         ensures { self.new ≡ record self.old { views = map (mark_view_of (record { 0 = page }) access) self.old.views } }
+    {
+        if let Some(place) = self.marked.place(page, access) {
+            let view = &mut self.views[place as usize];
+            let again = view.touched();
+            view.mark(access);
+            self.recent.touch(Vpn(page), again);
+            self.marked.mark(page, access);
+            return;
+        }
+        self.mark_found(page, access);
+    }
+
+    #[cold]
+    #[inline(never)]
+    fn mark_found(&mut self, page: u32, access: Access)
     {
         if let Some(place) = self.place(Vpn(page)) {
             let allowed = wants(access, self.views[place].flags());
@@ -402,7 +416,7 @@ fn note_if(marked: &mut Marked, allowed: bool, page: u32, access: Access, place:
     ensures { marked.new ≡ noted_if allowed page access place marked.old }
 {
     if allowed {
-        marked.note(page, access, place as u8);
+        marked.note(page, access, place as u8, true);
     }
 }
 
@@ -503,7 +517,7 @@ fn given_up(kept: &[PageView], slots: &LastSlots) -> usize
 
 // A page comes into a slot.
 fn note_slot(slots: &mut LastSlots, view: &PageView, slot: usize) {
-    slots.note(view.vpn(), view.whose(), view.frame(), slot);
+    slots.note(view.frame(), slot);
 }
 
 // Exchanges a slot with the one behind the first `count`.
