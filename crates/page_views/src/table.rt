@@ -375,13 +375,28 @@ impl PageViews {
     {
         let page = va / PAGE_BYTES;
         if !self.marked.is_marked(page, access) {
-            self.mark_anew(page, access);
+            match access {
+                Access::Fetch => self.mark_found(page, access),
+                Access::Read => self.mark_read(page),
+                Access::Write => self.mark_written(page),
+            }
         }
     }
 
     // The same of a page, of whose view it isn't known that it has the mark. It stays a call, so that an access is short.
     #[cold]
     #[inline(never)]
+    fn mark_read(&mut self, page: u32) {
+        self.mark_anew(page, Access::Read);
+    }
+
+    #[cold]
+    #[inline(never)]
+    fn mark_written(&mut self, page: u32) {
+        self.mark_anew(page, Access::Write);
+    }
+
+    #[inline(always)]
     fn mark_anew(&mut self, page: u32, access: Access)
         ensures { self.new ≡ record self.old { views = map (mark_view_of (record { 0 = page }) access) self.old.views } }
     {
