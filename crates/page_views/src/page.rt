@@ -26,21 +26,18 @@ pub(crate) struct Origin {
     pub(crate) taken: Option<u64>,
 }
 
-// The number of the thread whose page a view is, and what accesses went through it.
-#[derive(Clone, Copy)]
-struct Usage {
-    whose: u32,
-    touched: bool,
-    written: bool,
-}
-
-// What a view is: its contents, and what is known of them. What stands before the contents has a size by which their words are aligned.
+// What a view is: what is known of it, and its contents. What stands before the contents are 64 bytes, so that their words are aligned.
 #[derive(Drop)]
 struct Body {
     // Where the present contents may differ from the first ones.
     changed: Part,
-    origin: Origin,
-    usage: Usage,
+    vpn: Vpn,
+    frame: Frame,
+    flags: Flags,
+    touched: bool,
+    written: bool,
+    row: Ident,
+    taken: Option<u64>,
     present: [u8; PAGE_LENGTH],
     first: [u8; PAGE_LENGTH],
 }
@@ -61,7 +58,7 @@ impl Model for PageView {
 
     ghost Value = { View };
 
-    ghost view = { λ v. record { vpn = v.body.value.origin.vpn; frame = v.body.value.origin.frame; flags = v.body.value.origin.flags; row = v.body.value.origin.row; first = v.body.value.first; present = v.body.value.present; touched = v.body.value.usage.touched; written = v.body.value.usage.written; taken = v.body.value.origin.taken } };
+    ghost view = { λ v. record { vpn = v.body.value.vpn; frame = v.body.value.frame; flags = v.body.value.flags; row = v.body.value.row; first = v.body.value.first; present = v.body.value.present; touched = v.body.value.touched; written = v.body.value.written; taken = v.body.value.taken } };
 
     ghost invariant = { λ v. AreAlikeBut v.body.value.changed v.body.value.first v.body.value.present × IsWithinPage v.body.value.changed };
 }
@@ -71,17 +68,15 @@ impl PageView {
     pub(crate) fn empty(alloc: Global) -> Result<PageView, NoMemory>
         ensures { IfOk result (λ view. view.taken ≡ None) }
     {
-        let origin = Origin {
+        let body = Body {
+            changed: Part::none(),
             vpn: Vpn(0),
             frame: Frame(0),
             flags: Flags::default(),
+            touched: false,
+            written: false,
             row: Ident::default(),
             taken: None,
-        };
-        let body = Body {
-            changed: Part::none(),
-            origin,
-            usage: unused_by(0),
             present: [0; PAGE_LENGTH],
             first: [0; PAGE_LENGTH],
         };
@@ -95,7 +90,7 @@ impl PageView {
     pub fn vpn(&self) -> Vpn
         ensures { result ≡ self.now.vpn }
     {
-        self.body.origin.vpn
+        self.body.vpn
     }
 
     /// The frame that was copied.
@@ -103,7 +98,7 @@ impl PageView {
     pub fn frame(&self) -> Frame
         ensures { result ≡ self.now.frame }
     {
-        self.body.origin.frame
+        self.body.frame
     }
 
     /// The flags of the row that it was copied through.
@@ -111,19 +106,14 @@ impl PageView {
     pub fn flags(&self) -> Flags
         ensures { result ≡ self.now.flags }
     {
-        self.body.origin.flags
+        self.body.flags
     }
 
     /// The identifier of the row that it was copied through.
     pub fn row(&self) -> Ident
         ensures { result ≡ self.now.row }
     {
-        self.body.origin.row
-    }
-
-    // The number of the thread whose page it is.
-    pub(crate) fn whose(&self) -> u32 {
-        self.body.usage.whose
+        self.body.row
     }
 
     /// The bytes as they were copied.
@@ -139,7 +129,7 @@ impl PageView {
     pub fn taken(&self) -> Option<u64>
         ensures { result ≡ self.now.taken }
     {
-        self.body.origin.taken
+        self.body.taken
     }
 
     /// Whether nothing was ever stored to it, and so its bytes are those that were copied. Constant time.
@@ -162,14 +152,14 @@ impl PageView {
     pub fn touched(&self) -> bool
         ensures { result ≡ self.now.touched }
     {
-        self.body.usage.touched
+        self.body.touched
     }
 
     /// Whether a store went through it.
     pub fn written(&self) -> bool
         ensures { result ≡ self.now.written }
     {
-        self.body.usage.written
+        self.body.written
     }
 
     // The number from a place on.
@@ -204,24 +194,19 @@ impl PageView {
     pub(crate) fn mark(&mut self, access: Access)
         ensures { self.new ≡ mark_view access self.old }
     {
-        self.body.usage.touched = true;
+        let body = &mut *self.body;
+        body.touched = true;
         if matches!(access, Access::Write) {
-            self.body.usage.written = true;
+            body.written = true;
         }
     }
 
-    // Makes it an untouched view of a thread's page, copied from `bytes`. It holds what `touched` holds, if there is one.
-    pub(crate) fn copy(
-        &mut self,
-        origin: Origin,
-        whose: u32,
-        bytes: &[u8],
-        touched: Option<&PageView>,
-    )
+    // Makes it an untouched view, copied from `bytes`. It holds what `touched` holds, if there is one.
+    pub(crate) fn copy(&mut self, origin: Origin, bytes: &[u8], touched: Option<&PageView>)
         requires { length bytes.now ≡ 4096 }
         ensures { self.new ≡ viewed origin bytes.now (present_in (option_copied touched.entry) bytes.now) }
     {
-        self.renew(origin, whose);
+        self.renew(origin);
         let body = &mut *self.body;
         body.first.copy_from_slice(bytes);
         match touched {
@@ -236,14 +221,14 @@ impl PageView {
         }
     }
 
-    // Makes it an untouched view of a thread's page, which holds the bytes that it was copied from.
-    pub(crate) fn recall(&mut self, origin: Origin, whose: u32)
+    // Makes it an untouched view, which holds the bytes that it was copied from.
+    pub(crate) fn recall(&mut self, origin: Origin)
         ensures { self.new ≡ viewed origin self.old.first self.old.first }
     {
         let body = &mut *self.body;
         copy_part(&mut body.present, &body.first, body.changed);
-        self.body.changed = Part::none();
-        self.renew(origin, whose);
+        body.changed = Part::none();
+        self.renew(origin);
     }
 
     // What it holds now is what it was copied from, as of a place of a journal.
@@ -252,8 +237,8 @@ impl PageView {
     {
         let body = &mut *self.body;
         copy_part(&mut body.first, &body.present, body.changed);
-        self.body.changed = Part::none();
-        self.body.origin.taken = Some(place);
+        body.changed = Part::none();
+        body.taken = Some(place);
     }
 
     /// Where the present bytes may differ from those that were copied.
@@ -265,30 +250,25 @@ impl PageView {
         self.body.changed
     }
 
-    // Makes it an untouched view of a thread's page, with the contents that it has.
-    fn renew(&mut self, origin: Origin, whose: u32)
+    // Makes it an untouched view, with the contents that it has.
+    fn renew(&mut self, origin: Origin)
         ensures { self.new ≡ viewed origin self.old.first self.old.present }
     {
-        self.body.origin = origin;
-        self.body.usage = unused_by(whose);
+        let body = &mut *self.body;
+        body.vpn = origin.vpn;
+        body.frame = origin.frame;
+        body.flags = origin.flags;
+        body.touched = false;
+        body.written = false;
+        body.row = origin.row;
+        body.taken = origin.taken;
     }
 
     // Its bytes carry no place any more.
     pub(crate) fn forget(&mut self)
         ensures { self.new ≡ record self.old { taken = None } }
     {
-        self.body.origin.taken = None;
-    }
-}
-
-// A thread's page, which no access went through yet.
-fn unused_by(whose: u32) -> Usage
-    ensures { result ≡ record { whose = whose; touched = false; written = false } }
-{
-    Usage {
-        whose,
-        touched: false,
-        written: false,
+        self.body.taken = None;
     }
 }
 
