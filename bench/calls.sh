@@ -12,7 +12,7 @@
 # one.
 #
 # The bars: 30,000 for the row, 18,000 for the thread, 20,000 for the displacing row; 3 for the ratios, and 2 for that of locked
-# rows. The program that was built on 2026-11-29 takes 15,900, 10,500 and 7,900, with ratios of 1.0 and 1.4, and 1.1 for locked rows.
+# rows. The program that was built on 2026-11-30 takes 12,600, 7,600 and 5,500, with ratios of 1.0 and 1.5, and 1.1 for locked rows.
 set -euo pipefail
 script=bench/calls.sh
 top="$(cd "$(dirname "$0")/.." && pwd)"

@@ -1,9 +1,8 @@
 #!/usr/bin/env bash
 # Usage: bench/displacements.sh
-# Times a displacement of a row in a cache for 1,024, 8,192 and 65,536 rows that is full, and in one of the same size with
-# 64 rows: a free slot is asked for, and a victim with a keep list of six, before which sixteen locked rows and the six
-# stand; the victim goes out of its slot, out of the orders by serial and name and out of the pairs of dependence, and
-# another row comes into all of them. It fails where a displacement at 65,536 rows takes more than 3 times one at 1,024.
+# Times a displacement of a row in a store with slots for 1,024, 8,192 and 65,536 rows that is full, and in one of the same size
+# with 64 rows: a victim is asked for with a keep list of six, before which sixteen locked rows and the six stand; it goes out of
+# its slot, out of the order by serial, out of the pairs of dependence and off the shelf, and another row is declared and loaded. It fails where a displacement at 65,536 rows takes more than 3 times one at 1,024.
 #
 # In plain sorted vectors (measured on 2026-11-27) a displacement in a full cache, without the pairs, took 4 to 11
 # microseconds with 1,024 rows and 196 to 443 with 65,536, nearly all of it moves of what is behind a place; the pairs cost
@@ -12,19 +11,20 @@
 # Makes a program in a temporary folder, and lets rt prove and build it there.
 set -euo pipefail
 source "$(dirname "$0")/program.sh"
-begin_program displacement_times 'cache_ident phys_groups sorted_list slot_cache depend_lists' anyhow
-mkdir -p "$program"/proofs/{depend,lock_oldest,lock_oldest_few,displace_often,filled,best_of,measured}
+begin_program displacement_times 'cache_ident phys_groups sorted_list slot_cache growing_list owner_shelf kind_store depend_lists' anyhow
+mkdir -p "$program"/proofs/{depend,lock_oldest,with_room,displace_often,filled,best_of,measured}
 cat > "$program/src/main.rt" <<'MAIN'
 #![tactic(auto)]
 
 ghost use Rattle.std.specs.Prelude.{◌≡◌, ◌+◌, ◌*◌, ◌<◌, ◌≤◌};
-ghost use Rattle.slot_cache.specs.Cells.{IsOlder};
+ghost use Rattle.cache_ident.specs.declared.idents.Kind.TheVariants.{Mapping};
+ghost use Rattle.kind_store.specs.Rolls.{AreEnrolled};
 ghost use Rattle.displacement_times.specs.declared.TheConstants.{CAPS, TURNS};
 
-use cache_ident::{Caps, Frame, Ident, Kind, Name, NoMemory, SpaceNo, Vpn};
+use cache_ident::{Caps, Frame, Ident, KernelNo, Kind, Name, NoMemory, Roll, SpaceNo, Vpn};
 use depend_lists::{Class, Depends, Node};
+use kind_store::KindStore;
 use phys_groups::{Flags, Row};
-use slot_cache::Cache;
 use std::alloc::Global;
 use std::time::Instant;
 
@@ -37,6 +37,8 @@ const CAPS: Caps = Caps {
 
 // So many displacements are timed at once.
 const TURNS: u32 = 2_000;
+
+const OWNER: KernelNo = KernelNo(0);
 
 // The pages, frames and spaces are scattered, so that each index is searched and changed everywhere.
 fn row(no: u32) -> Row {
@@ -67,112 +69,115 @@ fn depend(depends: &mut Depends, space: SpaceNo, child: Node)
     }
 }
 
-fn load(cache: &mut Cache<Row>, depends: &mut Depends, serial: u64, row: Row)
-    requires serials { IsOlder cache.old serial }
+// Declares a row that isn't there yet, and loads it.
+fn load(rows: &mut KindStore<Row>, roll: &mut Roll, depends: &mut Depends, row: Row)
+    requires enrolled { AreEnrolled Mapping roll.old.issued rows.old.cells }
     requires caps { depends.old.caps ≡ CAPS }
-    ensures serials { IsOlder cache.new (serial + 1) }
+    ensures enrolled { AreEnrolled Mapping roll.new.issued rows.new.cells }
     ensures caps { depends.new.caps ≡ CAPS }
 {
-    if let (Some(slot), None) = (cache.free(), cache.find(Name::Mapping(row.space, row.vpn))) {
-        let ident = Ident {
-            kind: Kind::Mapping,
-            slot,
-            serial,
-        };
-        cache.put(ident, row);
+    let name = Name::Mapping(row.space, row.vpn);
+    let space = row.space;
+    match rows.item(name) {
+        None if rows.room() > 0 => rows.declare(OWNER, row),
+        _ => {}
+    }
+    if let (Some(_), Some(_), true) = (rows.owner_of(name), rows.free(), roll.spare() > 0) {
+        let ident = rows.load(name, roll);
         let class = Class::OtherRow;
-        depend(depends, row.space, Node { ident, class });
+        depend(depends, space, Node { ident, class });
     }
 }
 
-fn unload(cache: &mut Cache<Row>, depends: &mut Depends, keep: &[Ident], serial: u64)
-    requires serials { IsOlder cache.old serial }
+// Has the victim leave, and takes it off the shelf.
+fn unload(rows: &mut KindStore<Row>, roll: &mut Roll, depends: &mut Depends, keep: &[Ident])
+    requires enrolled { AreEnrolled Mapping roll.old.issued rows.old.cells }
     requires caps { depends.old.caps ≡ CAPS }
-    ensures serials { IsOlder cache.new serial }
+    ensures enrolled { AreEnrolled Mapping roll.new.issued rows.new.cells }
     ensures caps { depends.new.caps ≡ CAPS }
 {
-    if let Some(ident) = cache.victim(keep) {
-        cache.take(ident);
-        depends.remove(ident);
+    if let Some(ident) = rows.victim(keep) {
+        if let Some(row) = rows.get(ident) {
+            let name = Name::Mapping(row.space, row.vpn);
+            rows.leave(ident, OWNER, roll, 0);
+            depends.remove(ident);
+            if let Some(_) = rows.owner_of(name) {
+                rows.retract(name);
+            }
+        }
     }
 }
 
-// Takes out the victim where no slot is free, or where so many rows are loaded, and loads another row.
-fn displace(cache: &mut Cache<Row>, depends: &mut Depends, keep: &[Ident], loaded: u32, serial: u64, row: Row)
-    requires serials { IsOlder cache.old serial }
-    requires caps { depends.old.caps ≡ CAPS }
-    ensures serials { IsOlder cache.new (serial + 1) }
-    ensures caps { depends.new.caps ≡ CAPS }
-{
-    if cache.free().is_none() || cache.len() >= loaded {
-        unload(cache, depends, keep, serial);
-    }
-    load(cache, depends, serial, row);
-}
-
-fn displace_often(cache: &mut Cache<Row>, depends: &mut Depends, keep: &[Ident], loaded: u32, from: u32)
+fn displace_often(rows: &mut KindStore<Row>, roll: &mut Roll, depends: &mut Depends, keep: &[Ident], from: u32)
     requires few { from ≤ 1000000 }
-    requires serials { IsOlder cache.old from }
+    requires enrolled { AreEnrolled Mapping roll.old.issued rows.old.cells }
     requires caps { depends.old.caps ≡ CAPS }
-    ensures serials { IsOlder cache.new (from + TURNS) }
+    ensures enrolled { AreEnrolled Mapping roll.new.issued rows.new.cells }
     ensures caps { depends.new.caps ≡ CAPS }
 {
     for no in 0..TURNS {
-        displace(cache, depends, keep, loaded, u64::from(from + no), row(from + no));
+        unload(rows, roll, depends, keep);
+        load(rows, roll, depends, row(from + no));
     }
 }
 
-fn filled(cache: &mut Cache<Row>, depends: &mut Depends, loaded: u32)
-    requires serials { IsOlder cache.old 0 }
+fn filled(rows: &mut KindStore<Row>, roll: &mut Roll, depends: &mut Depends, loaded: u32)
+    requires enrolled { AreEnrolled Mapping roll.old.issued rows.old.cells }
     requires caps { depends.old.caps ≡ CAPS }
-    ensures serials { IsOlder cache.new loaded }
+    ensures enrolled { AreEnrolled Mapping roll.new.issued rows.new.cells }
     ensures caps { depends.new.caps ≡ CAPS }
 {
     for no in 0..loaded {
-        load(cache, depends, u64::from(no), row(no));
+        load(rows, roll, depends, row(no));
     }
 }
 
-// Locks the oldest row that isn't locked.
-fn lock_oldest(cache: &mut Cache<Row>, serial: u64)
-    requires { IsOlder cache.old serial }
-    ensures { IsOlder cache.new serial }
-{
-    if let Some(ident) = cache.victim(&[]) {
-        cache.set_lock(ident, true);
-    }
-}
-
-fn lock_oldest_few(cache: &mut Cache<Row>, serial: u64)
-    requires { IsOlder cache.old serial }
-    ensures { IsOlder cache.new serial }
+// Locks the sixteen oldest rows.
+fn lock_oldest(rows: &mut KindStore<Row>, roll: &Roll)
+    requires { AreEnrolled Mapping roll.now.issued rows.old.cells }
+    ensures { AreEnrolled Mapping roll.now.issued rows.new.cells }
 {
     for _ in 0..16u32 {
-        lock_oldest(cache, serial);
+        if let Some(ident) = rows.victim(&[]) {
+            rows.lock(ident);
+        }
     }
 }
 
 // The six oldest rows that aren't locked.
-fn oldest(alloc: Global, cache: &Cache<Row>) -> Result<Vec<Ident>, NoMemory> {
+fn oldest(alloc: Global, rows: &KindStore<Row>) -> Result<Vec<Ident>, NoMemory> {
     let mut keep = Vec::with_capacity(alloc, 6)?;
     for _ in 0..6u32 {
-        if let Some(ident) = cache.victim(&keep) {
+        if let Some(ident) = rows.victim(&keep) {
             keep.push(ident)?;
         }
     }
     Ok(keep)
 }
 
+// Room for so many rows.
+fn with_room(rows: &mut KindStore<Row>, roll: &Roll, count: usize) -> Result<(), NoMemory>
+    requires { AreEnrolled Mapping roll.now.issued rows.old.cells }
+    ensures { AreEnrolled Mapping roll.now.issued rows.new.cells }
+{
+    for _ in 0..32u32 {
+        if rows.room() < count {
+            rows.make_room()?;
+        }
+    }
+    Ok(())
+}
+
 // The time of one displacement, in nanoseconds: the best of sixteen times of many.
-fn best_of(rt: &impl std::rt::Clock, cache: &mut Cache<Row>, depends: &mut Depends, keep: &[Ident], loaded: u32) -> anyhow::Result<u128>
+fn best_of(rt: &impl std::rt::Clock, rows: &mut KindStore<Row>, roll: &mut Roll, depends: &mut Depends, keep: &[Ident], loaded: u32) -> anyhow::Result<u128>
     requires few { loaded ≤ 65536 }
-    requires serials { IsOlder cache.old loaded }
+    requires enrolled { AreEnrolled Mapping roll.old.issued rows.old.cells }
     requires caps { depends.old.caps ≡ CAPS }
 {
     let mut best = u128::MAX;
     for batch in 0..16u32 {
         let start = Instant::now(rt)?;
-        displace_often(cache, depends, keep, loaded, loaded + batch * TURNS);
+        displace_often(rows, roll, depends, keep, loaded + batch * TURNS);
         best = best.min(start.elapsed(rt)?.as_nanos() / u128::from(TURNS));
     }
     Ok(best)
@@ -181,12 +186,15 @@ fn best_of(rt: &impl std::rt::Clock, cache: &mut Cache<Row>, depends: &mut Depen
 fn measured(rt: &(impl std::rt::Clock + AllocGlobal), cap: u32, loaded: u32) -> anyhow::Result<u128>
     requires { loaded ≤ 65536 }
 {
-    let mut cache = Cache::new(rt.alloc(), cap)?;
+    let mut rows = KindStore::new(rt.alloc(), cap)?;
     let mut depends = Depends::new(rt.alloc(), CAPS)?;
-    filled(&mut cache, &mut depends, loaded);
-    lock_oldest_few(&mut cache, u64::from(loaded));
-    let keep = oldest(rt.alloc(), &cache)?;
-    best_of(rt, &mut cache, &mut depends, &keep, loaded)
+    let mut roll = Roll::new(rt.alloc());
+    roll.reserve(100_000)?;
+    with_room(&mut rows, &roll, loaded as usize + 1)?;
+    filled(&mut rows, &mut roll, &mut depends, loaded);
+    lock_oldest(&mut rows, &roll);
+    let keep = oldest(rt.alloc(), &rows)?;
+    best_of(rt, &mut rows, &mut roll, &mut depends, &keep, loaded)
 }
 
 fn of_size(rt: &(impl Print + std::rt::Clock + AllocGlobal), cap: u32) -> anyhow::Result<()>
@@ -208,64 +216,53 @@ MAIN
 answer_depend displacement_times
 for loop in displace_often filled; do
     cat > "$program/proofs/$loop/Invariants.antt" <<PROOF
-use Rattle.std.proofs.Common.{◌≡◌, ◌+◌}
-use Rattle.slot_cache.specs.Cells.{IsOlder}
+use Rattle.std.proofs.Common.{◌≡◌}
+use Rattle.cache_ident.specs.declared.idents.Kind.TheVariants.{Mapping}
+use Rattle.kind_store.specs.Rolls.{AreEnrolled}
 use Rattle.displacement_times.specs.declared.TheConstants.{CAPS}
 use Rattle.displacement_times.proofs.$loop.Given as goal
 
 abbrev pub invariant-loop-no : goal.invariant-loop-no
-invariant-loop-no l = record { serials : IsOlder l.cache ($([ "$loop" = filled ] || echo 'l.from + ')l.no); caps : l.depends.caps ≡ CAPS }
+invariant-loop-no l = record { enrolled : AreEnrolled Mapping l.roll.issued l.rows.cells; caps : l.depends.caps ≡ CAPS }
+PROOF
+done
+for loop in lock_oldest with_room; do
+    cat > "$program/proofs/$loop/Invariants.antt" <<PROOF
+use Rattle.cache_ident.specs.declared.idents.Kind.TheVariants.{Mapping}
+use Rattle.kind_store.specs.Rolls.{AreEnrolled}
+use Rattle.displacement_times.proofs.$loop.Given as goal
+
+abbrev pub invariant-loop : goal.invariant-loop
+invariant-loop l = AreEnrolled Mapping l.roll.issued l.rows.cells
 PROOF
 done
 cat > "$program/proofs/lock_oldest/Answers.antt" <<'PROOF'
-use Rattle.std.proofs.Common.{◌≡◌, ◌<◌, ℕ, Option, Some, List, set, refl, sym, ◌∙◌, ap, subst, inl, inr}
-use Rattle.std.proofs.lemmas.Bool.{cases_eq}
-use Rattle.cache_ident.specs.declared.idents.Ident.{Ident}
-use Rattle.phys_groups.specs.declared.rows.Row.{Row}
-use Rattle.slot_cache.specs.declared.loaded.Loaded.{Loaded}
-use Rattle.slot_cache.specs.Cells.{cell_at, IsOlder}
-use Rattle.slot_cache.proofs.SlotLemmas.{cell_within, elsewhere, here, some_same}
+use Rattle.displacement_times.proofs.lock_oldest.Goals.{in-Some, in_default}
 use Rattle.displacement_times.proofs.lock_oldest.Goals as goal
 
--- what is put over a row with the row's identifier is as old
-older_same : (cells : List (Option (Loaded Row))) (slot serial : ℕ) (e new : Loaded Row) → cell_at cells slot ≡ Some e → new.ident ≡ e.ident → IsOlder cells serial → IsOlder (set cells slot (Some new)) serial
-older_same cells slot serial e new some same older at loaded there =
-    let after = set cells slot (Some new) in
-    elim (cases_eq at slot) [
-      | inl is ↦
-          let one = some_same new loaded (sym (here cells slot (Some new) (cell_within cells slot e some)) ∙ ap (cell_at after) (sym is) ∙ there) in
-          subst (λ (i : Ident). i.serial < serial) (sym same ∙ ap (λ (l : Loaded Row). l.ident) one) (older slot e some)
-      | inr other ↦ older at loaded (sym (elsewhere cells slot at (Some new) other) ∙ there)
-    ]
-
-pub returns-in-Some : goal.returns-in-Some
-returns-in-Some c =
-    let victim = rw c.in-Some.is at c.victim.ensures.victim in
-    let held = victim.candidate in
-    rw (c.set_lock.ensures, held.1) (older_same c.args.cache.now c.in-Some.ident.slot c.args.serial held.0 _ held.1 refl c.requires)
-PROOF
-cat > "$program/proofs/lock_oldest_few/Invariants.antt" <<'PROOF'
-use Rattle.slot_cache.specs.Cells.{IsOlder}
-use Rattle.displacement_times.proofs.lock_oldest_few.Given as goal
-
-abbrev pub invariant-loop : goal.invariant-loop
-invariant-loop l = IsOlder l.cache l.serial
+pub loop-preserved : goal.loop-preserved
+loop-preserved c = elim c.match-victim.branch [
+  | in-Some w ↦ rw w.rows-is (w.lock.ensures.enrolled c.args.roll.now.issued c.loop.invariant)
+  | in_default w ↦ rw w.rows-is c.loop.invariant
+]
 PROOF
 cat > "$program/proofs/best_of/Invariants.antt" <<'PROOF'
-use Rattle.std.proofs.Common.{◌≡◌, ◌+◌, ◌*◌}
-use Rattle.slot_cache.specs.Cells.{IsOlder}
-use Rattle.displacement_times.specs.declared.TheConstants.{CAPS, TURNS}
+use Rattle.std.proofs.Common.{◌≡◌}
+use Rattle.cache_ident.specs.declared.idents.Kind.TheVariants.{Mapping}
+use Rattle.kind_store.specs.Rolls.{AreEnrolled}
+use Rattle.displacement_times.specs.declared.TheConstants.{CAPS}
 use Rattle.displacement_times.proofs.best_of.Given as goal
 
 abbrev pub invariant-loop-batch : goal.invariant-loop-batch
-invariant-loop-batch g l = record { serials : IsOlder l.cache (l.loaded + l.batch * TURNS); caps : l.depends.caps ≡ CAPS }
+invariant-loop-batch g l = record { enrolled : AreEnrolled Mapping l.roll.issued l.rows.cells; caps : l.depends.caps ≡ CAPS }
 PROOF
 cat > "$program/proofs/measured/Answers.antt" <<'PROOF'
-use Rattle.std.proofs.Common.{arith}
+use Rattle.cache_ident.specs.declared.idents.Kind.TheVariants.{Mapping}
+use Rattle.kind_store.proofs.EnrolLemmas.{enrolled-none}
 use Rattle.displacement_times.proofs.measured.Goals as goal
 
-pub best_of-requires-clause-serials : goal.best_of-requires-clause-serials
-best_of-requires-clause-serials g c slot loaded there = omega (arith, c.lock_oldest_few.ensures slot loaded there, c.from.ensures)
+pub with_room-requires : goal.with_room-requires
+with_room-requires g c = rw (c.in_ok-rows.ensures, c.in_ok-reserve.ensures.issued, c.new-roll.ensures) (enrolled-none Mapping c.args.cap)
 PROOF
 
 times="$(run_program ' ns a displacement')" || { echo "$times"; exit 1; }

@@ -4,5 +4,6 @@ pub mod Later
 pub mod Looking
 pub mod Marks
 pub mod Next
+pub mod Paging
 pub mod Runs
 pub mod Told

@@ -34,7 +34,7 @@ use Rattle.board_turns.specs.declared.committed.Committed.{Committed}
 use Rattle.board_turns.specs.declared.committed.Committed.TheVariants.{Taken, TooMany, Lost}
 use Rattle.board_turns.specs.declared.found.Found.{Found}
 use Rattle.board_turns.specs.declared.found.Found.TheVariants.{Out, Wanted, Nothing, Over}
-use Rattle.board_turns.specs.Holds.{found_if, AreTaken, HasCommitted, HasHealed, HasLeft}
+use Rattle.board_turns.specs.Holds.{AreTaken, HasCommitted, HasHealed, HasLeft}
 use Rattle.board_turns.specs.Looks.{settled_on, HasLooked, StandsAt}
 use Rattle.board_turns.specs.Paces.{must_bring, paced, wants_first, Beat}
 use Rattle.board_turns.specs.Turning.{turns_left, HasGrown, IsAtRest, IsAtRestBut, IsLeftBy, IsNext, IsOnQuantum, IsToStep, IsTriedBy, IsUnmarked}

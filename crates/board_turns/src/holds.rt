@@ -1,10 +1,8 @@
 //! What a processor does with the board while it holds it, and whoever has the board alone.
 
-ghost use Rattle.std.specs.Prelude.{◌≡◌, ◌<◌, ◌≤◌, ◌+◌, List, None, IfNone, IfOk, IfSome, OnErr, OnOk};
+ghost use Rattle.std.specs.Prelude.{◌≡◌, ◌<◌, ◌≤◌, ◌+◌, None, IfNone, IfOk, IfSome, OnOk};
 ghost use Rattle.std.specs.Bool.{OnTrue};
-ghost use Rattle.cache_board.specs.run_journal.specs.declared.entries.Entry.{Entry};
 ghost use Rattle.cache_board.specs.board_commits.specs.Tickets.{AreAllAsOf, AreOfTicket};
-ghost use Rattle.cache_board.specs.board_core.specs.Core.{IsSound};
 ghost use Rattle.cache_board.specs.board_core.specs.Going.{IsOneEvent};
 ghost use Rattle.cache_board.specs.board_threads.specs.Tests.{IsWanted};
 ghost use Rattle.board_turns.specs.Holds.{found_by, found_if, taken_by, AreFewer, HasCommitted, HasHealed, HasLookedIf, IsReadyFor};
@@ -17,6 +15,7 @@ use cache_board::{Board, Quantum, Refused, Ticket};
 use cache_ident::{Name, NoMemory, ThreadNo, Vpn};
 use flat_rules::wants;
 use flat_state::Settled;
+use page_views::MOST_RECENT;
 use rv32_exec::{Access, Status};
 use std::alloc::AllocError;
 
@@ -63,14 +62,33 @@ pub fn find(board: &mut Board, cpu: u32, want_first: bool, next: &mut Found)
     }
 }
 
-/// Begins the quantum of a thread that came to the processor, where one did, from the context of its ticket.
-#[inline(always)]
-pub fn begin(found: &Found, quantum: &mut Quantum)
-    ensures ready { (j : List Entry) → AreAllAsOf j quantum.old → IsReadyFor j quantum.new found.now }
-    ensures kept { (j : List Entry) → AreAllAsOf j quantum.old → AreAllAsOf j quantum.new }
+// Begins the quantum of a ticket's thread from the ticket's context, with copies of the pages that the thread touched last, as far as
+// their rows are loaded and there is room.
+fn begin_for(board: &Board, ticket: &Ticket, quantum: &mut Quantum)
+    requires kept { AreAllAsOf board.now.journal.entries quantum.old }
+    ensures views { AreOfTicket board.now.journal.entries ticket.now.thread quantum.new }
+    ensures steps { quantum.new.steps ≡ 0 }
+{
+    quantum.begin(ticket.context, ticket.no);
+    for place in 0..MOST_RECENT {
+        let Some(vpn) = quantum.recent(place) else {
+            return;
+        };
+        if quantum.can_fill(vpn) && board.page(ticket, vpn, quantum).is_err() {
+            return;
+        }
+    }
+}
+
+/// Begins the quantum of a thread that came to the processor, where one did, from the context of its ticket, with copies of the pages
+/// that it touched last there.
+pub fn begin(board: &Board, found: &Found, quantum: &mut Quantum)
+    requires kept { AreAllAsOf board.now.journal.entries quantum.old }
+    ensures ready { IsReadyFor board.now.journal.entries quantum.new found.now }
+    ensures kept { AreAllAsOf board.now.journal.entries quantum.new }
 {
     if let Found::Out(ticket) = found {
-        quantum.begin(ticket.context, ticket.no);
+        begin_for(board, ticket, quantum);
     }
 }
 
@@ -101,7 +119,7 @@ pub(crate) fn look(board: &mut Board, want_first: bool, quantum: &mut Quantum, n
     ensures kept { AreAllAsOf board.new.journal.entries quantum.new }
 {
     look_alone(board, want_first, next);
-    begin(next, quantum);
+    begin(board, next, quantum);
 }
 
 // A look behind something else, if an order is given. Answers whether one is.

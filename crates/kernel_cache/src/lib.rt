@@ -7,7 +7,7 @@ ghost use Rattle.kernel_cache.specs.Kernels.{name_of};
 
 use cache_ident::{Caps, KernelNo, Kind, Name};
 use phys_groups::Rights;
-use slot_cache::{Cache, Descriptor};
+use slot_cache::Descriptor;
 
 /// A kernel: what it may access, and how many descriptors of each kind it may lock and has locked.
 #[derive(Clone, Copy)]
@@ -29,6 +29,3 @@ impl Descriptor for KernelRec {
         Name::Kernel(self.no)
     }
 }
-
-/// The kernels that are loaded. A contract sees what stands at each slot.
-pub type KernelCache = Cache<KernelRec>;

@@ -9,3 +9,8 @@ pub mod SeenLemmas
 pub mod EditLemmas
 pub mod MoveLemmas
 pub mod NamedLemmas
+pub mod HeldLemmas
+pub mod SeatedLemmas
+pub mod SerialLemmas
+pub mod SeatEdits
+pub mod SeatUpdates

@@ -1,5 +1,5 @@
 -- A store once a descriptor moved between cache and shelf.
-use Rattle.std.proofs.Common.{◌≡◌, ◌-◌, ◌<◌, List, length, set, Option, Some, None, sym, ◌∙◌, ap, subst, refl, arith}
+use Rattle.std.proofs.Common.{◌≡◌, ◌-◌, List, set, Option, Some, None, sym, ◌∙◌, ap, subst, refl}
 use Rattle.std.specs.Option.{option_map}
 use Rattle.cache_ident.specs.declared.idents.Ident.{Ident}
 use Rattle.cache_ident.specs.declared.idents.Kind.{Kind}
@@ -7,16 +7,14 @@ use Rattle.cache_ident.specs.declared.names.KernelNo.{KernelNo}
 use Rattle.cache_ident.specs.declared.names.Name.{Name}
 use Rattle.sorted_list.specs.Sorted.{IsAdded}
 use Rattle.slot_cache.specs.declared.loaded.Loaded.{Loaded}
-use Rattle.slot_cache.specs.Cells.{cell_at, filled, just_loaded, HasNoName, HasNoSerial, IsLowestFree}
+use Rattle.slot_cache.specs.Cells.{cell_at, filled, just_loaded, HasNoName, IsLowestFree}
 use Rattle.slot_cache.proofs.SlotLemmas.{some_same}
 use Rattle.owner_shelf.specs.declared.shelved.Shelved.{Shelved}
 use Rattle.owner_shelf.specs.Rows.{content_under, row_under, rows_without, HasNoRow, OnShelf}
-use Rattle.owner_shelf.specs.Rows.{IsProper as IsProperShelf}
-use Rattle.owner_shelf.proofs.RowLaws.{length-without}
 use Rattle.kind_store.specs.Changes.{HasContent, IsExchanging, IsLeaving, IsLoading, KeepsContents}
 use Rattle.kind_store.specs.Kept.{content_of, kept_in, IsSound}
 use Rattle.kind_store.proofs.ContentLemmas.{content_named, contents-declaring, contents-exchanging, contents-leaving, contents-loading, no_loaded, no_row, row_of_content}
-use Rattle.kind_store.proofs.SoundLemmas.{count-exchanging, count-leaving, count-loading, sound-declaring, sound-exchanging, sound-leaving, sound-loading, unloaded}
+use Rattle.kind_store.proofs.SoundLemmas.{count-exchanging, count-leaving, count-loading, unloaded}
 
 module _ {T : Type 0} (called : T → Name) (kind : Kind) (cells : List (Option (Loaded T))) (shelf : OnShelf T) (sound : IsSound called kind cells shelf) where
   -- into the cache
@@ -36,9 +34,6 @@ module _ {T : Type 0} (called : T → Name) (kind : Kind) (cells : List (Option 
     pub load-unloaded : HasNoName called cells (called value)
     load-unloaded = unloaded called kind cells shelf sound (called value) value shelved
 
-    pub load-sound : ident.kind ≡ kind → HasNoSerial cells ident.serial → IsProperShelf called (rest name) → IsSound called kind (filled cells x) (rest name)
-    load-sound kind_is serial = subst (λ n. IsProperShelf called (rest n) → IsSound called kind (filled cells x) (rest n)) named (sound-loading called kind cells shelf sound x lowest.below lowest.free shelved kind_is serial)
-
     pub load-moved : IsLoading called (kept_in cells shelf) (kept_in (filled cells x) (rest name)) name ident
     load-moved = subst (λ n. IsLoading called (kept_in cells shelf) (kept_in (filled cells x) (rest n)) n ident) named (record {
       value = value;
@@ -56,9 +51,6 @@ module _ {T : Type 0} (called : T → Name) (kind : Kind) (cells : List (Option 
     absent_before : HasNoRow called shelf.rows (called value)
     absent_before = subst (λ v. HasNoRow called shelf.rows (called v)) content (sound.apart ident.slot e there)
 
-    pub leave-sound : IsProperShelf called new → IsSound called kind (set cells ident.slot None) new
-    leave-sound proper = sound-leaving called kind cells shelf sound ident.slot e there new (record { owner = owner; content = value }) (sym content) added room proper
-
     pub leave-moved : IsLeaving (kept_in cells shelf) (kept_in (set cells ident.slot None) new) ident owner
     leave-moved = record {
       value = value;
@@ -73,16 +65,13 @@ module _ {T : Type 0} (called : T → Name) (kind : Kind) (cells : List (Option 
 
   -- onto the shelf for the first time
   module _ (row : Shelved T) (absent : content_of called (kept_in cells shelf) (called row.content) ≡ None) where
-    new_unloaded : HasNoName called cells (called row.content)
+    pub new_unloaded : HasNoName called cells (called row.content)
     new_unloaded = no_loaded called (kept_in cells shelf) (called row.content) sound.slots.one_name absent
 
     pub new_absent : HasNoRow called shelf.rows (called row.content)
     new_absent = no_row called (kept_in cells shelf) (called row.content) absent
 
     module _ (new : OnShelf T) (added : IsAdded shelf.rows new.rows row) where
-      pub declare-sound : 0 < (kept_in cells shelf).room → new.room ≡ shelf.room → IsProperShelf called new → IsSound called kind cells new
-      declare-sound place room proper = sound-declaring called kind cells shelf sound new row new_unloaded (omega (arith, place)) added room proper
-
       pub declare-contents : HasContent called (kept_in cells shelf) (kept_in cells new) (called row.content) row.content
       declare-contents = contents-declaring called cells shelf.rows new.rows (kept_in cells shelf).room (kept_in cells new).room row new_unloaded new_absent added
 
@@ -94,13 +83,7 @@ module _ {T : Type 0} (called : T → Name) (kind : Kind) (cells : List (Option 
         let own : row.0.owner ≡ owner = some_same row.0.owner owner (sym (ap (option_map (λ (r : Shelved T). r.owner)) row.1) ∙ owned) in
         row.1 ∙ ap (λ o. Some (record { owner = o; content = row.0.content })) own ∙ ap (λ v. Some (record { owner = owner; content = v })) row.2
 
-    pub exchange-place : length (rows_without called shelf.rows (called value)) < shelf.room
-    exchange-place = omega (arith, sound.roomy, length-without called shelf.rows (called value) (record { owner = owner; content = was }) exchanged)
-
     module _ (new : OnShelf T) (room : new.room ≡ shelf.room) (added : IsAdded (rows_without called shelf.rows (called value)) new.rows (record { owner = owner; content = value })) where
-      pub exchange-sound : IsProperShelf called new → IsSound called kind cells new
-      exchange-sound proper = sound-exchanging called kind cells shelf sound new (record { owner = owner; content = value }) was there added room proper
-
       pub exchange-moved : IsExchanging called (kept_in cells shelf) (kept_in cells new) value was
       exchange-moved = record {
         owner = owner;

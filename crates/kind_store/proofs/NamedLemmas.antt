@@ -1,5 +1,5 @@
 -- A store once the content of a name changed where it stands.
-use Rattle.std.proofs.Common.{◌≡◌, ◌≢◌, ℕ, zero, suc, ◌-◌, Bool, true, false, cond, count_by, is_some, List, [], ◌∷◌, length, get_or, Option, Some, None, sym, ◌∙◌, ap, subst, refl, arith}
+use Rattle.std.proofs.Common.{◌≡◌, ◌≢◌, ℕ, zero, suc, ◌-◌, Bool, true, false, cond, count_by, is_some, List, [], ◌∷◌, get_or, Option, Some, None, sym, ◌∙◌, ap, subst, refl, arith}
 use Rattle.std.specs.Option.{option_map}
 use Rattle.std.specs.Prelude.{if◌then◌else◌}
 use Rattle.std.proofs.lemmas.List.{length-map}
@@ -14,16 +14,14 @@ use Rattle.slot_cache.specs.declared.loaded.Loaded.{Loaded}
 use Rattle.slot_cache.specs.Cells.{cell_at, changed, with_value, HasNoName}
 use Rattle.slot_cache.proofs.SlotLemmas.{cell_within, some_same}
 use Rattle.owner_shelf.specs.declared.shelved.Shelved.{Shelved}
-use Rattle.owner_shelf.specs.Rows.{content_under, row_with, rows_with, HasNoRow, OnShelf}
-use Rattle.owner_shelf.specs.Rows.{IsProper as IsProperShelf}
+use Rattle.owner_shelf.specs.Rows.{content_under, row_with, rows_with, OnShelf}
 use Rattle.owner_shelf.proofs.NameLemmas.{eq_apart, eq_same}
-use Rattle.owner_shelf.proofs.UpdateLemmas.{absent-with, name-with, owner-with, under-with_other, under-with_same, with-absent}
+use Rattle.owner_shelf.proofs.UpdateLemmas.{name-with, owner-with, under-with_other, under-with_same}
 use Rattle.kind_store.specs.Changes.{cells_with, loaded_with, with_content, HasContent}
 use Rattle.kind_store.specs.Kept.{content_of, count_of, is_called, kept_in, AreOwned, IsSound, Kept}
 use Rattle.kind_store.specs.Rolls.{held_as, loaded_as}
 use Rattle.kind_store.proofs.CellLemmas.{found-absent, found-there}
 use Rattle.kind_store.proofs.ContentLemmas.{content-loaded, content-same, content-shelved, has-content, row_of_content}
-use Rattle.kind_store.proofs.EditLemmas.{edit-view}
 use Rattle.kind_store.proofs.ProperLemmas.{IsOnce}
 
 module _ {T : Type 0} (called : T → Name) (name : Name) where
@@ -92,35 +90,16 @@ module _ {T : Type 0} (called : T → Name) (name : Name) where
         let off = other_stays x (λ same. absurd (omega (arith, one 0 x refl same))) in
         ap (λ (a : Loaded T). Some a ∷ cells_with called cells name left) off ∙ ap (λ (cs : List (Option (Loaded T))). Some x ∷ cs) (cells-there cells slot l there named (λ other a at same. omega (arith, one (suc other) a at same)))
 
-    module _ (kind : Kind) (cells : List (Option (Loaded T))) (shelf : OnShelf T) (sound : IsSound called kind cells shelf) where
-      -- in its slot
-      pub named-loaded : (ident : Ident) (l : Loaded T) → cell_at cells ident.slot ≡ Some l → l.ident ≡ ident → called l.value ≡ name → called left ≡ name → kept_in (changed cells ident.slot (with_value left)) shelf ≡ with_content called (kept_in cells shelf) name left
-      named-loaded ident l there own named same =
-          let view = edit-view called kind cells shelf sound ident l there own (with_value left) refl in
-          let is = cells-there cells ident.slot l there named (λ other a at same. sound.slots.one_name other ident.slot a l at there (same ∙ sym named)) in
-          let absent = subst (HasNoRow called shelf.rows) named (sound.apart ident.slot l there) in
-          view ∙ ap (λ (cs : List (Option (Loaded T))). record (kept_in cells shelf) { cells = cs }) (sym is) ∙ ap (λ (rs : List (Shelved T)). record (kept_in cells shelf) { cells = cells_with called cells name left; rows = rs }) (sym (with-absent called name left same shelf.rows absent))
+    -- all together
+    pub named-view : (cells : List (Option (Loaded T))) (shelf : OnShelf T) → kept_in (cells_with called cells name left) (record shelf { rows = rows_with called shelf.rows name left }) ≡ with_content called (kept_in cells shelf) name left
+    named-view cells shelf =
+        let count : count_of (cells_with called cells name left) (rows_with called shelf.rows name left) ≡ count_of cells shelf.rows = omega (arith, count-with cells, length-map shelf.rows (row_with called name left)) in
+        ap (λ n. record { cells = cells_with called cells name left; rows = rows_with called shelf.rows name left; room = shelf.room - n }) count
 
+    module _ (kind : Kind) (cells : List (Option (Loaded T))) (shelf : OnShelf T) (sound : IsSound called kind cells shelf) where
       module _ (same : called left ≡ name) (unloaded : HasNoName called cells name) where
         abbrev after : OnShelf T
         after = record shelf { rows = rows_with called shelf.rows name left }
-
-        counted : length (rows_with called shelf.rows name left) ≡ length shelf.rows
-        counted = length-map shelf.rows (row_with called name left)
-
-        -- on the shelf
-        pub named-shelved : kept_in cells (record shelf { rows = rows_with called shelf.rows name left }) ≡ with_content called (kept_in cells shelf) name left
-        named-shelved =
-            let count : count_of cells (rows_with called shelf.rows name left) ≡ count_of cells shelf.rows = omega (arith, counted) in
-            ap (λ n. record { cells = cells; rows = rows_with called shelf.rows name left; room = shelf.room - n }) count ∙ ap (λ (cs : List (Option (Loaded T))). record { cells = cs; rows = rows_with called shelf.rows name left; room = (kept_in cells shelf).room }) (sym (cells-absent cells unloaded))
-
-        pub named-sound : IsProperShelf called (record shelf { rows = rows_with called shelf.rows name left }) → IsSound called kind cells (record shelf { rows = rows_with called shelf.rows name left })
-        named-sound proper = record {
-          slots = sound.slots;
-          rows = proper;
-          apart = λ slot l there. absent-with called name left same shelf.rows (called l.value) (sound.apart slot l there);
-          roomy = omega (arith, sound.roomy, counted);
-        }
 
         pub named-contents : (was : T) → content_under called shelf.rows name ≡ Some was → HasContent called (kept_in cells shelf) (kept_in cells (record shelf { rows = rows_with called shelf.rows name left })) name left
         named-contents was there =

@@ -7,7 +7,7 @@ use Rattle.cache_ident.specs.declared.names.Name.{Name}
 use Rattle.slot_cache.specs.declared.loaded.Loaded.{Loaded}
 use Rattle.slot_cache.specs.Cells.{cell_at}
 use Rattle.slot_cache.specs.Table.{IsProper}
-use Rattle.slot_cache.proofs.SlotLemmas.{elsewhere, here, not_none, placed-put, placed-take, some_same}
+use Rattle.slot_cache.proofs.SlotLemmas.{elsewhere, here, not_none, placed-put, some_same}
 
 module _ {T : Type 0} where
   -- what stands in a slot once another one is emptied stood there before
@@ -57,13 +57,6 @@ module _ {T : Type 0} (called : T → Name) (kind : Kind) where
     placed = placed-put kind cells slot new within fits.slot_is fits.kind_is proper.placed;
     one_serial = once-put (λ (x : Loaded T). x.ident.serial) cells slot new within fits.serial proper.one_serial;
     one_name = once-put (λ (x : Loaded T). called x.value) cells slot new within fits.name proper.one_name;
-  }
-
-  pub proper-take : (cells : List (Option (Loaded T))) (slot : ℕ) → slot < length cells → IsProper called kind cells → IsProper called kind (set cells slot None)
-  proper-take cells slot within proper = record {
-    placed = placed-take kind cells slot within proper.placed;
-    one_serial = once-take (λ (x : Loaded T). x.ident.serial) cells slot within proper.one_serial;
-    one_name = once-take (λ (x : Loaded T). called x.value) cells slot within proper.one_name;
   }
 
   -- one of the same identifier and the same name fits in the place of one that is there

@@ -1,35 +1,49 @@
 -- What a reader of a store learns.
-use Rattle.std.proofs.Common.{◌≡◌, List, Option, Some, None, sym, ◌∙◌, ap, subst}
+use Rattle.std.proofs.Common.{◌≡◌, Bool, true, false, List, Option, Some, None, ◌∙◌, ap, subst, refl}
 use Rattle.std.specs.Option.{option_map, IfNone, IfSome}
-use Rattle.cache_ident.specs.declared.idents.Ident.{Ident}
+use Rattle.std.specs.Prelude.{if◌then◌else◌}
 use Rattle.cache_ident.specs.declared.idents.Kind.{Kind}
 use Rattle.cache_ident.specs.declared.names.Name.{Name}
 use Rattle.slot_cache.specs.declared.loaded.Loaded.{Loaded}
-use Rattle.slot_cache.specs.Cells.{HasNoName, IsContent, IsFoundAs, IsLoaded}
-use Rattle.slot_cache.proofs.SlotLemmas.{one_at}
-use Rattle.owner_shelf.specs.Rows.{content_under, OnShelf}
+use Rattle.slot_cache.specs.declared.seats.Seat.{Seat}
+use Rattle.slot_cache.specs.Cells.{HasNoName, IsFoundAs}
+use Rattle.slot_cache.specs.Seats.{ident_of}
+use Rattle.owner_shelf.specs.declared.shelved.Shelved.{Shelved}
+use Rattle.owner_shelf.specs.Rows.{HasNoRow, OnShelf}
+use Rattle.owner_shelf.proofs.RowLaws.{under-absent}
 use Rattle.kind_store.specs.Kept.{content_of, kept_in, IsExactlyOne, IsSound, Kept}
-use Rattle.kind_store.proofs.CellLemmas.{found, found-absent, found-there}
-use Rattle.kind_store.proofs.ContentLemmas.{content-loaded, content-shelved}
+use Rattle.kind_store.specs.Seated.{IsSeatOf, Seen}
+use Rattle.kind_store.proofs.NamedLemmas.{content_at, content_off}
 use Rattle.kind_store.proofs.OnceLemmas.{exactly_one}
 
-module _ {T : Type 0} (called : T → Name) (kind : Kind) (cells : List (Option (Loaded T))) (shelf : OnShelf T) (sound : IsSound called kind cells shelf) where
-  pub one_seen : (sees : Kept T) → kept_in cells shelf ≡ sees → IsExactlyOne called kind sees
-  one_seen sees same = subst (IsExactlyOne called kind) same (exactly_one called kind cells shelf sound)
+pub one_seen : {T : Type 0} (called : T → Name) (kind : Kind) (cells : List (Option (Loaded T))) (shelf : OnShelf T) → IsSound called kind cells shelf → (sees : Kept T) → kept_in cells shelf ≡ sees → IsExactlyOne called kind sees
+one_seen called kind cells shelf sound sees same = subst (IsExactlyOne called kind) same (exactly_one called kind cells shelf sound)
 
-  -- the content of a name that is loaded is what its identifier has
-  pub item_loaded : {R : Type 0} (name : Name) (ident : Ident) → IsFoundAs called cells name ident → (value : R → T) (r : Option R) → IfSome r (λ x. IsContent cells ident (value x)) → IfNone r (IsLoaded cells ident → ⊥) → option_map value r ≡ content_of called (kept_in cells shelf) name
-  item_loaded {R} name ident held value r some none = by r some none
+module _ {T : Type 0} (called : T → Name) (kind : Kind) (seen : Seen T) (sound : IsSound called kind seen.cells seen.shelf) (name : Name) where
+  -- the content of a name is what sits in its seat
+  pub seat_content : (seat : Seat T) → IsSeatOf called seen name seat → content_of called (kept_in seen.cells seen.shelf) name ≡ Some seat.loaded.value
+  seat_content seat of = by seat.is_loaded refl
     where
-      now : content_of called (kept_in cells shelf) name ≡ Some held.0.value
-      now =
-          let there = found-there called cells ident.slot held.0 held.1 (λ other a at same. sound.slots.one_name other ident.slot a held.0 at held.1 same) in
-          content-loaded called (kept_in cells shelf) name held.0 (subst (λ n. found called cells n ≡ Some held.0) held.3 there)
+      by : (b : Bool) → seat.is_loaded ≡ b → content_of called (kept_in seen.cells seen.shelf) name ≡ Some seat.loaded.value
+      by true on = content_at called name (kept_in seen.cells seen.shelf) sound.slots.one_name seat.loaded.ident.slot seat.loaded (of.loaded on) of.named
+      by false off = let it = of.shelved off in content_off called name (kept_in seen.cells seen.shelf) it.unloaded ∙ ap (option_map (λ (r : Shelved T). r.content)) it.row
 
-      by : (r : Option R) → IfSome r (λ x. IsContent cells ident (value x)) → IfNone r (IsLoaded cells ident → ⊥) → option_map value r ≡ content_of called (kept_in cells shelf) name
-      by None is absent = absurd (absent (held.0, held.1, held.2))
-      by (Some x) is absent = ap (λ v. Some v) (sym is.3 ∙ ap (λ (l : Loaded T). l.value) (one_at cells ident.slot is.0 held.0 is.1 held.1)) ∙ sym now
+  -- a name that nothing has has none
+  pub no_content : HasNoName called seen.cells name → HasNoRow called seen.shelf.rows name → content_of called (kept_in seen.cells seen.shelf) name ≡ None
+  no_content unloaded absent = content_off called name (kept_in seen.cells seen.shelf) unloaded ∙ ap (option_map (λ (r : Shelved T). r.content)) (under-absent called seen.shelf.rows name absent)
 
-  -- and that of one that isn't is what the shelf has
-  pub item_shelved : (name : Name) → HasNoName called cells name → content_of called (kept_in cells shelf) name ≡ content_under called shelf.rows name
-  item_shelved name absent = content-shelved called (kept_in cells shelf) name (found-absent called cells name absent)
+-- and its identifier, if it is loaded
+module _ {T : Type 0} (called : T → Name) (seen : Seen T) (name : Name) (seat : Seat T) (of : IsSeatOf called seen name seat) where
+  pub seat_found : IfSome (ident_of seat) (IsFoundAs called seen.cells name)
+  seat_found = by seat.is_loaded refl
+    where
+      by : (b : Bool) → seat.is_loaded ≡ b → IfSome (if b then Some seat.loaded.ident else None) (IsFoundAs called seen.cells name)
+      by true on = (seat.loaded, of.loaded on, refl, of.named)
+      by false off = tt
+
+  pub seat_absent : IfNone (ident_of seat) (HasNoName called seen.cells name)
+  seat_absent = by seat.is_loaded refl
+    where
+      by : (b : Bool) → seat.is_loaded ≡ b → IfNone (if b then Some seat.loaded.ident else None) (HasNoName called seen.cells name)
+      by true on = tt
+      by false off = (of.shelved off).unloaded

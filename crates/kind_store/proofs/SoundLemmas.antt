@@ -1,5 +1,5 @@
 -- What holds of a cache and a shelf together stays, once a descriptor has moved or changed.
-use Rattle.std.proofs.Common.{◌≡◌, ◌≢◌, ℕ, suc, ◌+◌, ◌<◌, ◌≤◌, Bool, true, false, not, cond, List, [], ◌∷◌, length, get_or, set, replicate, All, AllPairs, Contains, lit<, Option, Some, None, sym, ◌∙◌, ap, subst, inl, inr, refl, arith}
+use Rattle.std.proofs.Common.{◌≡◌, ◌≢◌, ℕ, suc, ◌+◌, ◌<◌, Bool, true, false, not, cond, List, [], ◌∷◌, length, get_or, set, replicate, All, AllPairs, Contains, lit<, Option, Some, None, sym, ◌∙◌, ap, subst, inl, inr, refl, arith}
 use Rattle.std.proofs.lemmas.Bool.{cases_eq}
 use Rattle.std.proofs.lemmas.List.Edits.{length-insert}
 use Rattle.std.proofs.lemmas.List.Elements.{All-contains, Contains-get_or}
@@ -10,16 +10,14 @@ use Rattle.sorted_list.proofs.ListLemmas.{Contains-insert_cases}
 use Rattle.sorted_list.proofs.RisingLemmas.{filter_all}
 use Rattle.sorted_list.specs.Sorted.{IsAdded}
 use Rattle.slot_cache.specs.declared.loaded.Loaded.{Loaded}
-use Rattle.slot_cache.specs.Cells.{cell_at, HasNoName, HasNoSerial}
+use Rattle.slot_cache.specs.Cells.{cell_at, HasNoName}
 use Rattle.slot_cache.proofs.SlotLemmas.{all_none, cell_within, count-none, count-put, count-same, count-take, elsewhere, here, not_none, some_same}
 use Rattle.owner_shelf.specs.declared.shelved.Shelved.{Shelved}
 use Rattle.owner_shelf.specs.Rows.{content_under, is_named, row_under, rows_without, HasNoRow, OnShelf}
-use Rattle.owner_shelf.specs.Rows.{IsProper as IsProperShelf}
 use Rattle.owner_shelf.proofs.NameLemmas.{eq_apart, same_by_eq}
-use Rattle.owner_shelf.proofs.RowLaws.{absent-added, absent-without, absent-without_other}
 use Rattle.kind_store.specs.Kept.{count_of, AreOwned, IsSound}
 use Rattle.kind_store.proofs.ContentLemmas.{not_absent, row_of_content}
-use Rattle.kind_store.proofs.ProperLemmas.{fits_there, proper-put, proper-take, was_there, Fits}
+use Rattle.kind_store.proofs.ProperLemmas.{fits_there, proper-put}
 
 module _ {T : Type 0} (called : T → Name) where
   -- a shelf has one row fewer without a name that it has
@@ -40,7 +38,7 @@ module _ {T : Type 0} (called : T → Name) where
       by next true passes here = omega (arith, ap length (filter_all (λ r. not (is_named called name r)) xs (kept passes)))
       by next false fails later = omega (arith, next later)
 
-  length-added : (rows new_rows : List (Shelved T)) (row : Shelved T) → IsAdded rows new_rows row → length new_rows ≡ length rows + 1
+  pub length-added : (rows new_rows : List (Shelved T)) (row : Shelved T) → IsAdded rows new_rows row → length new_rows ≡ length rows + 1
   length-added rows new_rows row added = ap length added.2 ∙ length-insert rows added.0 row added.1
 
   module _ (kind : Kind) where
@@ -64,26 +62,9 @@ module _ {T : Type 0} (called : T → Name) where
         }
 
     module _ (cells : List (Option (Loaded T))) (shelf : OnShelf T) (sound : IsSound called kind cells shelf) where
-      -- with more room
-      pub sound-roomier : (new : OnShelf T) → new.rows ≡ shelf.rows → shelf.room ≤ new.room → IsProperShelf called new → IsSound called kind cells new
-      sound-roomier new same more proper = record {
-        slots = sound.slots;
-        rows = proper;
-        apart = λ slot l there. rw same (sound.apart slot l there);
-        roomy = omega (arith, sound.roomy, ap length same);
-      }
-
       -- with a row more
       pub count-declaring : (new_rows : List (Shelved T)) (row : Shelved T) → IsAdded shelf.rows new_rows row → count_of cells new_rows ≡ count_of cells shelf.rows + 1
       count-declaring new_rows row added = omega (arith, length-added shelf.rows new_rows row added)
-
-      pub sound-declaring : (new : OnShelf T) (row : Shelved T) → HasNoName called cells (called row.content) → count_of cells shelf.rows < shelf.room → IsAdded shelf.rows new.rows row → new.room ≡ shelf.room → IsProperShelf called new → IsSound called kind cells new
-      sound-declaring new row unloaded place added room proper = record {
-        slots = sound.slots;
-        rows = proper;
-        apart = λ slot l there. absent-added called shelf.rows new.rows row (called l.value) added (λ same. unloaded slot l there (sym same)) (sound.apart slot l there);
-        roomy = omega (arith, place, room, count-declaring new.rows row added);
-      }
 
       -- a name of the shelf isn't loaded
       pub unloaded : (name : Name) (value : T) → content_under called shelf.rows name ≡ Some value → HasNoName called cells name
@@ -95,30 +76,12 @@ module _ {T : Type 0} (called : T → Name) where
           let was = row_of_content called shelf.rows (called row.content) value shelved in
           omega (arith, length-added (rows_without called shelf.rows (called row.content)) new_rows row added, length-without_one shelf.rows (called row.content) was.0 sound.rows.once was.1)
 
-      pub sound-exchanging : (new : OnShelf T) (row : Shelved T) (value : T) → content_under called shelf.rows (called row.content) ≡ Some value → IsAdded (rows_without called shelf.rows (called row.content)) new.rows row → new.room ≡ shelf.room → IsProperShelf called new → IsSound called kind cells new
-      sound-exchanging new row value shelved added room proper =
-          let name = called row.content in
-          record {
-            slots = sound.slots;
-            rows = proper;
-            apart = λ slot l there. absent-added called (rows_without called shelf.rows name) new.rows row (called l.value) added (λ same. unloaded name value shelved slot l there (sym same)) (absent-without_other called shelf.rows name (called l.value) (sound.apart slot l there));
-            roomy = omega (arith, sound.roomy, room, count-exchanging new.rows row value shelved added);
-          }
-
       -- without one of the shelf
       module _ (name : Name) (value : T) (shelved : content_under called shelf.rows name ≡ Some value) where
         pub count-retracting : count_of cells (rows_without called shelf.rows name) + 1 ≡ count_of cells shelf.rows
         count-retracting =
             let was = row_of_content called shelf.rows name value shelved in
             omega (arith, length-without_one shelf.rows name was.0 sound.rows.once was.1)
-
-        pub sound-retracting : (new : OnShelf T) → new ≡ record { room = shelf.room; rows = rows_without called shelf.rows name } → IsProperShelf called new → IsSound called kind cells new
-        sound-retracting new is proper = record {
-          slots = sound.slots;
-          rows = proper;
-          apart = λ slot l there. rw is (absent-without_other called shelf.rows name (called l.value) (sound.apart slot l there));
-          roomy = rw is (omega (arith, sound.roomy, count-retracting));
-        }
 
       -- with what stood on the shelf in a free slot
       module _ (x : Loaded T) (within : x.ident.slot < length cells) (free : cell_at cells x.ident.slot ≡ None) (shelved : content_under called shelf.rows (called x.value) ≡ Some x.value) where
@@ -127,48 +90,9 @@ module _ {T : Type 0} (called : T → Name) where
             let was = row_of_content called shelf.rows (called x.value) x.value shelved in
             omega (arith, count-put cells x.ident.slot x within free, length-without_one shelf.rows (called x.value) was.0 sound.rows.once was.1)
 
-        pub sound-loading : x.ident.kind ≡ kind → HasNoSerial cells x.ident.serial → IsProperShelf called (record { room = shelf.room; rows = rows_without called shelf.rows (called x.value) }) → IsSound called kind (set cells x.ident.slot (Some x)) (record { room = shelf.room; rows = rows_without called shelf.rows (called x.value) })
-        sound-loading kind_is new_serial proper =
-            let name = called x.value in
-            let slot = x.ident.slot in
-            let fits : Fits called kind cells slot x = record {
-              slot_is = refl;
-              kind_is = kind_is;
-              serial = λ other a apart at. new_serial other a at;
-              name = λ other a apart at. unloaded name x.value shelved other a at;
-            } in
-            record {
-              slots = proper-put called kind cells slot x within fits sound.slots;
-              rows = proper;
-              apart = λ other l there. elim (cases_eq other slot) [
-                | inl at ↦
-                    let same = some_same x l (sym (here cells slot (Some x) within) ∙ ap (cell_at (set cells slot (Some x))) (sym at) ∙ there) in
-                    subst (λ (y : Loaded T). HasNoRow called (rows_without called shelf.rows name) (called y.value)) same (absent-without called shelf.rows name)
-                | inr apart ↦ absent-without_other called shelf.rows name (called l.value) (sound.apart other l (sym (elsewhere cells slot other (Some x) apart) ∙ there))
-              ];
-              roomy = omega (arith, sound.roomy, count-loading);
-            }
-
       module _ (slot : ℕ) (e : Loaded T) (there : cell_at cells slot ≡ Some e) where
-        -- there is a place on the shelf for what is loaded
-        pub has_place : length shelf.rows < shelf.room
-        has_place = omega (arith, sound.roomy, count-take cells slot e there)
-
         pub count-leaving : (new_rows : List (Shelved T)) (row : Shelved T) → IsAdded shelf.rows new_rows row → count_of (set cells slot None) new_rows ≡ count_of cells shelf.rows
         count-leaving new_rows row added = omega (arith, count-take cells slot e there, length-added shelf.rows new_rows row added)
-
-        -- with what was loaded on the shelf
-        pub sound-leaving : (new : OnShelf T) (row : Shelved T) → row.content ≡ e.value → IsAdded shelf.rows new.rows row → new.room ≡ shelf.room → IsProperShelf called new → IsSound called kind (set cells slot None) new
-        sound-leaving new row content added room proper =
-            let within = cell_within cells slot e there in
-            record {
-              slots = proper-take called kind cells slot within sound.slots;
-              rows = proper;
-              apart = λ other l at.
-                  let was = was_there cells slot within other l at in
-                  absent-added called shelf.rows new.rows row (called l.value) added (λ same. not_none (set cells slot None) slot l (subst (λ k. cell_at (set cells slot None) k ≡ Some l) (sound.slots.one_name other slot l e was there (sym same ∙ ap called content)) at) (here cells slot None within)) (sound.apart other l was);
-              roomy = omega (arith, sound.roomy, room, count-leaving new.rows row added);
-            }
 
         -- with another one of the same identifier and name in its place
         pub sound-changing : (new : Loaded T) → new.ident ≡ e.ident → called new.value ≡ called e.value → IsSound called kind (set cells slot (Some new)) shelf

@@ -14,9 +14,9 @@ ghost use Rattle.kind_store.specs.Kept.{content_of, AreOwned, IsExactlyOne};
 ghost use Rattle.kind_store.specs.Rolls.{all_but, in_order, AreEnrolled, ChangesOne, StaysEnrolled};
 ghost use Rattle.kind_store.specs.Changes.{HasContent, HasNoContent, IsExchanging, IsLeaving, IsLoading, IsUpdatingNamed, KeepsContents};
 
+use super::seats::Seats;
 use cache_ident::{Ident, KernelNo, Name, NoMemory, Roll};
-use owner_shelf::Shelf;
-use slot_cache::{Cache, Descriptor, Iter};
+use slot_cache::{Descriptor, Iter};
 use std::alloc::Global;
 use std::marker::Model;
 
@@ -27,9 +27,7 @@ use std::marker::Model;
 /// logarithmic in what is there.
 #[derive(Drop)]
 pub struct KindStore<T: Descriptor> {
-    cache: Cache<T>,
-    // It has room for what is loaded too, so that whatever leaves the cache finds its place.
-    shelf: Shelf<T>,
+    seats: Seats<T>,
 }
 
 /// The content of a name, where it stands.
@@ -45,9 +43,9 @@ impl<T: Descriptor> Model for KindStore<T> {
 
     ghost Value = { Kept T };
 
-    ghost view = { λ store. kept_in store.cache store.shelf };
+    ghost view = { λ store. kept_in store.seats.cells store.seats.shelf };
 
-    ghost invariant = { λ store. IsSound T.called T.KIND store.cache store.shelf };
+    ghost invariant = { λ store. IsSound T.called T.KIND store.seats.cells store.seats.shelf };
 }
 
 impl<T: Descriptor + Drop> KindStore<T> {
@@ -56,8 +54,7 @@ impl<T: Descriptor + Drop> KindStore<T> {
         ensures { IfOk result (λ kept. kept ≡ record { cells = replicate cap None; rows = []; room = 0 }) }
     {
         Ok(KindStore {
-            cache: Cache::new(alloc, cap)?,
-            shelf: Shelf::new(alloc),
+            seats: Seats::new(alloc, cap)?,
         })
     }
 
@@ -70,7 +67,7 @@ impl<T: Descriptor + Drop> KindStore<T> {
         ensures ok { OnOk result (self.old.room < self.new.room) }
         ensures err { OnErr result (self.new ≡ self.old) }
     {
-        self.shelf.make_room()
+        self.seats.make_room()
     }
 
     /// How many more descriptors there can be without memory. Constant time.
@@ -78,14 +75,14 @@ impl<T: Descriptor + Drop> KindStore<T> {
         ensures room { result ≡ self.now.room }
         ensures one { IsExactlyOne T.called T.KIND self.now }
     {
-        self.shelf.room() - self.shelf.len() - self.cache.len() as usize
+        self.seats.spare()
     }
 
     /// What holds of each store: each name stands in one place at most. It does nothing.
     pub fn each_is_one(&self)
         ensures { IsExactlyOne T.called T.KIND self.now }
     {
-        let _ = &self.cache;
+        let _ = &self.seats;
     }
 
     /// Puts a new descriptor on the shelf, under its owner.
@@ -98,7 +95,7 @@ impl<T: Descriptor + Drop> KindStore<T> {
         ensures contents { HasContent T.called self.old self.new (T.called value) value }
         ensures owned { (owner_of : Name → Option KernelNo) → owner_of (T.called value) ≡ Some owner → AreOwned T.called owner_of self.old.rows → AreOwned T.called owner_of self.new.rows }
     {
-        self.shelf.put_back(owner, value);
+        self.seats.insert(owner, value);
     }
 
     /// The content of a name, wherever it is, and the identifier with which the name is loaded, if it is; `None` where it has
@@ -109,18 +106,10 @@ impl<T: Descriptor + Drop> KindStore<T> {
         ensures shelved { IfSome result (λ found. IfNone found.ident (HasNoName T.called self.now.cells name)) }
         ensures one { IsExactlyOne T.called T.KIND self.now }
     {
-        match self.cache.find(name) {
-            Some(ident) => {
-                let value = self.cache.get(ident)?;
-                let ident = Some(ident);
-                Some(Found { value, ident })
-            }
-            None => {
-                let value = self.shelf.lookup(name)?;
-                let ident = None;
-                Some(Found { value, ident })
-            }
-        }
+        let seat = self.seats.of_name(name, None)?;
+        let value = &seat.loaded.value;
+        let ident = seat.ident();
+        Some(Found { value, ident })
     }
 
     /// The content of a name, wherever it is; `None` where there is none. One search where it is loaded.
@@ -137,17 +126,20 @@ impl<T: Descriptor + Drop> KindStore<T> {
         ensures content { option_copied result ≡ content_of T.called self.now name }
         ensures one { IsExactlyOne T.called T.KIND self.now }
     {
-        match find_near(&self.cache, name, near) {
-            Some(ident) => self.cache.get(ident),
-            None => self.shelf.lookup(name),
-        }
+        let seat = self.seats.of_name(name, near)?;
+        Some(&seat.loaded.value)
     }
 
     /// The owner under which a descriptor stands on the shelf; `None` where it isn't there.
     pub fn owner_of(&self, name: Name) -> Option<KernelNo>
         ensures { result ≡ option_map (λ row. row.owner) (row_under T.called self.now.rows name) }
     {
-        self.shelf.owner_of(name)
+        let seat = self.seats.of_name(name, None)?;
+        if seat.is_loaded {
+            None
+        } else {
+            Some(seat.owner)
+        }
     }
 
     /// The identifier with which a name is loaded; `None` where it isn't.
@@ -166,7 +158,8 @@ impl<T: Descriptor + Drop> KindStore<T> {
         ensures absent { IfNone result (HasNoName T.called self.now.cells name) }
         ensures one { IsExactlyOne T.called T.KIND self.now }
     {
-        find_near(&self.cache, name, near)
+        let seat = self.seats.of_name(name, near)?;
+        seat.ident()
     }
 
     /// The content that is loaded with an identifier; `None` where it isn't loaded. Constant time.
@@ -176,7 +169,7 @@ impl<T: Descriptor + Drop> KindStore<T> {
         ensures absent { IfNone result (IsLoaded self.now.cells ident → ⊥) }
         ensures one { IsExactlyOne T.called T.KIND self.now }
     {
-        self.cache.get(ident)
+        self.seats.get(ident)
     }
 
     /// Whether a loaded descriptor is locked. Constant time.
@@ -184,7 +177,7 @@ impl<T: Descriptor + Drop> KindStore<T> {
         requires { IsLoaded self.now.cells ident }
         ensures { LockIs self.now.cells ident.slot result }
     {
-        self.cache.is_locked(ident)
+        self.seats.is_locked(ident)
     }
 
     /// The lowest free slot; `None` where all are taken.
@@ -192,7 +185,7 @@ impl<T: Descriptor + Drop> KindStore<T> {
         ensures lowest { IfSome result (IsLowestFree self.now.cells) }
         ensures full { IfNone result (IsFull self.now.cells) }
     {
-        self.cache.free()
+        self.seats.free()
     }
 
     /// Of the loaded identifiers that are neither locked nor in `keep`, the one with the smallest serial; `None` where
@@ -201,7 +194,7 @@ impl<T: Descriptor + Drop> KindStore<T> {
         ensures victim { IfSome result (IsVictim self.now.cells keep.now) }
         ensures none { IfNone result (NoneMayGo self.now.cells keep.now) }
     {
-        self.cache.victim(keep)
+        self.seats.victim(keep)
     }
 
     /// What is loaded, in order of slot. Going over it takes as many steps as the highest slot that was ever used.
@@ -210,7 +203,7 @@ impl<T: Descriptor + Drop> KindStore<T> {
         ensures exact { HasExactlyLoaded self.now.cells result }
         ensures order { IsInOrderOfSlot result }
     {
-        self.cache.iter()
+        self.seats.iter()
     }
 
     /// Loads a descriptor from the shelf into the lowest free slot, with an identifier that the roll issues now. It isn't
@@ -232,14 +225,11 @@ impl<T: Descriptor + Drop> KindStore<T> {
         ensures last { (value : T) → content_under T.called self.old.rows name ≡ Some value → in_order roll.new.issued self.new.cells ≡ in_order roll.old.issued self.old.cells ++ just_loaded result value ∷ [] }
         ensures enrolled { AreEnrolled T.KIND roll.new.issued self.new.cells }
     {
-        let Some(slot) = self.cache.free() else {
-            unreachable!()
-        };
-        let Some(value) = self.shelf.take(name) else {
+        let Some(slot) = self.seats.free() else {
             unreachable!()
         };
         let ident = roll.issue(T::KIND, slot);
-        self.cache.put(ident, value);
+        self.seats.load(name, ident);
         ident
     }
 
@@ -257,8 +247,7 @@ impl<T: Descriptor + Drop> KindStore<T> {
         ensures order { in_order roll.new.issued self.new.cells ≡ all_but ident (in_order roll.old.issued self.old.cells) }
         ensures enrolled { AreEnrolled T.KIND roll.new.issued self.new.cells }
     {
-        let value = self.cache.take(ident);
-        self.shelf.put_back(owner, value);
+        self.seats.leave(ident, owner);
         roll.depart(ident, at);
     }
 
@@ -270,7 +259,7 @@ impl<T: Descriptor + Drop> KindStore<T> {
         ensures order { ChangesOne ident (with_lock true) self.old.cells self.new.cells }
         ensures enrolled { StaysEnrolled T.KIND self.old.cells self.new.cells }
     {
-        self.cache.set_lock(ident, true);
+        self.seats.set_lock(ident, true);
     }
 
     /// Ends the lock of a loaded descriptor.
@@ -281,7 +270,7 @@ impl<T: Descriptor + Drop> KindStore<T> {
         ensures order { ChangesOne ident (with_lock false) self.old.cells self.new.cells }
         ensures enrolled { StaysEnrolled T.KIND self.old.cells self.new.cells }
     {
-        self.cache.set_lock(ident, false);
+        self.seats.set_lock(ident, false);
     }
 
     /// Puts a content of the same name in the place of the one that is loaded with an identifier, and gives the old one
@@ -295,7 +284,7 @@ impl<T: Descriptor + Drop> KindStore<T> {
         ensures order { ChangesOne ident (with_value value) self.old.cells self.new.cells }
         ensures enrolled { StaysEnrolled T.KIND self.old.cells self.new.cells }
     {
-        self.cache.replace(ident, value)
+        self.seats.replace(ident, value)
     }
 
     /// Changes the content of a name where it stands, in its slot or on the shelf, but for its name, and gives what the
@@ -313,10 +302,7 @@ impl<T: Descriptor + Drop> KindStore<T> {
         ensures owned { (owner_of : Name → Option KernelNo) → AreOwned T.called owner_of self.old.rows → AreOwned T.called owner_of self.new.rows }
         ensures enrolled { StaysEnrolled T.KIND self.old.cells self.new.cells }
     {
-        match find_near(&self.cache, name, near) {
-            Some(ident) => self.cache.update(ident, change),
-            None => self.shelf.update(name, change),
-        }
+        self.seats.update(name, near, change)
     }
 
     /// Puts a content in the place of the one of its name on the shelf, under the same owner, and gives the old one back.
@@ -326,10 +312,11 @@ impl<T: Descriptor + Drop> KindStore<T> {
         ensures contents { HasContent T.called self.old self.new (T.called value) value }
     {
         let name = value.name();
-        let (Some(owner), Some(old)) = (self.shelf.owner_of(name), self.shelf.take(name)) else {
+        let Some(owner) = self.owner_of(name) else {
             unreachable!()
         };
-        self.shelf.put_back(owner, value);
+        let old = self.seats.remove(name);
+        self.seats.insert(owner, value);
         old
     }
 
@@ -342,36 +329,6 @@ impl<T: Descriptor + Drop> KindStore<T> {
         ensures room { self.new.room ≡ self.old.room + 1 }
         ensures contents { HasNoContent T.called self.old self.new name }
     {
-        let Some(value) = self.shelf.take(name) else {
-            unreachable!()
-        };
-        value
-    }
-}
-
-// The identifier with which a name is loaded, if it is. No search is made where it is `near`.
-#[inline(always)]
-fn find_near<T: Descriptor + Drop>(
-    cache: &Cache<T>,
-    name: Name,
-    near: Option<Ident>,
-) -> Option<Ident>
-    ensures found { IfSome result (IsFoundAs T.called cache.now name) }
-    ensures absent { IfNone result (HasNoName T.called cache.now name) }
-{
-    match near {
-        Some(ident) if is_loaded_as(cache, name, ident) => Some(ident),
-        _ => cache.find(name),
-    }
-}
-
-// Whether a name is loaded with that identifier.
-#[inline(always)]
-fn is_loaded_as<T: Descriptor + Drop>(cache: &Cache<T>, name: Name, ident: Ident) -> bool
-    ensures { OnTrue result (IsFoundAs T.called cache.now name ident) }
-{
-    match cache.get(ident) {
-        Some(value) => value.name() == name,
-        None => false,
+        self.seats.remove(name)
     }
 }

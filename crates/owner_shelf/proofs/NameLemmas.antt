@@ -1,7 +1,7 @@
 -- Names that are tested as equal are one.
 use Rattle.std.proofs.Common.{◌≡◌, ◌≢◌, Bool, true, false, List, All, Contains, None, Some, refl, ap, sym, ◌∙◌}
 use Rattle.std.specs.declared.cmp.Ordering.{Ordering}
-use Rattle.std.specs.declared.cmp.Ordering.TheVariants.{Less, Equal, Greater}
+use Rattle.std.specs.declared.cmp.Ordering.TheVariants.{Equal}
 use Rattle.std.specs.Ordering.{is_eq}
 use Rattle.std.specs.Prelude.{slice_get}
 use Rattle.cache_ident.specs.declared.names.Name.{Name}
@@ -9,14 +9,10 @@ use Rattle.cache_ident.specs.contracts.names.NamePartialEq.TheImpl as names
 use Rattle.cache_ident.specs.contracts.names.NameOrd.TheImpl as order
 use Rattle.cache_ident.specs.contracts.names.NameOrd.TheImpl.Laws as laws
 use Rattle.sorted_list.specs.Sorted.{by_parts, values_under, IsAdded, IsProper, IsTakenOut, Sorted}
+use Rattle.slot_cache.proofs.IndexLemmas.{is_equal}
 use Rattle.slot_cache.proofs.NameLemmas.{name_itself, same_name}
 use Rattle.growing_list.specs.Index.{IsIndex}
 use Rattle.growing_list.proofs.IndexLemmas.{absent_entries, found_entry, index_added, index_taken, none_is}
-
-is_equal : (o : Ordering) → is_eq o ≡ true → o ≡ Equal
-is_equal Less ties = absurd (cc)
-is_equal Equal ties = refl
-is_equal Greater ties = absurd (cc)
 
 not_true : (b : Bool) → (b ≡ true → ⊥) → b ≡ false
 not_true true never = absurd (never refl)

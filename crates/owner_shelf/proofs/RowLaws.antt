@@ -1,13 +1,11 @@
 -- Which row a name has once another row has come or gone.
-use Rattle.std.proofs.Common.{◌≡◌, ◌≢◌, ℕ, zero, suc, ◌<◌, ◌≤◌, Bool, true, false, not, List, [], ◌∷◌, length, get_or, Contains, None, Some, sym, ◌∙◌, ap, subst, inl, inr, refl, arith}
+use Rattle.std.proofs.Common.{◌≡◌, ◌≢◌, ℕ, zero, suc, ◌≤◌, Bool, true, false, not, List, [], ◌∷◌, length, None, Some, sym, ◌∙◌, ap, refl, arith}
 use Rattle.std.specs.List.{insert}
 use Rattle.std.specs.Prelude.{if◌then◌else◌}
 use Rattle.std.proofs.lemmas.Bool.{false≢true}
-use Rattle.std.proofs.lemmas.List.Elements.{All-cons, All-contains, All-filter, All-head, All-tail, Contains-get_or}
-use Rattle.std.proofs.lemmas.List.Sums.{count_by-le-length, length-filter}
+use Rattle.std.proofs.lemmas.List.Elements.{All-cons, All-head, All-tail}
 use Rattle.cache_ident.specs.declared.names.Name.{Name}
 use Rattle.sorted_list.specs.Sorted.{IsAdded}
-use Rattle.slot_cache.proofs.IndexLemmas.{inserted}
 use Rattle.owner_shelf.specs.declared.shelved.Shelved.{Shelved}
 use Rattle.owner_shelf.specs.Rows.{is_named, row_under, rows_without, HasNoRow}
 use Rattle.owner_shelf.proofs.NameLemmas.{eq_apart, eq_itself, eq_same, same_by_eq}
@@ -31,16 +29,6 @@ module _ {R : Type 0} (called : R → Name) where
 
   pub under-added_other : (old new : List (Shelved R)) (row : Shelved R) (name : Name) → IsAdded old new row → called row.content ≢ name → row_under called new name ≡ row_under called old name
   under-added_other old new row name added apart = ap (λ rows. row_under called rows name) added.2 ∙ inserted_other old added.0 row name apart
-
-  -- a name that neither the row nor the old rows have, the new ones haven't
-  pub absent-added : (old new : List (Shelved R)) (row : Shelved R) (name : Name) → IsAdded old new row → called row.content ≢ name → HasNoRow called old name → HasNoRow called new name
-  absent-added old new row name added apart absent k d within =
-      let edit = inserted old added.0 row added.1 in
-      let r = get_or new k d in
-      λ same. elim (edit.only r (subst (λ rows. Contains rows r) added.2 (Contains-get_or new k d within))) [
-        | inl here ↦ apart (ap (λ (x : Shelved R). called x.content) (sym here) ∙ same)
-        | inr was ↦ All-contains (λ (x : Shelved R). called x.content ≢ name) old r absent was same
-      ]
 
   -- without a name no row has it
   pub absent-without : (rows : List (Shelved R)) (name : Name) → HasNoRow called (rows_without called rows name) name
@@ -81,22 +69,3 @@ module _ {R : Type 0} (called : R → Name) where
   pub under-absent : (rows : List (Shelved R)) (name : Name) → HasNoRow called rows name → row_under called rows name ≡ None
   under-absent [] name absent = refl
   under-absent (x ∷ xs) name absent = rw (eq_apart (called x.content) name (All-head (λ (r : Shelved R). called r.content ≢ name) x xs absent)) (under-absent xs name (All-tail (λ (r : Shelved R). called r.content ≢ name) x xs absent))
-
-  -- a name that no row has, none has when another row has gone
-  pub absent-without_other : (rows : List (Shelved R)) (name other : Name) → HasNoRow called rows other → HasNoRow called (rows_without called rows name) other
-  absent-without_other rows name other absent = All-filter (λ row. not (is_named called name row)) (λ (r : Shelved R). called r.content ≢ other) rows absent
-
-  pub length-without_le : (rows : List (Shelved R)) (name : Name) → length (rows_without called rows name) ≤ length rows
-  length-without_le rows name = omega (arith, length-filter (λ row. not (is_named called name row)) rows, count_by-le-length (λ row. not (is_named called name row)) rows)
-
-  -- there are fewer rows once a name has gone
-  pub length-without : (rows : List (Shelved R)) (name : Name) (row : Shelved R) → row_under called rows name ≡ Some row → length (rows_without called rows name) < length rows
-  length-without [] name row found = absurd (none found)
-    where
-      none : None ≡ Some row → ⊥
-      none e = cc
-  length-without (x ∷ xs) name row found = by (λ later. length-without xs name row later) (is_named called name x) found
-    where
-      by : (row_under called xs name ≡ Some row → length (rows_without called xs name) < length xs) → (b : Bool) → (if b then Some x else row_under called xs name) ≡ Some row → length (if not b then x ∷ rows_without called xs name else rows_without called xs name) < suc (length xs)
-      by next true here = omega (arith, length-without_le xs name)
-      by next false later = omega (arith, next later)

@@ -49,11 +49,3 @@ module _ {R : Type 0} (called : R → Name) where
   -- a call with that content, if there is one, leaves its name
   abbrev pub LeavesName : {S : Type 0} → (R → S → R → Type 0) → Option R → Type 0
   LeavesName {S} call content = (value : R) (result : S) (left : R) → content ≡ Some value → call value result left → called left ≡ called value
-
-  -- a call with the content of the name gave that result, and what it left of the content stands in its place
-  pub record IsUpdated {S : Type 0} (call : R → S → R → Type 0) (old new : OnShelf R) (name : Name) (result : S) : Type 0 where
-    pub value : R
-    pub was : content_under old.rows name ≡ Some value
-    pub left : R
-    pub called_with : call value result left
-    pub is : new ≡ record old { rows = rows_with old.rows name left }

@@ -5,6 +5,7 @@ mod index;
 mod lines;
 mod page;
 mod part;
+mod recent;
 mod slots;
 mod space;
 mod spots;
@@ -12,4 +13,5 @@ mod table;
 
 pub use page::PageView;
 pub use part::Part;
+pub use recent::MOST_RECENT;
 pub use table::{MOST_VIEWS, PageViews};

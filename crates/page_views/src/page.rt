@@ -1,6 +1,6 @@
 //! One copied page.
 
-ghost use Rattle.std.specs.Prelude.{◌≡◌, ◌+◌, ◌<◌, length, None, Some, IfOk};
+ghost use Rattle.std.specs.Prelude.{◌≡◌, ◌+◌, ◌<◌, false, length, None, Some, IfOk};
 ghost use Rattle.std.specs.Bool.{OnTrue};
 ghost use Rattle.rv32_exec.specs.Pages.{number_at, put_bytes, size_of};
 ghost use Rattle.std.specs.Option.{option_copied};
@@ -26,22 +26,30 @@ pub(crate) struct Origin {
     pub(crate) taken: Option<u64>,
 }
 
+// What a view is: what is known of it, and its contents. What stands before the contents are 64 bytes, so that their words are aligned.
+#[derive(Drop)]
+struct Body {
+    // Where the present contents may differ from the first ones.
+    changed: Part,
+    vpn: Vpn,
+    frame: Frame,
+    flags: Flags,
+    touched: bool,
+    written: bool,
+    row: Ident,
+    taken: Option<u64>,
+    present: [u8; PAGE_LENGTH],
+    first: [u8; PAGE_LENGTH],
+}
+
 /// A copied page of 4,096 bytes, and what steps did to it.
 ///
 /// A fetch, a load or a store through a view touches it, and a store also writes it. Every call takes constant time and
 /// no memory.
 #[derive(Drop)]
 pub struct PageView {
-    // They stand beside it, so that a view changes its place without them.
-    present: Box<[u8; PAGE_LENGTH]>,
-    first: Box<[u8; PAGE_LENGTH]>,
-    // Where the present contents may differ from the first ones.
-    changed: Part,
-    origin: Origin,
-    // The number of the thread whose page it is.
-    whose: u32,
-    touched: bool,
-    written: bool,
+    // It stands beside, so that a view changes its place without it.
+    body: Box<Body>,
 }
 
 impl Model for PageView {
@@ -50,9 +58,9 @@ impl Model for PageView {
 
     ghost Value = { View };
 
-    ghost view = { λ v. record { vpn = v.origin.vpn; frame = v.origin.frame; flags = v.origin.flags; row = v.origin.row; first = v.first.value; present = v.present.value; touched = v.touched; written = v.written; taken = v.origin.taken } };
+    ghost view = { λ v. record { vpn = v.body.value.vpn; frame = v.body.value.frame; flags = v.body.value.flags; row = v.body.value.row; first = v.body.value.first; present = v.body.value.present; touched = v.body.value.touched; written = v.body.value.written; taken = v.body.value.taken } };
 
-    ghost invariant = { λ v. AreAlikeBut v.changed v.first.value v.present.value × IsWithinPage v.changed };
+    ghost invariant = { λ v. AreAlikeBut v.body.value.changed v.body.value.first v.body.value.present × IsWithinPage v.body.value.changed };
 }
 
 impl PageView {
@@ -60,21 +68,20 @@ impl PageView {
     pub(crate) fn empty(alloc: Global) -> Result<PageView, NoMemory>
         ensures { IfOk result (λ view. view.taken ≡ None) }
     {
-        let origin = Origin {
+        let body = Body {
+            changed: Part::none(),
             vpn: Vpn(0),
             frame: Frame(0),
             flags: Flags::default(),
-            row: Ident::default(),
-            taken: None,
-        };
-        Ok(PageView {
-            present: Box::new(alloc, [0; PAGE_LENGTH])?,
-            first: Box::new(alloc, [0; PAGE_LENGTH])?,
-            changed: Part::none(),
-            origin,
-            whose: 0,
             touched: false,
             written: false,
+            row: Ident::default(),
+            taken: None,
+            present: [0; PAGE_LENGTH],
+            first: [0; PAGE_LENGTH],
+        };
+        Ok(PageView {
+            body: Box::new(alloc, body)?,
         })
     }
 
@@ -83,7 +90,7 @@ impl PageView {
     pub fn vpn(&self) -> Vpn
         ensures { result ≡ self.now.vpn }
     {
-        self.origin.vpn
+        self.body.vpn
     }
 
     /// The frame that was copied.
@@ -91,7 +98,7 @@ impl PageView {
     pub fn frame(&self) -> Frame
         ensures { result ≡ self.now.frame }
     {
-        self.origin.frame
+        self.body.frame
     }
 
     /// The flags of the row that it was copied through.
@@ -99,19 +106,14 @@ impl PageView {
     pub fn flags(&self) -> Flags
         ensures { result ≡ self.now.flags }
     {
-        self.origin.flags
+        self.body.flags
     }
 
     /// The identifier of the row that it was copied through.
     pub fn row(&self) -> Ident
         ensures { result ≡ self.now.row }
     {
-        self.origin.row
-    }
-
-    // The number of the thread whose page it is.
-    pub(crate) fn whose(&self) -> u32 {
-        self.whose
+        self.body.row
     }
 
     /// The bytes as they were copied.
@@ -119,7 +121,7 @@ impl PageView {
         ensures bytes { result.now ≡ self.now.first }
         ensures whole_page { length result.now ≡ 4096 }
     {
-        &*self.first
+        &self.body.first
     }
 
     /// The place of a journal as of which the frame had the bytes that were copied, where they carry one.
@@ -127,7 +129,7 @@ impl PageView {
     pub fn taken(&self) -> Option<u64>
         ensures { result ≡ self.now.taken }
     {
-        self.origin.taken
+        self.body.taken
     }
 
     /// Whether nothing was ever stored to it, and so its bytes are those that were copied. Constant time.
@@ -135,7 +137,7 @@ impl PageView {
     pub fn is_as_copied(&self) -> bool
         ensures { OnTrue result (self.now.present ≡ self.now.first) }
     {
-        self.changed.is_none()
+        self.body.changed.is_none()
     }
 
     /// The bytes as they are now.
@@ -143,21 +145,21 @@ impl PageView {
         ensures bytes { result.now ≡ self.now.present }
         ensures whole_page { length result.now ≡ 4096 }
     {
-        &*self.present
+        &self.body.present
     }
 
     /// Whether an access went through it.
     pub fn touched(&self) -> bool
         ensures { result ≡ self.now.touched }
     {
-        self.touched
+        self.body.touched
     }
 
     /// Whether a store went through it.
     pub fn written(&self) -> bool
         ensures { result ≡ self.now.written }
     {
-        self.written
+        self.body.written
     }
 
     // The number from a place on.
@@ -166,7 +168,7 @@ impl PageView {
         requires { at + size_of width < 4097 }
         ensures { result ≡ number_at width self.now.present at }
     {
-        let bytes = &self.present;
+        let bytes = &self.body.present;
         match width {
             Width::Byte => u32::from(bytes[at]),
             Width::Half => u32::from(u16::from_le_bytes([bytes[at], bytes[at + 1]])),
@@ -182,8 +184,9 @@ impl PageView {
         requires { at + size_of width < 4097 }
         ensures { self.new ≡ record self.old { present = put_bytes (size_of width) self.old.present at value } }
     {
-        self.changed.reach(at, at + width.size() as usize);
-        put_number(&mut self.present, at, width, value);
+        let body = &mut *self.body;
+        body.changed.reach(at, at + width.size() as usize);
+        put_number(&mut body.present, at, width, value);
     }
 
     // Leaves the mark of an access.
@@ -191,53 +194,51 @@ impl PageView {
     pub(crate) fn mark(&mut self, access: Access)
         ensures { self.new ≡ mark_view access self.old }
     {
-        self.touched = true;
+        let body = &mut *self.body;
+        body.touched = true;
         if matches!(access, Access::Write) {
-            self.written = true;
+            body.written = true;
         }
     }
 
-    // Makes it an untouched view of a thread's page, copied from `bytes`. It holds what `touched` holds, if there is one.
-    pub(crate) fn copy(
-        &mut self,
-        origin: Origin,
-        whose: u32,
-        bytes: &[u8],
-        touched: Option<&PageView>,
-    )
+    // Makes it an untouched view, copied from `bytes`. It holds what `touched` holds, if there is one.
+    pub(crate) fn copy(&mut self, origin: Origin, bytes: &[u8], touched: Option<&PageView>)
         requires { length bytes.now ≡ 4096 }
         ensures { self.new ≡ viewed origin bytes.now (present_in (option_copied touched.entry) bytes.now) }
     {
-        self.renew(origin, whose);
-        self.first.copy_from_slice(bytes);
+        self.renew(origin);
+        let body = &mut *self.body;
+        body.first.copy_from_slice(bytes);
         match touched {
             Some(view) => {
-                self.present.copy_from_slice(&*view.present);
-                self.changed = Part::all();
+                body.present.copy_from_slice(&view.body.present);
+                body.changed = Part::all();
             }
             None => {
-                self.present.copy_from_slice(bytes);
-                self.changed = Part::none();
+                body.present.copy_from_slice(bytes);
+                body.changed = Part::none();
             }
         }
     }
 
-    // Makes it an untouched view of a thread's page, which holds the bytes that it was copied from.
-    pub(crate) fn recall(&mut self, origin: Origin, whose: u32)
+    // Makes it an untouched view, which holds the bytes that it was copied from.
+    pub(crate) fn recall(&mut self, origin: Origin)
         ensures { self.new ≡ viewed origin self.old.first self.old.first }
     {
-        copy_part(&mut self.present, &self.first, self.changed);
-        self.changed = Part::none();
-        self.renew(origin, whose);
+        let body = &mut *self.body;
+        copy_part(&mut body.present, &body.first, body.changed);
+        body.changed = Part::none();
+        self.renew(origin);
     }
 
     // What it holds now is what it was copied from, as of a place of a journal.
     pub(crate) fn happen(&mut self, place: u64)
         ensures { self.new ≡ record self.old { first = self.old.present; taken = Some place } }
     {
-        copy_part(&mut self.first, &self.present, self.changed);
-        self.changed = Part::none();
-        self.origin.taken = Some(place);
+        let body = &mut *self.body;
+        copy_part(&mut body.first, &body.present, body.changed);
+        body.changed = Part::none();
+        body.taken = Some(place);
     }
 
     /// Where the present bytes may differ from those that were copied.
@@ -246,24 +247,28 @@ impl PageView {
         ensures alike { AreAlikeBut result self.now.first self.now.present }
         ensures within { IsWithinPage result }
     {
-        self.changed
+        self.body.changed
     }
 
-    // Makes it an untouched view of a thread's page, with the contents that it has.
-    fn renew(&mut self, origin: Origin, whose: u32)
+    // Makes it an untouched view, with the contents that it has.
+    fn renew(&mut self, origin: Origin)
         ensures { self.new ≡ viewed origin self.old.first self.old.present }
     {
-        self.origin = origin;
-        self.whose = whose;
-        self.touched = false;
-        self.written = false;
+        let body = &mut *self.body;
+        body.vpn = origin.vpn;
+        body.frame = origin.frame;
+        body.flags = origin.flags;
+        body.touched = false;
+        body.written = false;
+        body.row = origin.row;
+        body.taken = origin.taken;
     }
 
     // Its bytes carry no place any more.
     pub(crate) fn forget(&mut self)
         ensures { self.new ≡ record self.old { taken = None } }
     {
-        self.origin.taken = None;
+        self.body.taken = None;
     }
 }
 

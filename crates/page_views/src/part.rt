@@ -77,8 +77,23 @@ impl Part {
     }
 }
 
-// Copies a part of a page over that of another, which is as it is but for this part.
+// Copies a part of a page over that of another, which is as it is but for this part. Mostly that is one line, which is a few moves and no call.
+#[inline(always)]
 pub(crate) fn copy_part(into: &mut [u8; PAGE_LENGTH], bytes: &[u8; PAGE_LENGTH], part: Part)
+    requires alike { AreAlikeBut part into.old bytes.now }
+    requires within { IsWithinPage part }
+    ensures { into.new ≡ bytes.now }
+{
+    if part.from < part.to && part.to - part.from == LINE {
+        into[part.from..part.from + LINE].copy_from_slice(&bytes[part.from..part.from + LINE]);
+    } else {
+        copy_lines(into, bytes, part);
+    }
+}
+
+// The same of any part.
+#[inline]
+fn copy_lines(into: &mut [u8; PAGE_LENGTH], bytes: &[u8; PAGE_LENGTH], part: Part)
     requires alike { AreAlikeBut part into.old bytes.now }
     requires within { IsWithinPage part }
     ensures { into.new ≡ bytes.now }

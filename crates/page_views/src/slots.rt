@@ -1,8 +1,8 @@
-//! Slots that pages were in of late, and when they were views.
+//! Slots that frames were in of late, when they were views, and through which rows pages were copied.
 
 ghost use Rattle.std.specs.Prelude.{◌<◌};
 
-use cache_ident::{Frame, Vpn};
+use cache_ident::{Frame, Ident, Vpn};
 
 const LINES: usize = 128;
 
@@ -16,12 +16,12 @@ fn line(vpn: Vpn, whose: u32) -> usize
     (vpn.0 as usize + whose as usize * LINES_OF_ONE) % LINES
 }
 
-// For the pages of each line, the slot that one of them was in last, by their numbers and by their frames; and when one of a frame became
-// a view last, in views that were filled by then. It stands for nothing: whoever takes a slot looks what is in it, and any slot may be
-// given up.
+// For the pages of each line, the row that one of them was copied through last, by their numbers; and for the frames of each line the slot that
+// one of them was in last, and when one became a view last, in views that were filled by then. It stands for nothing: whoever takes a slot
+// looks what is in it, whoever takes a row looks whose it is, and any slot may be given up.
 #[derive(Clone, Copy)]
 pub(crate) struct LastSlots {
-    by_page: [u8; LINES],
+    rows: [(Vpn, Ident); LINES],
     by_frame: [u8; LINES],
     filled: [u32; LINES],
     now: u32,
@@ -30,23 +30,28 @@ pub(crate) struct LastSlots {
 impl LastSlots {
     pub(crate) fn none() -> LastSlots {
         LastSlots {
-            by_page: [0; LINES],
+            rows: [(Vpn(0), Ident::default()); LINES],
             by_frame: [0; LINES],
             filled: [0; LINES],
             now: 0,
         }
     }
 
-    pub(crate) fn of_page(&self, vpn: Vpn, whose: u32) -> usize {
-        self.by_page[line(vpn, whose)] as usize
+    // The row that a page of the thread with that number was copied through last.
+    pub(crate) fn row(&self, whose: u32, vpn: Vpn) -> Option<Ident> {
+        let (noted, row) = self.rows[line(vpn, whose)];
+        if noted == vpn { Some(row) } else { None }
+    }
+
+    pub(crate) fn note_row(&mut self, whose: u32, vpn: Vpn, row: Ident) {
+        self.rows[line(vpn, whose)] = (vpn, row);
     }
 
     pub(crate) fn of_frame(&self, frame: Frame) -> usize {
         self.by_frame[frame.0 as usize % LINES] as usize
     }
 
-    pub(crate) fn note(&mut self, vpn: Vpn, whose: u32, frame: Frame, slot: usize) {
-        self.by_page[line(vpn, whose)] = (slot % 256) as u8;
+    pub(crate) fn note(&mut self, frame: Frame, slot: usize) {
         self.by_frame[frame.0 as usize % LINES] = (slot % 256) as u8;
     }
 

@@ -4,6 +4,7 @@ ghost use Rattle.std.specs.Prelude.{◌≡◌, ◌+◌, ◌/◌, ◌<◌, ◌≤
 ghost use Rattle.std.specs.Bool.{OnFalse, OnTrue};
 ghost use Rattle.std.specs.List.{position};
 ghost use Rattle.std.specs.Option.{option_copied};
+ghost use Rattle.rv32_exec.specs.declared.statuses.Access.TheVariants.{Read, Write};
 ghost use Rattle.rv32_exec.specs.Pages.{size_of};
 ghost use Rattle.page_views.specs.Lines.{seen_at};
 ghost use Rattle.page_views.specs.Origins.{viewed, viewed_beside};
@@ -12,8 +13,9 @@ ghost use Rattle.page_views.specs.Views.{all_dated, as_happened, can_fill as can
 
 use crate::index::Index;
 use crate::page::{Origin, PageView};
+use crate::recent::Recent;
 use crate::slots::LastSlots;
-use crate::spots::Marked;
+use crate::spots::Spots;
 use cache_ident::{Frame, Ident, NoMemory, Vpn};
 use flat_rules::wants;
 use phys_groups::{Flags, PAGE_BYTES};
@@ -40,10 +42,12 @@ pub struct PageViews {
     views: Vec<PageView>,
     most: usize,
     index: Index,
-    // Views that are found without a search, and are marked already.
-    marked: Marked,
+    // Views that are found without a search.
+    spots: Spots,
     // Where a page may be found that is kept.
     slots: LastSlots,
+    // Which pages threads touched last.
+    recent: Recent,
     // The number of the thread whose pages are views.
     whose: u32,
     pub(crate) decoded: DecodedWords,
@@ -53,13 +57,13 @@ impl Model for PageViews {
     ghost use Rattle.std.specs.Prelude.{take};
     ghost use Rattle.page_views.specs.Views.{table_of, IsTable, Table};
     ghost use Rattle.page_views.specs.Index.{IsIndex};
-    ghost use Rattle.page_views.specs.Spots.{AreAllMarkedAt};
+    ghost use Rattle.page_views.specs.Spots.{AreAllSpotted};
 
     ghost Value = { Table };
 
     ghost view = { λ table. table_of table.most table.index.count table.views.items };
 
-    ghost invariant = { λ table. IsTable table.most table.views.items table.index.count × IsIndex (take table.index.count table.views.items) table.index × AreAllMarkedAt (take table.index.count table.views.items) table.marked };
+    ghost invariant = { λ table. IsTable table.most table.views.items table.index.count × IsIndex (take table.index.count table.views.items) table.index × AreAllSpotted (take table.index.count table.views.items) table.spots };
 }
 
 impl PageViews {
@@ -73,9 +77,10 @@ impl PageViews {
             views: empty_slots(alloc, most)?,
             most,
             slots: LastSlots::none(),
+            recent: Recent::none(),
             whose: 0,
             index: Index::none(),
-            marked: Marked::none(),
+            spots: Spots::none(),
             decoded: DecodedWords::new(alloc)?,
         })
     }
@@ -86,8 +91,19 @@ impl PageViews {
         ensures { self.new ≡ record self.old { views = []; kept = all_dated self.old.views self.old.kept } }
     {
         self.whose = whose;
+        self.recent.begin();
+        // Where there is none, nothing is known of any.
+        if self.index.count > 0 {
+            self.give_up();
+        }
+    }
+
+    // Gives up every view.
+    fn give_up(&mut self)
+        ensures { self.new ≡ record self.old { views = []; kept = all_dated self.old.views self.old.kept } }
+    {
         self.index = Index::none();
-        self.marked = Marked::none();
+        self.spots = Spots::none();
     }
 
     /// Gives up every view, and all that is kept.
@@ -95,6 +111,7 @@ impl PageViews {
         ensures { self.new ≡ record self.old { views = []; kept = nothing_kept self.old.most } }
     {
         self.clear(0);
+        self.recent = Recent::none();
         forget_each(&mut self.views);
     }
 
@@ -171,17 +188,11 @@ impl PageViews {
         ensures { self.new ≡ with_filled self.old (viewed_beside self.old.views origin bytes.now) }
     {
         let shared = self.has_frame(origin.frame);
-        self.slots
-            .note(origin.vpn, self.whose, origin.frame, self.index.count);
+        self.slots.note_row(self.whose, origin.vpn, origin.row);
+        self.slots.note(origin.frame, self.index.count);
         self.slots.note_filled(origin.frame);
-        fill_at(
-            &mut self.views,
-            self.index.count,
-            origin,
-            self.whose,
-            bytes,
-            shared,
-        );
+        fill_at(&mut self.views, self.index.count, origin, bytes, shared);
+        self.spots.note_view(&origin, self.index.count);
         self.index.add(&origin, shared);
     }
 
@@ -212,8 +223,10 @@ impl PageViews {
             taken: self.views[slot].taken(),
         };
         self.slots.note_filled(frame);
+        self.slots.note_row(self.whose, vpn, row);
         exchange(&mut self.views, &mut self.slots, count, slot);
-        recall_at(&mut self.views, count, origin, self.whose);
+        recall_at(&mut self.views, count, origin);
+        self.spots.note_view(&origin, count);
         self.index.add(&origin, shared);
         true
     }
@@ -236,16 +249,32 @@ impl PageViews {
     {
         happen_each(&mut self.views, self.index.count, place);
         self.index = Index::none();
-        self.marked = Marked::none();
+        self.spots = Spots::none();
+    }
+
+    /// Notes which pages the thread touched, where it is likely to touch them again as its next ones; else none is noted of it. It stays a
+    /// call, so that a run of steps is short.
+    #[inline(never)]
+    pub fn note_recent(&mut self, again: bool)
+        ensures { self.new ≡ self.old }
+    {
+        if again {
+            self.recent.note(self.whose);
+        } else {
+            self.recent.forget(self.whose);
+        }
+    }
+
+    /// The page that was noted of the thread at a place, as far as one is known: the first `MOST_RECENT` that it touched, in this
+    /// order. Any may be answered.
+    pub fn recent(&self, place: usize) -> Option<Vpn> {
+        self.recent.page(self.whose, place)
     }
 
     /// The identifier of the row that a page was copied through last, as far as it is known. Any may be answered, and whoever takes it
     /// looks which row it is.
     pub fn near(&self, vpn: Vpn) -> Option<Ident> {
-        match self.views.get(self.slots.of_page(vpn, self.whose)) {
-            Some(view) if view.vpn() == vpn => Some(view.row()),
-            _ => None,
-        }
+        self.slots.row(self.whose, vpn)
     }
 
     /// The view that an access goes through: that of the page of `va`, where its flags let the access through.
@@ -266,7 +295,7 @@ impl PageViews {
         ensures within { IfSome result (λ place. place < length self.now.views) }
     {
         let page = va / PAGE_BYTES;
-        match self.marked.place(page, access) {
+        match self.spots.place(page, access) {
             Some(place) => Some(place as usize),
             None => {
                 let place = self.search(page, access);
@@ -333,39 +362,80 @@ impl PageViews {
         }
     }
 
-    // Leaves the mark of an access on the view of a page.
+    // Leaves the mark of an access on the view of a page. What is marked anew is a call for each kind of access, so that an access is short
+    // and the call needn't ask which kind it is.
     #[inline]
     pub(crate) fn mark(&mut self, va: u32, access: Access)
         ensures { self.new ≡ record self.old { views = map (mark_view_of (record { 0 = va / 4096 }) access) self.old.views } }
     {
         let page = va / PAGE_BYTES;
-        match self.marked.place(page, access) {
-            Some(_) => {}
-            None => self.mark_anew(page, access),
+        if self.spots.is_marked(page, access) {
+            return;
+        }
+        match access {
+            Access::Fetch => self.mark_searched(page, access),
+            Access::Read => self.mark_read(page),
+            Access::Write => self.mark_written(page),
         }
     }
 
-    // The same of a page, of whose view it isn't known that it has the mark. It stays a call, so that an access is short.
     #[cold]
     #[inline(never)]
+    fn mark_read(&mut self, page: u32)
+        requires { page < 1048576 }
+        ensures { self.new ≡ record self.old { views = map (mark_view_of (record { 0 = page }) Read) self.old.views } }
+    {
+        self.mark_anew(page, Access::Read);
+    }
+
+    #[cold]
+    #[inline(never)]
+    fn mark_written(&mut self, page: u32)
+        requires { page < 1048576 }
+        ensures { self.new ≡ record self.old { views = map (mark_view_of (record { 0 = page }) Write) self.old.views } }
+    {
+        self.mark_anew(page, Access::Write);
+    }
+
+    // The same of a page, of whose view it isn't known that it has the mark.
+    #[inline(always)]
     fn mark_anew(&mut self, page: u32, access: Access)
+        requires { page < 1048576 }
+        ensures { self.new ≡ record self.old { views = map (mark_view_of (record { 0 = page }) access) self.old.views } }
+    {
+        let Some(place) = self.spots.place(page, access) else {
+            self.mark_searched(page, access);
+            return;
+        };
+        let again = self.views[place as usize].touched();
+        self.recent.touch(Vpn(page), again);
+        self.views[place as usize].mark(access);
+        self.spots.mark(page, access);
+    }
+
+    // .. whose view is looked for.
+    #[cold]
+    #[inline(never)]
+    fn mark_searched(&mut self, page: u32, access: Access)
         ensures { self.new ≡ record self.old { views = map (mark_view_of (record { 0 = page }) access) self.old.views } }
     {
         if let Some(place) = self.place(Vpn(page)) {
             let allowed = wants(access, self.views[place].flags());
+            let again = self.views[place].touched();
+            self.recent.touch(Vpn(page), again);
             self.views[place].mark(access);
-            note_if(&mut self.marked, allowed, page, access, place);
+            note_if(&mut self.spots, allowed, page, access, place);
         }
     }
 }
 
 // Notes the place of the view of a page, where it lets the access through.
-fn note_if(marked: &mut Marked, allowed: bool, page: u32, access: Access, place: usize)
+fn note_if(spots: &mut Spots, allowed: bool, page: u32, access: Access, place: usize)
     requires { place < 64 }
-    ensures { marked.new ≡ noted_if allowed page access place marked.old }
+    ensures { spots.new ≡ noted_if allowed page access place spots.old }
 {
     if allowed {
-        marked.note(page, access, place as u8);
+        spots.note(page, access, place as u8);
     }
 }
 
@@ -399,14 +469,7 @@ fn empty_slots(alloc: Global, most: usize) -> Result<Vec<PageView>, NoMemory>
 }
 
 // Copies a thread's page into the view behind the first `count`. `shared` says whether one of these is of its frame.
-fn fill_at(
-    views: &mut [PageView],
-    count: usize,
-    origin: Origin,
-    whose: u32,
-    bytes: &[u8],
-    shared: bool,
-)
+fn fill_at(views: &mut [PageView], count: usize, origin: Origin, bytes: &[u8], shared: bool)
     requires shared { shared ≡ is_some (find (is_of_frame origin.frame) (take count views.old)) }
     requires room { count < length views.old }
     requires whole_page { length bytes.now ≡ 4096 }
@@ -414,7 +477,7 @@ fn fill_at(
 {
     let (views, free) = views.split_at_mut(count);
     let touched = touched_of(views, origin.frame, shared);
-    free[0].copy(origin, whose, bytes, touched);
+    free[0].copy(origin, bytes, touched);
 }
 
 // Which slot behind the first `count` is given up: `near`, where it is one of the frame.
@@ -464,19 +527,14 @@ fn given_up(kept: &[PageView], slots: &LastSlots) -> usize
     if LONG < most { oldest } else { newest }
 }
 
-// A page comes into a slot.
-fn note_slot(slots: &mut LastSlots, view: &PageView, slot: usize) {
-    slots.note(view.vpn(), view.whose(), view.frame(), slot);
-}
-
 // Exchanges a slot with the one behind the first `count`.
 fn exchange(views: &mut [PageView], slots: &mut LastSlots, count: usize, slot: usize)
     requires behind { count ≤ slot }
     requires within { slot < length views.old }
     ensures { IsExchanged count slot views.old views.new }
 {
-    note_slot(slots, &views[count], slot);
-    note_slot(slots, &views[slot], count);
+    slots.note(views[count].frame(), slot);
+    slots.note(views[slot].frame(), count);
     let (_, behind) = views.split_at_mut(count);
     behind.swap(0, slot - count);
 }
@@ -509,11 +567,11 @@ fn place_since(views: &[PageView], frame: Frame, since: u64) -> Option<usize>
 }
 
 // Makes a view of what a slot was copied from.
-fn recall_at(views: &mut [PageView], at: usize, origin: Origin, whose: u32)
+fn recall_at(views: &mut [PageView], at: usize, origin: Origin)
     requires { at < length views.old }
     ensures { (v : View) → slice_get views.old at ≡ Some v → views.new ≡ slice_set views.old at (viewed origin v.first v.first) }
 {
-    views[at].recall(origin, whose);
+    views[at].recall(origin);
 }
 
 // Whether a slot keeps a frame's bytes as of `since` or later.

@@ -1,5 +1,4 @@
 pub mod Holding
-pub mod Paging
 pub mod Seeing
 pub mod Parting
 pub mod Stopping

@@ -10,9 +10,8 @@ ghost use Rattle.alone_run.specs.board_turns.specs.Holds.{found_if, AreFewer, Is
 ghost use Rattle.alone_run.specs.board_turns.specs.Holds as holds;
 ghost use Rattle.processors.specs.Sharing.{end_by, first_by, seen_by, IsSoOf, IsThere};
 
-use crate::recent::{MOST_RECENT, Recent};
 use alone_run::turns::{Board, Committed, Found, Quantum, Ticket, begin, commit_steps, find};
-use cache_ident::{NoMemory, Vpn};
+use cache_ident::NoMemory;
 use std::sync::Wait;
 use turn_lock::{Held, Pass, Turn};
 
@@ -48,39 +47,6 @@ fn look_until(board: &mut Board, cpu: u32, limit: u64, want_first: bool, next: &
     find(board, cpu, want_first, next);
 }
 
-// Copies pages of the ticket's thread that have no view yet into its quantum, as far as their rows are loaded and there is room.
-fn copy_pages(
-    board: &Board,
-    ticket: &Ticket,
-    pages: [Option<Vpn>; MOST_RECENT],
-    quantum: &mut Quantum,
-)
-    requires views { AreOfTicket board.now.journal.entries ticket.now.thread quantum.old }
-    ensures views { AreOfTicket board.now.journal.entries ticket.now.thread quantum.new }
-    ensures steps { quantum.new.steps ≡ quantum.old.steps }
-{
-    for page in pages {
-        let Some(vpn) = page else {
-            return;
-        };
-        if quantum.can_fill(vpn) && board.page(ticket, vpn, quantum).is_err() {
-            return;
-        }
-    }
-}
-
-// Begins the quantum of a thread that came to the processor, where one did, with copies of the pages that it touched last there.
-fn begin_again(board: &Board, found: &Found, recent: &Recent, quantum: &mut Quantum)
-    requires kept { AreAllAsOf board.now.journal.entries quantum.old }
-    ensures ready { IsReadyFor board.now.journal.entries quantum.new found.now }
-    ensures kept { AreAllAsOf board.now.journal.entries quantum.new }
-{
-    begin(found, quantum);
-    if let Found::Out(ticket) = found {
-        copy_pages(board, ticket, recent.of(ticket.no), quantum);
-    }
-}
-
 /// Looks for the next thread, unless as many steps were taken as the processor stops with, and writes whom it finds to `next`. The
 /// quantum of a thread that came to the processor begins, with copies of the pages that it touched last there.
 pub(crate) fn look(
@@ -88,7 +54,6 @@ pub(crate) fn look(
     cpu: u32,
     limit: u64,
     want_first: bool,
-    recent: &Recent,
     quantum: &mut Quantum,
     next: &mut Found,
 )
@@ -100,7 +65,7 @@ pub(crate) fn look(
     ensures kept { AreAllAsOf board.new.journal.entries quantum.new }
 {
     look_until(board, cpu, limit, want_first, next);
-    begin_again(board, next, recent, quantum);
+    begin(board, next, quantum);
 }
 
 // A look behind something else, if an order is given. Answers whether one is.
@@ -109,7 +74,6 @@ fn look_if(
     cpu: u32,
     limit: u64,
     want_first: Option<bool>,
-    recent: &Recent,
     quantum: &mut Quantum,
     next: &mut Found,
 ) -> bool
@@ -123,7 +87,7 @@ fn look_if(
     board.holds();
     match want_first {
         Some(want_first) => {
-            look(board, cpu, limit, want_first, recent, quantum, next);
+            look(board, cpu, limit, want_first, quantum, next);
             true
         }
         None => false,
@@ -137,7 +101,6 @@ pub(crate) fn commit(
     ticket: &Ticket,
     limit: u64,
     want_first: Option<bool>,
-    recent: &Recent,
     quantum: &mut Quantum,
     next: &mut Found,
 ) -> Result<Committed, NoMemory>
@@ -151,7 +114,7 @@ pub(crate) fn commit(
 {
     match commit_steps(board, ticket, quantum)? {
         Committed::Taken { .. } => Ok(Committed::Taken {
-            looked: look_if(board, ticket.cpu, limit, want_first, recent, quantum, next),
+            looked: look_if(board, ticket.cpu, limit, want_first, quantum, next),
         }),
         Committed::TooMany(left) => Ok(Committed::TooMany(left)),
         Committed::Lost => Ok(Committed::Lost),

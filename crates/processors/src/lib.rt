@@ -5,7 +5,6 @@ mod gate;
 mod holds;
 mod lengths;
 mod parts;
-mod recent;
 mod run;
 mod sharing;
 mod side_by_side;

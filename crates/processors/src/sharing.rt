@@ -8,7 +8,6 @@ ghost use Rattle.processors.specs.Sharing.{IsSoOf, SeesMore};
 
 use crate::gate::Gate;
 use crate::holds::{commit, hold, look};
-use crate::recent::Recent;
 use crate::run::RanLast;
 use alone_run::turns::{
     Board, Committed, Found, Heard, Point, Port, PortCall, Processor, Quantum, Refused, Ticket,
@@ -38,7 +37,6 @@ pub struct Sharing<'a, R, G> {
     brought: u64,
     // How many steps the quantum had that was to be committed last.
     last_steps: u32,
-    recent: Recent,
 }
 
 impl<'a, R, G> Model for Sharing<'a, R, G> {
@@ -80,7 +78,6 @@ impl<'a, R, G> Sharing<'a, R, G> {
             heard: Heard::nothing(),
             brought: 0,
             last_steps: 0,
-            recent: Recent::new(),
         }
     }
 
@@ -242,7 +239,6 @@ impl<R: Wait, G: Gate> Processor for Sharing<'_, R, G> {
             self.cpu,
             self.limit,
             want_first,
-            &self.recent,
             quantum,
             next,
         );
@@ -272,17 +268,8 @@ impl<R: Wait, G: Gate> Processor for Sharing<'_, R, G> {
     ) -> Result<Committed, NoMemory> {
         let steps = quantum.steps();
         self.last_steps = steps;
-        self.recent.note(ticket.no, quantum);
         let mut held = hold(self.rt, self.lock, &mut self.pass);
-        let answer = commit(
-            held.value_mut(),
-            ticket,
-            self.limit,
-            look,
-            &self.recent,
-            quantum,
-            next,
-        );
+        let answer = commit(held.value_mut(), ticket, self.limit, look, quantum, next);
         self.pass = Some(held.release());
         let committed = answer?;
         self.brought = brought_by(committed, steps, self.brought);

@@ -146,6 +146,12 @@ impl Quantum {
         self.views.near(vpn)
     }
 
+    /// The pages that the thread touched in its last quantum, where that ran to its limit: by places from 0 on, up to `MOST_RECENT`. They
+    /// are likely to be asked for again. Nothing is promised of them.
+    pub fn recent(&self, place: usize) -> Option<Vpn> {
+        self.views.recent(place)
+    }
+
     /// The views in the order of their filling.
     pub fn views(&self) -> &[PageView]
         ensures views { result.now ≡ self.now.views }
@@ -211,6 +217,8 @@ impl Quantum {
         self.paused = None;
         let paused = self.go(limit);
         self.paused = Some(paused);
+        // Where something else than its limit ends it, the thread's way goes on elsewhere.
+        self.views.note_recent(matches!(paused, Paused::Limit));
         paused
     }
 

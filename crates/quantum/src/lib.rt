@@ -5,5 +5,5 @@ mod ahead;
 mod paused;
 
 pub use ahead::Quantum;
-pub use page_views::{MOST_VIEWS, PageView, Part};
+pub use page_views::{MOST_RECENT, MOST_VIEWS, PageView, Part};
 pub use paused::{Paused, SignalStore};

@@ -32,7 +32,7 @@ then_less Less next less apart = refl
 then_less Equal next less apart = absurd (apart refl)
 then_less Greater next less apart = absurd (cc)
 
-is_equal : (o : Ordering) → is_eq o ≡ true → o ≡ Equal
+pub is_equal : (o : Ordering) → is_eq o ≡ true → o ≡ Equal
 is_equal Less ties = absurd (cc)
 is_equal Equal ties = refl
 is_equal Greater ties = absurd (cc)

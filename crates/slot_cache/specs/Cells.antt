@@ -53,14 +53,6 @@ module _ {T : Type 0} where
   abbrev pub LockIs : List (Option (Loaded T)) → ℕ → Bool → Type 0
   LockIs cells slot locked = (loaded : Loaded T) → cell_at cells slot ≡ Some loaded → loaded.locked ≡ locked
 
-  -- a call with the content gave that result, and what it left of the content stands in its place
-  pub record IsUpdated {R : Type 0} (call : T → R → T → Type 0) (old new : List (Option (Loaded T))) (ident : Ident) (result : R) : Type 0 where
-    pub value : T
-    pub was : IsContent old ident value
-    pub left : T
-    pub called : call value result left
-    pub is : new ≡ changed old ident.slot (with_value left)
-
   -- the slot is free, and each one below is taken
   pub record IsLowestFree (cells : List (Option (Loaded T))) (slot : ℕ) : Type 0 where
     pub below : slot < length cells
@@ -109,10 +101,6 @@ module _ {T : Type 0} (called : T → Name) where
   -- what stands at the slot, if anything, has that name
   abbrev pub NameIs : List (Option (Loaded T)) → ℕ → Name → Type 0
   NameIs cells slot name = (loaded : Loaded T) → cell_at cells slot ≡ Some loaded → called loaded.value ≡ name
-
-  -- a call with what stands at the slot leaves its name
-  abbrev pub KeepsName : {R : Type 0} → (T → R → T → Type 0) → List (Option (Loaded T)) → ℕ → Type 0
-  KeepsName {R} call cells slot = (loaded : Loaded T) (result : R) (left : T) → cell_at cells slot ≡ Some loaded → call loaded.value result left → called left ≡ called loaded.value
 
   -- the identifier is that of the loaded descriptor of that name
   abbrev pub IsFoundAs : List (Option (Loaded T)) → Name → Ident → Type 0

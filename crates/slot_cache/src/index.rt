@@ -1,18 +1,10 @@
 //! A sorted list in which no key stands twice.
 
-ghost use Rattle.std.specs.Prelude.{◌≡◌, ◌≢◌, ◌+◌, ◌<◌, Contains, All, IfSome, IfNone, length};
+ghost use Rattle.std.specs.Prelude.{◌≡◌, ◌≢◌, ◌+◌, ◌<◌, Contains, All, length};
 ghost use Rattle.std.specs.declared.cmp.Ordering.TheVariants.{Equal};
-ghost use Rattle.slot_cache.specs.Index.{IsRising, IsKeyOf, IsInserted, IsRemoved};
+ghost use Rattle.slot_cache.specs.Index.{IsRising, IsInserted, IsRemoved};
 
 use sorted_list::SortedList;
-
-/// The value of the key.
-pub(crate) fn search<K: Ord + Copy, V: Ord + Copy>(index: &SortedList<K, V>, key: &K) -> Option<V>
-    ensures found { IfSome result (IsKeyOf K.cmp index.now.entries key.now) }
-    ensures absent { IfNone result (All (λ place. K.cmp place.0 key.now ≢ Equal) index.now.entries) }
-{
-    index.find(key)
-}
 
 /// Puts the value at its key. There is room, so no memory is taken.
 pub(crate) fn insert<K: Ord + Copy, V: Ord + Copy>(index: &mut SortedList<K, V>, key: K, value: V)

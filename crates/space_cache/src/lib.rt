@@ -6,7 +6,7 @@ ghost use Rattle.cache_ident.specs.declared.idents.Kind.TheVariants.{Space};
 ghost use Rattle.space_cache.specs.Spaces.{name_of};
 
 use cache_ident::{KernelNo, Kind, Name, SpaceNo};
-use slot_cache::{Cache, Descriptor};
+use slot_cache::Descriptor;
 
 /// A space and the kernel that owns it.
 #[derive(Clone, Copy, PartialEq, Eq, Debug)]
@@ -26,6 +26,3 @@ impl Descriptor for SpaceRec {
         Name::Space(self.no)
     }
 }
-
-/// The spaces that are loaded. A contract sees what stands at each slot.
-pub type SpaceCache = Cache<SpaceRec>;

@@ -8,7 +8,7 @@ ghost use Rattle.thread_cache.specs.Threads.{name_of};
 use arrayvec::ArrayVec;
 use cache_ident::{Kind, Name, SpaceNo, ThreadNo};
 use rv32_exec::{Context, Output, Status};
-use slot_cache::{Cache, Descriptor};
+use slot_cache::Descriptor;
 
 /// A thread of a space.
 #[derive(Drop)]
@@ -41,6 +41,3 @@ impl Descriptor for ThreadRec {
         Name::Thread(self.no)
     }
 }
-
-/// The threads that are loaded. A contract sees what stands at each slot.
-pub type ThreadCache = Cache<ThreadRec>;

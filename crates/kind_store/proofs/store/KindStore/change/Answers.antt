@@ -11,7 +11,7 @@ invariant_of-self g c =
     let i = c.self.inside in
     let held = rw (← c.self.view_is) at c.requires.loaded in
     let name = rw (← c.self.view_is) at c.requires.name in
-    rw c.replace.ensures.after (edit-sound g.T.Descriptor.called g.T.Descriptor.KIND i.cache i.shelf c.self.invariant c.args.ident held.0 held.1 held.2 (with_value c.args.value) refl (sym (name held.0 held.1)))
+    rw (c.replace.ensures.cells, c.replace.ensures.shelf) (edit-sound g.T.Descriptor.called g.T.Descriptor.KIND i.seats.cells i.seats.shelf c.self.invariant c.args.ident held.0 held.1 held.2 (with_value c.args.value) refl (sym (name held.0 held.1)))
 
 pub returns-clause-content : goal.returns-clause-content
 returns-clause-content g c = rw (← c.self.view_is) c.replace.ensures.content
@@ -21,17 +21,17 @@ returns-clause-contents g c =
     let i = c.self.inside in
     let held = rw (← c.self.view_is) at c.requires.loaded in
     let name = rw (← c.self.view_is) at c.requires.name in
-    let view = edit-view g.T.Descriptor.called g.T.Descriptor.KIND i.cache i.shelf c.self.invariant c.args.ident held.0 held.1 held.2 (with_value c.args.value) refl in
-    rw (← c.self.view_is, c.replace.ensures.after, view) (edit-contents g.T.Descriptor.called g.T.Descriptor.KIND i.cache i.shelf c.self.invariant c.args.ident held.0 held.1 held.2 (with_value c.args.value) refl (sym (name held.0 held.1)))
+    let view = edit-view g.T.Descriptor.called g.T.Descriptor.KIND i.seats.cells i.seats.shelf c.self.invariant c.args.ident held.0 held.1 held.2 (with_value c.args.value) refl in
+    rw (← c.self.view_is, c.replace.ensures.cells, c.replace.ensures.shelf, view) (edit-contents g.T.Descriptor.called g.T.Descriptor.KIND i.seats.cells i.seats.shelf c.self.invariant c.args.ident held.0 held.1 held.2 (with_value c.args.value) refl (sym (name held.0 held.1)))
 
 pub returns-clause-order : goal.returns-clause-order
 returns-clause-order g c =
     let i = c.self.inside in
     let held = rw (← c.self.view_is) at c.requires.loaded in
-    rw (← c.self.view_is, c.replace.ensures.after) (edit-order g.T.Descriptor.called g.T.Descriptor.KIND i.cache i.shelf c.self.invariant c.args.ident held.0 held.1 held.2 (with_value c.args.value) refl)
+    rw (← c.self.view_is, c.replace.ensures.cells) (edit-order g.T.Descriptor.called g.T.Descriptor.KIND i.seats.cells i.seats.shelf c.self.invariant c.args.ident held.0 held.1 held.2 (with_value c.args.value) refl)
 
 pub returns-clause-enrolled : goal.returns-clause-enrolled
 returns-clause-enrolled g c =
     let i = c.self.inside in
     let held = rw (← c.self.view_is) at c.requires.loaded in
-    rw (← c.self.view_is, c.replace.ensures.after) (edit-enrolled g.T.Descriptor.called g.T.Descriptor.KIND i.cache i.shelf c.self.invariant c.args.ident held.0 held.1 held.2 (with_value c.args.value) refl)
+    rw (← c.self.view_is, c.replace.ensures.cells) (edit-enrolled g.T.Descriptor.called g.T.Descriptor.KIND i.seats.cells i.seats.shelf c.self.invariant c.args.ident held.0 held.1 held.2 (with_value c.args.value) refl)

@@ -10,23 +10,23 @@ pub invariant_of-self : goal.invariant_of-self
 invariant_of-self g c =
     let i = c.self.inside in
     let held = rw (← c.self.view_is) at c.requires in
-    rw c.set_lock.ensures (edit-sound g.T.Descriptor.called g.T.Descriptor.KIND i.cache i.shelf c.self.invariant c.args.ident held.0 held.1 held.2 (with_lock true) refl refl)
+    rw (c.set_lock.ensures.cells, c.set_lock.ensures.shelf) (edit-sound g.T.Descriptor.called g.T.Descriptor.KIND i.seats.cells i.seats.shelf c.self.invariant c.args.ident held.0 held.1 held.2 (with_lock true) refl refl)
 
 pub returns-clause-contents : goal.returns-clause-contents
 returns-clause-contents g c =
     let i = c.self.inside in
     let held = rw (← c.self.view_is) at c.requires in
-    let view = edit-view g.T.Descriptor.called g.T.Descriptor.KIND i.cache i.shelf c.self.invariant c.args.ident held.0 held.1 held.2 (with_lock true) refl in
-    rw (← c.self.view_is, c.set_lock.ensures, view) (edit-keeps g.T.Descriptor.called g.T.Descriptor.KIND i.cache i.shelf c.self.invariant c.args.ident held.0 held.1 held.2 (with_lock true) refl refl refl)
+    let view = edit-view g.T.Descriptor.called g.T.Descriptor.KIND i.seats.cells i.seats.shelf c.self.invariant c.args.ident held.0 held.1 held.2 (with_lock true) refl in
+    rw (← c.self.view_is, c.set_lock.ensures.cells, c.set_lock.ensures.shelf, view) (edit-keeps g.T.Descriptor.called g.T.Descriptor.KIND i.seats.cells i.seats.shelf c.self.invariant c.args.ident held.0 held.1 held.2 (with_lock true) refl refl refl)
 
 pub returns-clause-order : goal.returns-clause-order
 returns-clause-order g c =
     let i = c.self.inside in
     let held = rw (← c.self.view_is) at c.requires in
-    rw (← c.self.view_is, c.set_lock.ensures) (edit-order g.T.Descriptor.called g.T.Descriptor.KIND i.cache i.shelf c.self.invariant c.args.ident held.0 held.1 held.2 (with_lock true) refl)
+    rw (← c.self.view_is, c.set_lock.ensures.cells) (edit-order g.T.Descriptor.called g.T.Descriptor.KIND i.seats.cells i.seats.shelf c.self.invariant c.args.ident held.0 held.1 held.2 (with_lock true) refl)
 
 pub returns-clause-enrolled : goal.returns-clause-enrolled
 returns-clause-enrolled g c =
     let i = c.self.inside in
     let held = rw (← c.self.view_is) at c.requires in
-    rw (← c.self.view_is, c.set_lock.ensures) (edit-enrolled g.T.Descriptor.called g.T.Descriptor.KIND i.cache i.shelf c.self.invariant c.args.ident held.0 held.1 held.2 (with_lock true) refl)
+    rw (← c.self.view_is, c.set_lock.ensures.cells) (edit-enrolled g.T.Descriptor.called g.T.Descriptor.KIND i.seats.cells i.seats.shelf c.self.invariant c.args.ident held.0 held.1 held.2 (with_lock true) refl)

@@ -6,7 +6,7 @@ use Rattle.page_views.specs.Origins.{viewed_beside}
 use Rattle.page_views.specs.Views.{is_of_frame, table_of, with_filled, Table}
 use Rattle.page_views.proofs.Indexing.{index_filled}
 use Rattle.page_views.proofs.Keeping.{table_with}
-use Rattle.page_views.proofs.Spotting.{marked_filled}
+use Rattle.page_views.proofs.Spotting.{spotted_filled}
 use Rattle.page_views.proofs.Tables.{slot_behind, table_filled, written_over}
 use Rattle.page_views.proofs.table.PageViews.add.Goals as goal
 
@@ -26,10 +26,10 @@ invariant_of-self c =
     let below = slot_behind q.most n slots c.args.origin.vpn c.self.invariant.0 room in
     let shared = c.has_frame-shared.ensures ∙ ap (λ (t : Table). is_some (find (is_of_frame c.args.origin.frame) t.views)) (sym c.self.view_is) in
     let became : c.fill_at.new.views ≡ set slots n v = rw c.deref_mut.ensures.value at c.fill_at.ensures in
-    rw c.add.ensures (
+    rw (c.add.ensures, c.note_view.ensures) (
       table_filled q.most q.views.len n slots c.fill_at.new.views v q.views.ok.0 below c.self.invariant.0 room became,
       index_filled q.views.len n slots c.fill_at.new.views v c.args.origin c.has_frame-shared.result q.index q.views.ok.0 below became refl refl refl shared c.self.invariant.1,
-      marked_filled q.views.len n slots c.fill_at.new.views v q.marked q.views.ok.0 below became c.self.invariant.2,
+      spotted_filled q.views.len n slots c.fill_at.new.views v c.args.origin q.spots q.views.ok.0 below became refl refl c.self.invariant.2,
     )
 
 pub returns : goal.returns

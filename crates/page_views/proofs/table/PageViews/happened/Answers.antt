@@ -3,7 +3,7 @@ use Rattle.std.proofs.Common.{rules, ◌≡◌, List, [], ◌++◌, Option, leng
 use Rattle.page_views.specs.declared.index.Index.{Index}
 use Rattle.page_views.specs.Views.{all_dated, as_happened, table_of, Dated, Table}
 use Rattle.page_views.proofs.Keeping.{all_happened}
-use Rattle.page_views.proofs.Spotting.{none_marked_at}
+use Rattle.page_views.proofs.Spotting.{none_spotted}
 use Rattle.page_views.proofs.Tables.{length-mapped, written_over}
 use Rattle.page_views.proofs.table.PageViews.happened.Goals as goal
 
@@ -13,7 +13,7 @@ invariant_of-self c =
     let after = c.happen_each.new.views in
     let became : after ≡ map (as_happened c.args.place) (take q.index.count q.views.items) ++ drop q.index.count q.views.items = rw c.deref_mut.ensures.value at c.happen_each.ensures in
     let size : length after ≡ length q.views.items = ap length became ∙ length-mapped (as_happened c.args.place) q.index.count q.views.items c.self.invariant.0.within in
-    rw (written_over q.views.len q.views.items after q.views.ok.0 size, c.none-self-inside.ensures, c.none-self-inside-2.ensures) (search (rules, none_marked_at, size))
+    rw (written_over q.views.len q.views.items after q.views.ok.0 size, c.none-self-inside.ensures, c.none-self-inside-2.ensures) (search (rules, none_spotted, size))
 
 pub returns : goal.returns
 returns c =

@@ -4,7 +4,7 @@ use Rattle.std.specs.Prelude.{slice_get}
 use Rattle.rv32_exec.specs.Pages.{size_of}
 use Rattle.page_views.specs.Views.{put_in_view, table_of, Table, View}
 use Rattle.page_views.proofs.Indexing.{index_within}
-use Rattle.page_views.proofs.Spotting.{marked_put}
+use Rattle.page_views.proofs.Spotting.{spotted_put}
 use Rattle.page_views.proofs.Tables.{frame_there, put_copied, put_there, table_after, table_changed, written_over, length-mapped}
 use Rattle.page_views.proofs.table.PageViews.put.Goals as goal
 
@@ -20,7 +20,7 @@ invariant_of-self c =
     rw (written_over q.views.len q.views.items c.put_in.new.views q.views.ok.0 size) (
       table_changed f same q.most q.index.count q.views.items c.put_in.new.views table became,
       index_within f same q.index.count q.views.items c.put_in.new.views q.index table.within became c.self.invariant.1,
-      marked_put c.frame-frame.result count c.args.at c.args.value q.index.count q.views.items c.put_in.new.views q.marked table.within became c.self.invariant.2,
+      spotted_put c.frame-frame.result count c.args.at c.args.value q.index.count q.views.items c.put_in.new.views q.spots table.within became c.self.invariant.2,
     )
 
 pub returns-then-self : goal.returns-then-self
@@ -49,7 +49,7 @@ invariant_of-self-else-self c =
     let became = put_there count c.args.at c.args.value q.index.count c.args.place q.views.items v c.put.new.self (c.self.invariant.1.apart c.if-self.false) table.within below c.index_mut.ensures.value c.put.ensures in (
       table_changed f same q.most q.index.count q.views.items _ table became,
       index_within f same q.index.count q.views.items _ q.index table.within became c.self.invariant.1,
-      marked_put v.frame count c.args.at c.args.value q.index.count q.views.items _ q.marked table.within became c.self.invariant.2,
+      spotted_put v.frame count c.args.at c.args.value q.index.count q.views.items _ q.spots table.within became c.self.invariant.2,
     )
 
 pub returns-else-self : goal.returns-else-self

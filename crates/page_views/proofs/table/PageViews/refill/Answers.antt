@@ -5,11 +5,11 @@ use Rattle.std.proofs.Math.ListN.{length-set}
 use Rattle.std.proofs.lemmas.Option.{get_or_from_slice_get, slice_get_within}
 use Rattle.page_views.specs.Index.{IsIndex}
 use Rattle.page_views.specs.Origins.{viewed}
-use Rattle.page_views.specs.Spots.{AreAllMarkedAt}
+use Rattle.page_views.specs.Spots.{AreAllSpotted}
 use Rattle.page_views.specs.Views.{can_fill, can_refill, is_of_frame, is_touched_of, table_of, IsExchanged, IsRefilled, IsSlotSince, Table, View}
 use Rattle.page_views.proofs.Indexing.{copied_some, index_filled, none_is}
 use Rattle.page_views.proofs.Keeping.{again, at_count, refilled, some_since, table_exchanged}
-use Rattle.page_views.proofs.Spotting.{marked_filled}
+use Rattle.page_views.proofs.Spotting.{spotted_filled}
 use Rattle.page_views.proofs.Tables.{table_filled, written_over}
 use Rattle.page_views.proofs.table.PageViews.refill.Goals as goal
 
@@ -64,11 +64,11 @@ invariant_of-self c =
     let room = subst (λ (vs : List View). can_fill q.most vs c.args.vpn ≡ true) (sym ex.views) (rw (← c.self.view_is) at c.requires.room) in
     let shared = c.has_frame-shared.ensures ∙ ap (λ (vs : List View). is_some (find (is_of_frame c.args.frame) vs)) (sym (ap (λ (t : Table). t.views) c.self.view_is) ∙ sym ex.views) in
     let index = subst (λ (vs : List View). IsIndex vs q.index) (sym ex.views) c.self.invariant.1 in
-    let marked = subst (λ (vs : List View). AreAllMarkedAt vs q.marked) (sym ex.views) c.self.invariant.2 in
-    rw (c.add.ensures, whole) (
+    let spotted = subst (λ (vs : List View). AreAllSpotted vs q.spots) (sym ex.views) c.self.invariant.2 in
+    rw (c.add.ensures, c.note_view.ensures, whole) (
       table_filled q.most q.views.len n mid c.recall_at.new.views v length_is below (table_exchanged n c.in-Some.slot slots mid ex q.most c.self.invariant.0) room is,
       index_filled q.views.len n mid c.recall_at.new.views v (record { vpn = c.args.vpn; frame = c.args.frame; flags = c.args.flags; row = c.args.row; taken = at.view.taken }) c.has_frame-shared.result q.index length_is below is refl refl refl shared index,
-      marked_filled q.views.len n mid c.recall_at.new.views v q.marked length_is below is marked,
+      spotted_filled q.views.len n mid c.recall_at.new.views v (record { vpn = c.args.vpn; frame = c.args.frame; flags = c.args.flags; row = c.args.row; taken = c.taken.result }) q.spots length_is below is refl refl spotted,
     )
 
 pub returns-clause-answer : goal.returns-clause-answer

@@ -20,7 +20,7 @@ invariant_of-self-2 c =
     let q = c.self-2.inside in
     let a : Ahead = record { first = q.first; context = q.context; most = q.views.most; views = q.views.views; kept = q.views.kept; steps = q.steps; paused = q.paused } in
     let gone = c.go-paused.ensures in
-    made_paused a (Some c.go-paused.result) c.self-2.invariant (pause_status c.args.limit a c.go-paused.result (ap (pause_at c.args.limit) (c.self-2.view_is ∙ gone.took) ∙ gone.stands))
+    rw c.note_recent.ensures (made_paused a (Some c.go-paused.result) c.self-2.invariant (pause_status c.args.limit a c.go-paused.result (ap (pause_at c.args.limit) (c.self-2.view_is ∙ gone.took) ∙ gone.stands)))
 
 pub returns-in-Some-clause-local_run : goal.returns-in-Some-clause-local_run
 returns-in-Some-clause-local_run c = subst IsLocalRun c.self.view_is (local_run _ c.self.invariant)
@@ -33,7 +33,7 @@ returns-clause-run c =
     let b : Ahead = record { first = r.first; context = r.context; most = r.views.most; views = r.views.views; kept = r.views.kept; steps = r.steps; paused = r.paused } in
     let free : standing q.paused ≡ None = sym c.standing.ensures ∙ c.in_default.is in
     let gone : HasGone c.args.limit (record a { paused = None }) b c.go-paused.result = subst (λ (now : Ahead). HasGone c.args.limit (record a { paused = None }) now c.go-paused.result) (sym c.self-2.view_is) c.go-paused.ensures in
-    rw (← c.self.view_is) (run_going c.args.limit a b c.go-paused.result free gone)
+    rw (← c.self.view_is, c.note_recent.ensures) (run_going c.args.limit a b c.go-paused.result free gone)
 
 pub returns-clause-local_run : goal.returns-clause-local_run
 returns-clause-local_run c = local_run _ (invariant_of-self-2 c)
