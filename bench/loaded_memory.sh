@@ -29,7 +29,7 @@ operations() {
     awk -v rows="$rows" -v each="$1" 'BEGIN {
         for (i = 0; i < rows; i++) print "map 0", i, i % 128, "r"
         print "end\nseal\nload space 0 K0.0 0"
-        for (i = 0; i < rows; i++) print "load row 0 K0.0 S0.1", each * i, "-"
+        for (i = 0; i < rows; i++) print "load row", 0, "K0.0 S0.1", each * i, "-"
     }'
 }
 
