@@ -1,7 +1,6 @@
 // Instructions that were decoded before.
 
-ghost use Rattle.std.specs.Prelude.{◌≡◌, ◌<◌, ◌≤◌, vec_len, vec_capacity, IfSome};
-ghost use Rattle.std.specs.Bool.{OnTrue};
+ghost use Rattle.std.specs.Prelude.{◌≡◌, ◌<◌, length, IfSome};
 ghost use Rattle.rv32_isa.specs.Table.{IsValid, instruction_of};
 ghost use Rattle.rv32_exec.specs.Decoded.{HasWord};
 
@@ -17,15 +16,14 @@ const LINES: usize = 1_024;
 /// It knows nothing of memory: a line is used only where its word is the word asked for, so no store makes it wrong.
 #[derive(Drop)]
 pub struct DecodedWords {
-    // The lines up to the last one that was asked for. Those behind aren't written yet, and remember no word.
     lines: Vec<Line>,
-    ghost room: { 1024 ≤ vec_capacity lines },
+    ghost all: { length lines.items ≡ 1024 },
 }
 
 impl DecodedWords {
-    /// Remembers no word yet. The one call that takes memory, some 32 KiB. None of it is written before words are met.
+    /// Remembers no word that was met yet. The one call that takes memory, some 28 KiB.
     pub fn new(alloc: Global) -> Result<DecodedWords, NoMemory> {
-        let lines = Vec::with_capacity(alloc, LINES)?;
+        let lines = vec![in alloc; Line::first(); LINES]?;
         Ok(DecodedWords { lines })
     }
 
@@ -47,7 +45,7 @@ impl DecodedWords {
         requires { place < 1024 }
         ensures { HasWord self.new.lines.items place word }
     {
-        if !has_word(&self.lines, place, word) {
+        if self.lines[place].word != word {
             self.meet(place, word);
         }
     }
@@ -59,36 +57,10 @@ impl DecodedWords {
         requires { place < 1024 }
         ensures { HasWord self.new.lines.items place word }
     {
-        reach(&mut self.lines, place);
         self.lines[place] = Line {
             word,
             instr: decode(word),
         };
-    }
-}
-
-// Whether the line at a place is there and remembers a word.
-#[inline]
-fn has_word(lines: &[Line], place: usize, word: u32) -> bool
-    ensures { OnTrue result (HasWord lines.now place word) }
-{
-    match lines.get(place) {
-        Some(line) => line.word == word,
-        None => false,
-    }
-}
-
-// Writes lines that remember no word, up to that of the place.
-fn reach(lines: &mut Vec<Line>, place: usize)
-    requires { place < vec_capacity lines.old }
-    ensures reached { place < vec_len lines.new }
-    ensures capacity { vec_capacity lines.new ≡ vec_capacity lines.old }
-{
-    while lines.len() <= place {
-        lines.push_reserved(Line {
-            word: 0,
-            instr: decode(0),
-        });
     }
 }
 
