@@ -228,35 +228,36 @@ impl Quantum {
         requires { self.old.paused ≡ None }
         ensures { HasGone limit self.old self.new result }
     {
-        while self.steps < limit {
-            if let Some(paused) = self.advance() {
-                return paused;
+        let watched = self.views.has_message();
+        let mut steps = self.steps;
+        while steps < limit {
+            if watched && signals_next(&self.context, &mut self.views) {
+                self.steps = steps;
+                return Paused::Signal;
             }
+            let stepped = take(&mut self.context, &mut self.views);
+            if !matches!(stepped, Stepped::Next) {
+                self.steps = steps;
+                return self.paused_by(stepped);
+            }
+            steps += 1;
         }
+        self.steps = steps;
         Paused::Limit
     }
 
-    // Takes one step more, and answers whether the run pauses before it or after it. A step that goes on writes no pause.
-    #[inline]
-    fn advance(&mut self) -> Option<Paused>
-        requires going { self.old.paused ≡ None }
-        requires room { self.old.steps + 1 < 2 ^ 32 }
-        ensures after { self.new ≡ advanced (pause_before self.old) self.old }
-        ensures answer { result ≡ answer_of (pause_before self.old) self.old }
-    {
-        if signals_next(&self.context, &mut self.views) {
-            return Some(Paused::Signal);
-        }
-        let stepped = take(&mut self.context, &mut self.views);
+    #[inline(never)]
+    fn paused_by(&mut self, stepped: Stepped) -> Paused {
         if let Stepped::Miss { va, access } = stepped {
-            return Some(Paused::Miss { va, access });
+            return Paused::Miss { va, access };
         }
         self.steps += 1;
         let paused = pause_after(stepped);
-        if paused.is_some() {
-            self.paused = paused;
+        self.paused = paused;
+        match paused {
+            Some(paused) => paused,
+            None => unreachable!(),
         }
-        paused
     }
 }
 
