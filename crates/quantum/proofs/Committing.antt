@@ -27,9 +27,6 @@ use Rattle.quantum.proofs.Making.{none_found, true_false}
 
 -- ---- memory
 
-frame_no : ℕ → Frame
-frame_no n = record { 0 = n }
-
 -- memories of whole pages are one, where each page is
 pages_same : (k : ℕ) (m u : List ℕ) → length m ≡ 4096 * k → length u ≡ 4096 * k → ((f : Frame) → f.0 < k → page_at m f ≡ page_at u f) → m ≡ u
 pages_same k m u size-m size-u same = ext_get_or 0 m u (size-m ∙ sym size-u) (λ j below.

@@ -1,16 +1,23 @@
 -- Steps up to the first pause.
-use Rattle.std.proofs.Common.{◌≡◌, ℕ, zero, suc, ◌+◌, ◌<◌, ◌≤◌, Bool, true, false, Option, Some, None, refl, ap, ap₂, sym, ◌∙◌, subst, inl, inr, arith}
+use Rattle.std.proofs.Common.{◌≡◌, ℕ, zero, suc, ◌+◌, ◌<◌, ◌≤◌, Bool, true, false, ◌||◌, List, [], ◌∷◌, Option, Some, None, refl, ap, ap₂, sym, ◌∙◌, subst, inl, inr, arith}
 use Rattle.std.specs.Prelude.{if◌then◌else◌, nat_le}
 use Rattle.std.specs.Option.{option_or}
 use Rattle.std.proofs.lemmas.Bool.{cases_lt, leb-true, leb-false}
+use Rattle.std.proofs.lemmas.Option.{same_Some}
+use Rattle.rv32_exec.specs.declared.contexts.Context.{Context}
 use Rattle.rv32_exec.specs.declared.statuses.Status.TheVariants.{Ready}
 use Rattle.rv32_exec.specs.declared.steps.Stepped.{Stepped}
 use Rattle.rv32_exec.specs.declared.steps.Stepped.TheVariants as steps
+use Rattle.rv32_exec.specs.Pages.{Page}
+use Rattle.rv32_exec.specs.Steps.{after_step, OnMiss}
+use Rattle.page_views.specs.Views.{has_message, pages_of_views, Table, View}
+use Rattle.quantum.specs.declared.ahead.Went.{Went}
 use Rattle.quantum.specs.declared.paused.Paused.{Paused}
 use Rattle.quantum.specs.declared.paused.Paused.TheVariants as pauses
-use Rattle.quantum.specs.Ahead.{Ahead, advanced, answer_of, at_limit, further, one_ahead, outcome, pause_after, pause_at, pause_before, pause_if_missed, signals_next, standing, HasGone, IsRun}
+use Rattle.quantum.specs.Ahead.{Ahead, ahead_over, at_limit, further, one_ahead, outcome, pause_after, pause_at, pause_before, pause_if_missed, signals_next, standing, views_with, went_by, IsRun}
 use Rattle.quantum.specs.LocalRun.{status_by}
-use Rattle.quantum.proofs.Making.{ready_where}
+use Rattle.quantum.specs.Made.{IsMade}
+use Rattle.quantum.proofs.Making.{made_ahead, made_paused, quiet_where, ready_where}
 
 further-suc : (k : ℕ) (a : Ahead) → further (suc k) a ≡ one_ahead (further k a)
 further-suc zero a = refl
@@ -28,9 +35,6 @@ pub record Going (limit : ℕ) (before now : Ahead) : Type 0 where
   pub is : now ≡ further count before
   pub went_on : (k : ℕ) → k < count → pause_at limit (further k before) ≡ None
   pub free : now.paused ≡ None
-
-pub going_first : (limit : ℕ) (a : Ahead) → a.paused ≡ None → Going limit a a
-going_first limit a free = record { count = 0; is = refl; went_on = λ k below. absurd (omega (arith, below)); free = free }
 
 below_limit : (limit steps : ℕ) → steps < limit → at_limit limit steps ≡ None
 below_limit limit steps below = by (nat_le limit steps) refl
@@ -56,7 +60,7 @@ stands_after steps.Call = refl
 stands_after (steps.Stop reason) = refl
 stands_after (steps.Miss va access) = refl
 
-module _ (limit : ℕ) (before a b : Ahead) (going : Going limit before a) (below : a.steps < limit) (became : b ≡ advanced (pause_before a) a) where
+module _ (limit : ℕ) (before a : Ahead) (going : Going limit before a) (below : a.steps < limit) where
   pauses_so : pause_at limit (further going.count before) ≡ pause_before a
   pauses_so = ap (pause_at limit) (sym going.is) ∙ only_before limit a (ap standing going.free) below
 
@@ -68,51 +72,93 @@ module _ (limit : ℕ) (before a b : Ahead) (going : Going limit before a) (belo
         subst (λ (j : ℕ). pause_at limit (further j before) ≡ None) same (pauses_so ∙ none)
   ]
 
-  one_on : pause_before a ≡ None → b ≡ further (going.count + 1) before
-  one_on none = became ∙ (ap (λ (o : Option Paused). advanced o a) none ∙ (ap one_ahead going.is ∙ sym (further_more going.count before)))
+  one_on : one_ahead a ≡ further (going.count + 1) before
+  one_on = ap one_ahead going.is ∙ sym (further_more going.count before)
 
-  pub going_on : None ≡ answer_of (pause_before a) a → Going limit before b
-  going_on answer = by (pause_before a) refl answer
-    where
-      by : (o : Option Paused) → pause_before a ≡ o → None ≡ answer_of o a → Going limit before b
-      by (Some p) e answer = absurd (cc)
-      by None e answer = record {
-        count = going.count + 1;
-        is = one_on e;
-        went_on = further_went e;
-        free = ap (λ (c : Ahead). c.paused) (became ∙ ap (λ (o : Option Paused). advanced o a) e) ∙ sym answer;
-      }
+  going_on : pause_before a ≡ None → (one_ahead a).paused ≡ None → Going limit before (one_ahead a)
+  going_on none free = record { count = going.count + 1; is = one_on; went_on = further_went none; free = free }
 
-  pub one_step : None ≡ answer_of (pause_before a) a → b.steps ≡ a.steps + 1
-  one_step answer = by (pause_before a) refl answer
-    where
-      by : (o : Option Paused) → pause_before a ≡ o → None ≡ answer_of o a → b.steps ≡ a.steps + 1
-      by (Some p) e answer = absurd (cc)
-      by None e answer = ap (λ (c : Ahead). c.steps) (became ∙ ap (λ (o : Option Paused). advanced o a) e)
+  -- a pause before the next step, and one behind it
+  run_before : (p : Paused) → pause_before a ≡ Some p → IsRun limit before (record a { paused = Some p }) p
+  run_before p is = record {
+    count = going.count;
+    took = ap (λ (b : Ahead). record b { paused = Some p }) going.is;
+    went_on = going.went_on;
+    stands = pauses_so ∙ is;
+  }
 
-  pub gone_at : (p : Paused) → Some p ≡ answer_of (pause_before a) a → HasGone limit before b p
-  gone_at p answer = by (pause_before a) refl answer
-    where
-      by : (o : Option Paused) → pause_before a ≡ o → Some p ≡ answer_of o a → HasGone limit before b p
-      by (Some q) e answer = record {
-        count = going.count;
-        took = became ∙ (ap (λ (o : Option Paused). advanced o a) e ∙ going.is);
-        went_on = going.went_on;
-        stands = pauses_so ∙ (e ∙ sym answer);
-      }
-      by None e answer = record {
-        count = going.count + 1;
-        took = one_on e;
-        went_on = further_went e;
-        stands =
-            ap (pause_at limit) (further_more going.count before ∙ ap one_ahead (sym going.is))
-            ∙ ap (λ (o : Option Paused). option_or o (option_or (at_limit limit (one_ahead a).steps) (pause_before (one_ahead a)))) (stands_after (outcome a).answer ∙ sym answer);
-      }
+  run_behind : (p : Paused) → pause_before a ≡ None → (one_ahead a).paused ≡ Some p → IsRun limit before (record (one_ahead a) { paused = Some p }) p
+  run_behind p none is = record {
+    count = going.count + 1;
+    took = ap (λ (b : Ahead). record b { paused = Some p }) one_on;
+    went_on = further_went none;
+    stands =
+        ap (pause_at limit) (sym one_on)
+        ∙ ap (λ (o : Option Paused). option_or o (option_or (at_limit limit (one_ahead a).steps) (pause_before (one_ahead a)))) (stands_after (outcome a).answer ∙ is);
+  }
 
-pub gone_limit : (limit : ℕ) (before a : Ahead) → Going limit before a → limit ≤ a.steps → HasGone limit before a pauses.Limit
-gone_limit limit before a going past = record {
+-- a step changes no view's flags
+pub message_stays : (vs : List View) (ps : List Page) → has_message (views_with vs ps) ≡ has_message vs
+message_stays [] ps = refl
+message_stays (v ∷ vs) [] = refl
+message_stays (v ∷ vs) (p ∷ ps) = ap (λ (b : Bool). v.flags.m || b) (message_stays vs ps)
+
+-- a step was taken over the views
+pub record Took (c : Context) (t : Table) (d : Context) (u : Table) (stepped : Stepped) : Type 0 where
+  pub context : d ≡ (after_step c (pages_of_views t.views)).context
+  pub views : u ≡ record t { views = views_with t.views (after_step c (pages_of_views t.views)).pages }
+  pub answer : stepped ≡ (after_step c (pages_of_views t.views)).answer
+  pub missed : OnMiss stepped ((d ≡ c) × (u ≡ t))
+
+-- what a look before the next step, and the step, make of steps that went on so far
+module _ (limit : ℕ) (before : Ahead) (first c : Context) (t : Table) (n : ℕ) (going : Going limit before (ahead_over first c t n None)) (below : n < limit) where
+  abbrev now : Ahead
+  now = ahead_over first c t n None
+
+  pub run_signal : signals_next now ≡ true → IsRun limit before (record now { paused = Some pauses.Signal }) pauses.Signal
+  run_signal signals = run_before limit before now going below pauses.Signal (ap (λ (b : Bool). if b then Some pauses.Signal else pause_if_missed (outcome now).answer) signals)
+
+  module _ (d : Context) (u : Table) (stepped : Stepped) (took : Took c t d u stepped) (quiet : signals_next now ≡ false) where
+    paused_before : pause_before now ≡ pause_if_missed stepped
+    paused_before = ap₂ (λ (b : Bool) (s : Stepped). if b then Some pauses.Signal else pause_if_missed s) quiet (sym took.answer)
+
+    paused_behind : (one_ahead now).paused ≡ pause_after stepped
+    paused_behind = ap pause_after (sym took.answer)
+
+    one_is : (o : Option Paused) → record (one_ahead now) { paused = o } ≡ ahead_over first d u (n + 1) o
+    one_is o = ap₂ (λ (e : Context) (w : Table). ahead_over first e w (n + 1) o) (sym took.context) (sym took.views)
+
+    pub goes_on : stepped ≡ steps.Next → Going limit before (ahead_over first d u (n + 1) None)
+    goes_on next =
+        let free : (one_ahead now).paused ≡ None = paused_behind ∙ ap pause_after next in
+        subst (Going limit before) (ap (λ (o : Option Paused). record (one_ahead now) { paused = o }) free ∙ one_is None)
+        (going_on limit before now going below (paused_before ∙ ap pause_if_missed next) free)
+
+    -- the last step, by its answer
+    run_taken : (p : Paused) → pause_if_missed stepped ≡ None → pause_after stepped ≡ Some p → IsRun limit before (ahead_over first d u (n + 1) (Some p)) p
+    run_taken p none is = subst (λ (a : Ahead). IsRun limit before a p) (one_is (Some p)) (run_behind limit before now going below p (paused_before ∙ none) (paused_behind ∙ is))
+
+    run_missed : (p : Paused) → pause_if_missed stepped ≡ Some p → d ≡ c → u ≡ t → IsRun limit before (ahead_over first d u n (Some p)) p
+    run_missed p is same-context same-views =
+        subst (λ (a : Ahead). IsRun limit before a p) (ap₂ (λ (e : Context) (w : Table). ahead_over first e w n (Some p)) (sym same-context) (sym same-views))
+        (run_before limit before now going below p (paused_before ∙ is))
+
+    abbrev IsRunTo : Went → Type 0
+    IsRunTo w = IsRun limit before (ahead_over first d u w.steps (Some w.paused)) w.paused
+
+    run_answering : (s : Stepped) → stepped ≡ s → OnMiss s ((d ≡ c) × (u ≡ t)) → (w : Went) → went_by n s ≡ Some w → IsRunTo w
+    run_answering steps.Next e missed w is = absurd (cc)
+    run_answering steps.Call e missed w is = subst IsRunTo (same_Some _ w is) (run_taken pauses.Call (ap pause_if_missed e) (ap pause_after e))
+    run_answering (steps.Stop reason) e missed w is = subst IsRunTo (same_Some _ w is) (run_taken (pauses.Stopped reason) (ap pause_if_missed e) (ap pause_after e))
+    run_answering (steps.Miss va access) e missed w is = subst IsRunTo (same_Some _ w is) (run_missed (pauses.Miss va access) (ap pause_if_missed e) missed.0 missed.1)
+
+    pub run_by : (w : Went) → Some w ≡ went_by n stepped → IsRunTo w
+    run_by w is = run_answering stepped refl took.missed w (sym is)
+
+pub run_limit : (limit : ℕ) (before a : Ahead) → Going limit before a → limit ≤ a.steps → IsRun limit before (record a { paused = Some pauses.Limit }) pauses.Limit
+run_limit limit before a going past = record {
   count = going.count;
-  took = going.is;
+  took = ap (λ (b : Ahead). record b { paused = Some pauses.Limit }) going.is;
   went_on = going.went_on;
   stands =
       ap (pause_at limit) (sym going.is)
@@ -138,20 +184,12 @@ pauses_alike : (limit k : ℕ) (a : Ahead) → standing a.paused ≡ None → pa
 pauses_alike limit zero a free = ap (λ (o : Option Paused). option_or o (option_or (at_limit limit a.steps) (pause_before a))) (sym free)
 pauses_alike limit (suc k) a free = refl
 
-pub run_going : (limit : ℕ) (a after : Ahead) (p : Paused) → standing a.paused ≡ None → HasGone limit (record a { paused = None }) after p → IsRun limit a (record after { paused = Some p }) p
-run_going limit a after p free gone = record {
-  count = gone.count;
-  took = ap (λ (b : Ahead). record b { paused = Some p }) gone.took ∙ forgotten gone.count a (Some p);
-  went_on = λ k below. sym (pauses_alike limit k a free) ∙ gone.went_on k below;
-  stands = sym (pauses_alike limit gone.count a free) ∙ gone.stands;
-}
-
-pub run_standing : (limit : ℕ) (a : Ahead) (p : Paused) → standing a.paused ≡ Some p → IsRun limit a a p
-run_standing limit a p stands = record {
-  count = 0;
-  took = ap (λ (o : Option Paused). record a { paused = o }) (stands_itself a.paused p stands);
-  went_on = λ k below. absurd (omega (arith, below));
-  stands = ap (λ (o : Option Paused). option_or o (option_or (at_limit limit a.steps) (pause_before a))) stands;
+pub run_anew : (limit : ℕ) (a after : Ahead) (p : Paused) → standing a.paused ≡ None → IsRun limit (record a { paused = None }) after p → IsRun limit a after p
+run_anew limit a after p free ran = record {
+  count = ran.count;
+  took = ran.took ∙ forgotten ran.count a (Some p);
+  went_on = λ k below. sym (pauses_alike limit k a free) ∙ ran.went_on k below;
+  stands = sym (pauses_alike limit ran.count a free) ∙ ran.stands;
 }
 
 -- ---- the pause names the status
@@ -169,7 +207,7 @@ before_status a p e = by (signals_next a) e
     by true e = ap status_by (sym e)
     by false e = missed_status (outcome a).answer p e
 
-pub pause_status : (limit : ℕ) (a : Ahead) (p : Paused) → pause_at limit a ≡ Some p → status_by (Some p) ≡ status_by a.paused
+pause_status : (limit : ℕ) (a : Ahead) (p : Paused) → pause_at limit a ≡ Some p → status_by (Some p) ≡ status_by a.paused
 pause_status limit a p e = by (standing a.paused) refl e
   where
     at : (o : Option Paused) → at_limit limit a.steps ≡ o → option_or o (pause_before a) ≡ Some p → status_by (Some p) ≡ Ready
@@ -183,3 +221,20 @@ pause_status limit a p e = by (standing a.paused) refl e
     by : (o : Option Paused) → standing a.paused ≡ o → option_or o (option_or (at_limit limit a.steps) (pause_before a)) ≡ Some p → status_by (Some p) ≡ status_by a.paused
     by (Some q) is e = ap status_by (sym (stands_itself a.paused p (is ∙ e)))
     by None is e = at (at_limit limit a.steps) refl e ∙ sym (ready_where a.paused is)
+
+-- ---- a run is made of its steps
+
+neither : (x y : Option Paused) → option_or x y ≡ None → (x ≡ None) × (y ≡ None)
+neither None y none = (refl, none)
+neither (Some p) y none = absurd (cc)
+
+made_further : (limit k : ℕ) (a : Ahead) → IsMade a → ((j : ℕ) → j < k → pause_at limit (further j a) ≡ None) → IsMade (further k a)
+made_further limit zero a made went_on = made
+made_further limit (suc k) a made went_on =
+    let here = neither (standing a.paused) (option_or (at_limit limit a.steps) (pause_before a)) (went_on 0 (omega arith)) in
+    let quiet = quiet_where a (neither (at_limit limit a.steps) (pause_before a) here.1).1 in
+    made_further limit k (one_ahead a) (made_ahead a made here.0 quiet.0 quiet.1) (λ j below. went_on (suc j) (omega (arith, below)))
+
+pub made_run : (limit : ℕ) (before after : Ahead) (p : Paused) → IsMade before → IsRun limit before after p → IsMade after
+made_run limit before after p made ran =
+    subst IsMade (sym ran.took) (made_paused (further ran.count before) (Some p) (made_further limit ran.count before made ran.went_on) (pause_status limit (further ran.count before) p ran.stands))

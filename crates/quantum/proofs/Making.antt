@@ -1,6 +1,6 @@
 -- How a run ahead comes to be: begun, with a view more, with a step more.
 use Rattle.std.proofs.Common.{◌≡◌, ◌≢◌, ℕ, zero, suc, ◌+◌, ◌%◌, ◌<◌, Bool, true, false, ◌&&◌, ◌||◌, cond, List, [], ◌∷◌, ◌++◌, map, Option, Some, None, slice_get, Contains, refl, ap, ap₂, sym, ◌∙◌, subst, inl, inr, ◌⊎◌, arith}
-use Rattle.std.specs.Prelude.{◌==◌, if◌then◌else◌, replicate, slice_set, unwrap_or, is_some}
+use Rattle.std.specs.Prelude.{◌==◌, if◌then◌else◌, replicate, slice_set, unwrap_or}
 use Rattle.std.specs.Bool.{OnFalse, OnTrue}
 use Rattle.std.specs.List.{find}
 use Rattle.std.proofs.lemmas.Bool.{cases_lt, eq-eqb, eqb-true, and_parts}
@@ -12,13 +12,11 @@ use Rattle.cache_ident.specs.declared.names.Vpn.{Vpn}
 use Rattle.phys_groups.specs.declared.rows.Flags.{Flags}
 use Rattle.phys_groups.specs.declared.rows.Row.{Row}
 use Rattle.rv32_exec.specs.declared.contexts.Context.{Context}
-use Rattle.rv32_exec.specs.declared.statuses.Access.{Access}
 use Rattle.rv32_exec.specs.declared.statuses.Status.{Status}
 use Rattle.rv32_exec.specs.declared.statuses.Status.TheVariants.{Ready}
 use Rattle.rv32_exec.specs.declared.steps.Stepped.{Stepped}
 use Rattle.rv32_exec.specs.declared.steps.Stepped.TheVariants as steps
 use Rattle.rv32_exec.specs.Changes.{Change}
-use Rattle.rv32_exec.specs.Steps.{after_step}
 use Rattle.rv32_exec.proofs.StepChanges.{is_step}
 use Rattle.flat_laws.specs.flat_state.specs.declared.events.Event.{Event}
 use Rattle.flat_laws.specs.flat_state.specs.declared.events.Event.TheVariants.{Step}
@@ -398,33 +396,3 @@ module _ (a : Ahead) (made : IsMade a) (going : standing a.paused ≡ None) (qui
 
   pub made_ahead : IsMade (one_ahead a)
   made_ahead = subst IsMade (sym next_is) next_made
-
-not_a_miss : (answer : Stepped) → ((va : ℕ) (access : Access) → answer ≡ steps.Miss va access → ⊥) → is_miss answer ≡ false
-not_a_miss steps.Next other = refl
-not_a_miss steps.Call other = refl
-not_a_miss (steps.Stop reason) other = refl
-not_a_miss (steps.Miss va access) other = absurd (other va access refl)
-
--- the run ahead with a step more, by what a look before it and the step answer
-pub made_so : (a : Ahead) → IsMade a → a.paused ≡ None → (us : List View) → us ≡ a.views → signals_next a ≡ false
-    → (stepped : Stepped) → ((va : ℕ) (access : Access) → stepped ≡ steps.Miss va access → ⊥) → stepped ≡ (after_step a.context (pages_of_views us)).answer
-    → (c : Context) → c ≡ (after_step a.context (pages_of_views us)).context
-    → (most : ℕ) (vs : List View) (kept : List (Option Dated)) → most ≡ a.most → vs ≡ views_with us (after_step a.context (pages_of_views us)).pages → kept ≡ a.kept
-    → (p : Option Paused) → p ≡ pause_after stepped
-    → IsMade (record { first = a.first; context = c; most = most; views = vs; kept = kept; steps = a.steps + 1; paused = p })
-made_so a made free us same quiet stepped other answer c same-context most vs kept same-most same-views same-kept p same-pause =
-    let after = λ (ws : List View). after_step a.context (pages_of_views ws) in
-    let is : stepped ≡ (outcome a).answer = answer ∙ ap (λ (ws : List View). (after ws).answer) same in
-    let went : is_miss (outcome a).answer ≡ false = subst (λ (s : Stepped). is_miss s ≡ false) is (not_a_miss stepped other) in
-    let context : c ≡ (outcome a).context = same-context ∙ ap (λ (ws : List View). (after ws).context) same in
-    let views : vs ≡ views_with a.views (outcome a).pages = same-views ∙ ap (λ (ws : List View). views_with ws (after ws).pages) same in
-    subst IsMade
-    (sym (ap₂ (λ (d : Context) (ws : List View). record { first = a.first; context = d; most = most; views = ws; kept = kept; steps = a.steps + 1; paused = p }) context views
-    ∙ ap₂ (λ (m : ℕ) (ks : List (Option Dated)). record { first = a.first; context = (outcome a).context; most = m; views = views_with a.views (outcome a).pages; kept = ks; steps = a.steps + 1; paused = p }) same-most same-kept
-    ∙ ap (λ (o : Option Paused). record (one_ahead a) { paused = o }) (same-pause ∙ ap pause_after is)))
-    (made_ahead a made (ap standing free) quiet went)
-
--- where there is no pause
-pub no_pause : (p : Option Paused) → is_some p ≡ false → None ≡ p
-no_pause None none = refl
-no_pause (Some p) none = absurd (cc)

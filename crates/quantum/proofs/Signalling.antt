@@ -64,14 +64,6 @@ store_told c vs (Some (Atomic rd va op operand)) = refl
 store_told c vs (Some actions.Call) = refl
 store_told c vs (Some actions.Break) = refl
 
-none_where : {X : Type 0} (o : Option X) → is_some o ≡ false → None ≡ o
-none_where None none = refl
-none_where (Some x) none = absurd (cc)
-
--- an action that doesn't signal is no such store
-pub no_store : (c : Context) (vs : List View) (o : Option Action) → signals_by vs o ≡ false → None ≡ store_by c vs o
-no_store c vs o quiet = none_where (store_by c vs o) (store_told c vs o ∙ quiet)
-
 pub store_so : (c : Context) (vs : List View) (va : ℕ) (width : Width) (value : ℕ) → signals_by vs (Some (Store va width value)) ≡ true → store_if c va value true ≡ store_by c vs (Some (Store va width value))
 store_so c vs va Byte value signals = absurd (cc)
 store_so c vs va Half value signals = absurd (cc)

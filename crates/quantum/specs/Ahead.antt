@@ -17,7 +17,8 @@ use Rattle.rv32_exec.specs.Pages.{Page, stored, touched_at}
 use Rattle.rv32_exec.specs.Registers.{next_of}
 use Rattle.rv32_exec.specs.Steps.{After, after_step}
 use Rattle.flat_laws.specs.flat_state.specs.Signals.{next_action}
-use Rattle.page_views.specs.Views.{all_dated, as_happened, copies_of, filled, nothing_kept, pages_of_views, view_through, AreKept, Dated, IsKeptSince, View}
+use Rattle.page_views.specs.Views.{all_dated, as_happened, copies_of, filled, nothing_kept, pages_of_views, view_through, AreKept, Dated, IsKeptSince, Table, View}
+use Rattle.quantum.specs.declared.ahead.Went.{Went}
 use Rattle.quantum.specs.declared.paused.Paused.{Paused}
 use Rattle.quantum.specs.declared.paused.SignalStore.{SignalStore}
 use Rattle.quantum.specs.declared.paused.Paused.TheVariants.{Limit, Call, Stopped, Miss, Signal}
@@ -175,18 +176,14 @@ pub record IsRun (limit : ℕ) (before after : Ahead) (answer : Paused) : Type 0
   pub went_on : (k : ℕ) → k < count → pause_at limit (further k before) ≡ None
   pub stands : pause_at limit (further count before) ≡ Some answer
 
--- what a try to go one step further makes, and answers: nothing where a pause stands before it
-abbrev pub advanced : Option Paused → Ahead → Ahead
-advanced None a = one_ahead a
-advanced (Some p) a = a
+-- a run ahead over a table of views
+abbrev pub ahead_over : Context → Context → Table → ℕ → Option Paused → Ahead
+ahead_over first context table count paused =
+    record { first = first; context = context; most = table.most; views = table.views; kept = table.kept; steps = count; paused = paused }
 
-abbrev pub answer_of : Option Paused → Ahead → Option Paused
-answer_of None a = (one_ahead a).paused
-answer_of (Some p) a = Some p
-
--- it took steps up to the first pause
-pub record HasGone (limit : ℕ) (before after : Ahead) (answer : Paused) : Type 0 where
-  pub count : ℕ
-  pub took : after ≡ further count before
-  pub went_on : (k : ℕ) → k < count → pause_at limit (further k before) ≡ None
-  pub stands : pause_at limit (further count before) ≡ Some answer
+-- what a step behind so many comes to, if no other follows it. One that is missed isn't taken.
+abbrev pub went_by : ℕ → Stepped → Option Went
+went_by before steps.Next = None
+went_by before steps.Call = Some (record { steps = before + 1; paused = Call })
+went_by before (steps.Stop reason) = Some (record { steps = before + 1; paused = Stopped reason })
+went_by before (steps.Miss va access) = Some (record { steps = before; paused = Miss va access })

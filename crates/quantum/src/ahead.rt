@@ -1,11 +1,13 @@
 //! Steps of one thread, taken on copied pages.
 
-ghost use Rattle.std.specs.Prelude.{◌≡◌, ◌+◌, ◌%◌, ◌^◌, ◌<◌, ◌≤◌, None, Some, is_some, length, IfOk, IfSome, IsTrue};
+ghost use Rattle.std.specs.Prelude.{◌≡◌, ◌≢◌, ◌+◌, ◌%◌, ◌^◌, ◌<◌, ◌≤◌, None, Some, is_some, length, IfOk, IfSome, IsTrue};
 ghost use Rattle.std.specs.Bool.{OnFalse, OnTrue};
 ghost use Rattle.page_views.specs.Views.{can_fill, can_refill, filled, pages_of_views, HaveOneViewAPage};
 ghost use Rattle.rv32_exec.specs.Steps.{after_step, OnMiss};
+ghost use Rattle.rv32_exec.specs.declared.contexts.Context.{Context};
+ghost use Rattle.rv32_exec.specs.declared.steps.Stepped.TheVariants.{Next};
 ghost use Rattle.flat_laws.specs.flat_state.specs.Signals.{next_action};
-ghost use Rattle.quantum.specs.Ahead.{advanced, answer_of, begun, happened, more_with, pause_after as pause_after_def, pause_before, is_signal as is_signal_def, signal_store as signal_store_def, signals_by, standing as standing_def, store_by, unbegun, views_with, HasGone, HasRefilled, HasReordered, HasSameCopies, IsRun, IsStoreAhead};
+ghost use Rattle.quantum.specs.Ahead.{ahead_over, begun, happened, more_with, is_signal as is_signal_def, signal_store as signal_store_def, signals_by, standing as standing_def, store_by, unbegun, views_with, went_by as went_by_def, HasRefilled, HasReordered, HasSameCopies, IsRun, IsStoreAhead};
 ghost use Rattle.quantum.specs.LocalRun.{HaveOneContents, IsLocalRun};
 
 use crate::paused::{Paused, SignalStore};
@@ -40,6 +42,12 @@ impl Model for Quantum {
     ghost view = { λ q. record { first = q.first; context = q.context; most = q.views.most; views = q.views.views; kept = q.views.kept; steps = q.steps; paused = q.paused } };
 
     ghost invariant = { λ q. IsMade (record { first = q.first; context = q.context; most = q.views.most; views = q.views.views; kept = q.views.kept; steps = q.steps; paused = q.paused }) };
+}
+
+// How many steps there are since the beginning, and why the run stands.
+struct Went {
+    steps: u32,
+    paused: Paused,
 }
 
 impl Quantum {
@@ -214,50 +222,12 @@ impl Quantum {
         if let Some(paused) = standing(self.paused) {
             return paused;
         }
-        self.paused = None;
-        let paused = self.go(limit);
+        let Went { steps, paused } = go(&mut self.context, &mut self.views, self.steps, limit);
+        self.steps = steps;
         self.paused = Some(paused);
         // Where something else than its limit ends it, the thread's way goes on elsewhere.
         self.views.note_recent(matches!(paused, Paused::Limit));
         paused
-    }
-
-    // Takes steps up to the first pause, and answers it.
-    #[inline]
-    fn go(&mut self, limit: u32) -> Paused
-        requires { self.old.paused ≡ None }
-        ensures { HasGone limit self.old self.new result }
-    {
-        let watched = self.views.has_message();
-        let mut steps = self.steps;
-        while steps < limit {
-            if watched && signals_next(&self.context, &mut self.views) {
-                self.steps = steps;
-                return Paused::Signal;
-            }
-            let stepped = take(&mut self.context, &mut self.views);
-            if !matches!(stepped, Stepped::Next) {
-                self.steps = steps;
-                return self.paused_by(stepped);
-            }
-            steps += 1;
-        }
-        self.steps = steps;
-        Paused::Limit
-    }
-
-    #[inline(never)]
-    fn paused_by(&mut self, stepped: Stepped) -> Paused {
-        if let Stepped::Miss { va, access } = stepped {
-            return Paused::Miss { va, access };
-        }
-        self.steps += 1;
-        let paused = pause_after(stepped);
-        self.paused = paused;
-        match paused {
-            Some(paused) => paused,
-            None => unreachable!(),
-        }
     }
 }
 
@@ -281,15 +251,56 @@ fn standing(paused: Option<Paused>) -> Option<Paused>
     }
 }
 
-// The pause that a step leaves.
+// Takes steps behind `from` earlier ones, until there are `limit` of them or something else is met, and answers what they came to.
+// Between two steps there is little else: whether some view has the message flag is asked once, since no step changes it, and the
+// count is a variable. `take` is called in one place alone, so that the compiler puts the step into the loop.
 #[inline]
-fn pause_after(stepped: Stepped) -> Option<Paused>
-    ensures { result ≡ pause_after_def stepped }
+fn go(context: &mut Context, views: &mut PageViews, from: u32, limit: u32) -> Went
+    requires { context.old.pc % 4 ≡ 0 }
+    ensures { (first : Context) → IsRun limit (ahead_over first context.old views.old from None) (ahead_over first context.new views.new result.steps (Some result.paused)) result.paused }
+{
+    let watched = views.has_message();
+    let mut steps = from;
+    while steps < limit {
+        if watched && signals_next(context, views) {
+            return Went {
+                steps,
+                paused: Paused::Signal,
+            };
+        }
+        let stepped = take(context, views);
+        let Stepped::Next = stepped else {
+            return went_by(steps, stepped);
+        };
+        steps += 1;
+    }
+    Went {
+        steps,
+        paused: Paused::Limit,
+    }
+}
+
+// What steps come to, `before` of them and a last one. A step that is missed isn't taken. It is a call, to keep the loop small.
+#[inline(never)]
+fn went_by(before: u32, stepped: Stepped) -> Went
+    requires last { stepped ≢ Next }
+    requires room { before + 1 < 2 ^ 32 }
+    ensures { Some result ≡ went_by_def before stepped }
 {
     match stepped {
-        Stepped::Call => Some(Paused::Call),
-        Stepped::Stop(reason) => Some(Paused::Stopped(reason)),
-        Stepped::Next | Stepped::Miss { .. } => None,
+        Stepped::Call => Went {
+            steps: before + 1,
+            paused: Paused::Call,
+        },
+        Stepped::Stop(reason) => Went {
+            steps: before + 1,
+            paused: Paused::Stopped(reason),
+        },
+        Stepped::Miss { va, access } => Went {
+            steps: before,
+            paused: Paused::Miss { va, access },
+        },
+        Stepped::Next => unreachable!(),
     }
 }
 
@@ -313,9 +324,6 @@ fn signals_next(context: &Context, views: &mut PageViews) -> bool
     ensures answer { result ≡ signals_by views.old.views (next_action context.now (pages_of_views views.old.views)) }
     ensures views { views.new ≡ views.old }
 {
-    if !views.has_message() {
-        return false;
-    }
     let Ok(word) = views.fetch(context.pc) else {
         return false;
     };

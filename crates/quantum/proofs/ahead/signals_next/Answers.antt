@@ -4,7 +4,7 @@ use Rattle.std.specs.Result.{result_ok}
 use Rattle.rv32_exec.specs.declared.actions.Action.{Action}
 use Rattle.page_views.specs.Views.{pages_of_views, Table, View}
 use Rattle.quantum.specs.Ahead.{signals_by}
-use Rattle.quantum.proofs.Looking.{action_at, no_action, quiet_action}
+use Rattle.quantum.proofs.Looking.{action_at, no_action}
 use Rattle.quantum.proofs.ViewPages.{same_table}
 use Rattle.quantum.proofs.ahead.signals_next.Goals as goal
 
@@ -29,6 +29,3 @@ returns-in-None-clause-answer c =
 
 pub returns-in-None-clause-views : goal.returns-in-None-clause-views
 returns-in-None-clause-views c = same_table c.args.views.now c.instruction.new.self c.instruction.ensures.kept c.instruction.ensures.pages
-
-pub returns-then-not-has_message-clause-answer : goal.returns-then-not-has_message-clause-answer
-returns-then-not-has_message-clause-answer c = sym (quiet_action c.args.views.now.views (sym c.has_message.ensures ∙ c.if-not-has_message.true) _)
