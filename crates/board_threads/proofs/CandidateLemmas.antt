@@ -17,6 +17,8 @@ use Rattle.cache_ident.specs.declared.names.Name.TheVariants as name
 use Rattle.cache_ident.specs.declared.names.ThreadNo.{ThreadNo}
 use Rattle.cache_ident.specs.Names.{kind_of}
 use Rattle.cache_ident.specs.Residents.{Resident, IsNameResident}
+use Rattle.cache_ident.proofs.Numbers.{same_thread}
+use Rattle.number_set.specs.First.{IsFirst}
 use Rattle.rv32_exec.specs.declared.statuses.Status.TheVariants.{Ready}
 use Rattle.flat_state.specs.declared.records.FlatThread.{FlatThread}
 use Rattle.flat_state.specs.Signals.{full_receiver, is_runnable}
@@ -30,6 +32,7 @@ use Rattle.board_checks.specs.desc_stores.specs.declared.items.Item.TheVariants 
 use Rattle.board_checks.specs.desc_stores.specs.Contents.{content_of, resident_of, residents_of}
 use Rattle.board_checks.specs.desc_stores.specs.Sound.{IsExactlyOne}
 use Rattle.board_checks.specs.desc_stores.proofs.PutLemmas.{loaded_content}
+use Rattle.board_checks.specs.shown_state.proofs.ContentLemmas.{item_has_name}
 use Rattle.board_checks.specs.shown_state.specs.Found.{AreFound}
 use Rattle.board_checks.specs.shown_state.specs.Shown.{flat_thread, shown, thread_of}
 use Rattle.board_core.specs.store_residents.specs.Slots.{resident_at}
@@ -38,11 +41,11 @@ use Rattle.board_core.specs.thread_sets.specs.SetsOf.{takes_steps}
 use Rattle.ready_queue.specs.declared.Candidate.{Candidate}
 use Rattle.ready_queue.specs.Choice.{is_before}
 use Rattle.board_core.specs.cached_machine.specs.Cached.{state_of, Cached}
-use Rattle.board_core.specs.cached_machine.specs.Posts.{last_in, mark_in}
+use Rattle.board_core.specs.cached_machine.specs.Posts.{last_in, last_of, mark_in}
 use Rattle.board_core.specs.Core.{contents_of, Recorded}
 use Rattle.board_core.proofs.CheckLaws.{ready_is}
-use Rattle.board_threads.specs.Tests.{goes_on, passes}
-use Rattle.board_threads.specs.Waiting.{candidate_of, is_free, IsChosenOf, IsEarlier, IsFirstAmong, IsFirstFree, IsFirstThat, IsFree, IsFreeAmong, IsWaiting}
+use Rattle.board_threads.specs.Tests.{goes_on, is_ready_at, passes}
+use Rattle.board_threads.specs.Waiting.{candidate_of, is_free, IsChosenOf, IsEarlier, IsFirstAmong, IsFirstFree, IsFirstOf, IsFirstThat, IsFree, IsFreeAmong, IsWaiting}
 
 -- ---- the order of choice
 
@@ -61,35 +64,73 @@ choice_ranks = record {
 pub not_before_itself : (c : Candidate) → is_before c c ≡ false
 not_before_itself c = grind (arith, nat_tests)
 
+-- what is known of some holds of others, of which there are no more, or one
+module _ (Was Is : Candidate → Type 0) (stays : (c : Candidate) → Was c → Is c) where
+  same_first : ((c : Candidate) → Is c → Was c) → (first : Option Candidate) → IsFirstOf Was first → IsFirstOf Is first
+  same_first back None none = λ c is. none c (back c is)
+  same_first back (Some first) was = (stays first was.0, λ c is. was.1 c (back c is))
+
+  module _ (this : Candidate) (is : Is this) (back : (c : Candidate) → Is c → Was c ⊎ (this ≡ c)) where
+    not_before_this : (c : Candidate) → this ≡ c → is_before c this ≡ false
+    not_before_this c same = subst (λ (x : Candidate). is_before x this ≡ false) same (not_before_itself this)
+
+    earlier_first : (first : Option Candidate) (now : Candidate) → IsFirstOf Was first → IsEarlier first this now → IsFirstOf Is (Some now)
+    earlier_first None now none only = subst (λ (c : Candidate). IsFirstOf Is (Some c)) (sym only) (
+      is,
+      λ c among. elim (back c among) [
+        | inl before ↦ absurd (none c before)
+        | inr same ↦ not_before_this c same
+      ],
+    )
+    earlier_first (Some first) now was (inl keeps) = subst (λ (c : Candidate). IsFirstOf Is (Some c)) (sym keeps.0) (
+      stays first was.0,
+      λ c among. elim (back c among) [
+        | inl before ↦ was.1 c before
+        | inr same ↦ subst (λ (x : Candidate). is_before x first ≡ false) same keeps.1
+      ],
+    )
+    earlier_first (Some first) now was (inr comes) = subst (λ (c : Candidate). IsFirstOf Is (Some c)) (sym comes.0) (
+      is,
+      λ c among. elim (back c among) [
+        | inl before ↦ choice_ranks.chain c first this (was.1 c before) comes.1
+        | inr same ↦ not_before_this c same
+      ],
+    )
+
 -- these are the free ones among those
 abbrev pub AreThose : List (Loaded ThreadRec) → List Candidate → Type 0
 AreThose list waiting = (c : Candidate) → Contains waiting c ↔ IsFreeAmong list c
 
--- ---- one loaded thread
+-- ---- one thread
+
+-- of one number one is free
+free_alone : (b : Recorded) (c d : Candidate) → c.no ≡ d.no → IsFree takes_steps b c → IsFree takes_steps b d → c ≡ d
+free_alone b c d number first second =
+    let shows : Some first.thread ≡ Some second.thread = sym first.there ∙ ap (λ (n : ThreadNo). slice_get (state_of b.machine).threads n.0) number ∙ second.there in
+    let thread : first.thread ≡ second.thread = cc in
+    let priority : c.priority ≡ d.priority = first.priority ∙ ap (λ (t : FlatThread). t.priority) thread ∙ sym second.priority in
+    let last : c.last ≡ d.last = first.last ∙ ap (last_of (contents_of b)) number ∙ sym second.last in
+    ap (λ (n : ThreadNo). let x : Candidate = record { no = n; priority = c.priority; last = c.last } in x) number
+    ∙ ap₂ (λ (p l : ℕ). let x : Candidate = record { no = d.no; priority = p; last = l } in x) priority last
 
 module _ (b : Recorded) (one : IsExactlyOne (contents_of b)) (found : AreFound (state_of b.machine) (contents_of b)) where
-  module _ (l : Loaded ThreadRec) (there : cell_at (contents_of b).threads.cells l.ident.slot ≡ Some l) where
-    its : Resident
-    its = resident_of thread_rec.name_of l
+  module _ (whom : ThreadNo) (t : ThreadRec) (content : content_of (contents_of b) (name.Thread whom) ≡ Some (item.Thread t)) where
+    pub number_is : t.no ≡ whom
+    number_is = let named : name.Thread t.no ≡ name.Thread whom = item_has_name (contents_of b) (name.Thread whom) (item.Thread t) content in cc
 
-    is_resident : Contains (residents_of (contents_of b)) its
-    unfolding its
-    is_resident = seat_resident (contents_of b) one.sound kind.Thread l.ident.slot its (ap (option_map (resident_of thread_rec.name_of)) there)
+    own : content_of (contents_of b) (name.Thread t.no) ≡ Some (item.Thread t)
+    own = subst (λ (n : ThreadNo). content_of (contents_of b) (name.Thread n) ≡ Some (item.Thread t)) (sym number_is) content
 
-    its_content : content_of (contents_of b) (name.Thread l.value.no) ≡ Some (item.Thread l.value)
-    its_content = ap (option_map item.Thread) (loaded_content thread_rec.name_of kind.Thread (contents_of b).threads one.threads l.ident.slot l there (name.Thread l.value.no) refl)
-
-    -- if it is free, it is so on the board
-    pub free_there : is_free l.value ≡ true → IsFree takes_steps b (candidate_of l.value)
-    unfolding its
-    free_there free = record {
-      thread = flat_thread l.value;
-      there = found.threads l.value.no.0 ∙ ap thread_of its_content;
-      passes = both_left (is_ready l.value.status) (not (is_some l.value.on_cpu)) free;
-      loaded = (its, is_resident, refl);
-      free = ap mark_in its_content ∙ is_none_if l.value.on_cpu (both_right (is_ready l.value.status) (not (is_some l.value.on_cpu)) free);
+    -- if it is loaded and free, it is so on the board
+    pub free_if_loaded : IsNameResident (residents_of (contents_of b)) (name.Thread whom) → is_free t ≡ true → IsFree takes_steps b (candidate_of t)
+    free_if_loaded loaded free = record {
+      thread = flat_thread t;
+      there = found.threads t.no.0 ∙ ap thread_of own;
+      passes = both_left (is_ready t.status) (not (is_some t.on_cpu)) free;
+      loaded = subst (λ (n : ThreadNo). IsNameResident (residents_of (contents_of b)) (name.Thread n)) (sym number_is) loaded;
+      free = ap mark_in own ∙ is_none_if t.on_cpu (both_right (is_ready t.status) (not (is_some t.on_cpu)) free);
       priority = refl;
-      last = sym (ap last_in its_content);
+      last = sym (ap last_in own);
     }
       where
         both_left : (x y : Bool) → (x && y) ≡ true → x ≡ true
@@ -104,6 +145,34 @@ module _ (b : Recorded) (one : IsExactlyOne (contents_of b)) (found : AreFound (
         is_none_if None is = refl
         is_none_if (Some cpu) is = absurd (cc)
 
+    -- and one of its number that is free on the board is this one
+    pub free_is_this : (c : Candidate) → c.no ≡ whom → IsFree takes_steps b c → (is_free t ≡ true) × (candidate_of t ≡ c)
+    free_is_this c number free =
+        let its : content_of (contents_of b) (name.Thread c.no) ≡ Some (item.Thread t) = ap (λ (n : ThreadNo). content_of (contents_of b) (name.Thread n)) number ∙ content in
+        let shows : Some (flat_thread t) ≡ Some free.thread = sym (ap thread_of its) ∙ sym (found.threads c.no.0) ∙ free.there in
+        let thread : flat_thread t ≡ free.thread = cc in
+        let ready : is_ready t.status ≡ true = ap (λ (x : FlatThread). is_ready x.status) thread ∙ free.passes in
+        let away : t.on_cpu ≡ None = sym (ap mark_in its) ∙ free.free in
+        let is : is_free t ≡ true = ap₂ (λ (x : Bool) (o : Option ℕ). x && not (is_some o)) ready away in
+        let loaded = subst (λ (n : ThreadNo). IsNameResident (residents_of (contents_of b)) (name.Thread n)) number free.loaded in
+        (is, free_alone b (candidate_of t) c (number_is ∙ sym number) (free_if_loaded loaded is) free)
+
+  module _ (l : Loaded ThreadRec) (there : cell_at (contents_of b).threads.cells l.ident.slot ≡ Some l) where
+    its : Resident
+    its = resident_of thread_rec.name_of l
+
+    is_resident : Contains (residents_of (contents_of b)) its
+    unfolding its
+    is_resident = seat_resident (contents_of b) one.sound kind.Thread l.ident.slot its (ap (option_map (resident_of thread_rec.name_of)) there)
+
+    its_content : content_of (contents_of b) (name.Thread l.value.no) ≡ Some (item.Thread l.value)
+    its_content = ap (option_map item.Thread) (loaded_content thread_rec.name_of kind.Thread (contents_of b).threads one.threads l.ident.slot l there (name.Thread l.value.no) refl)
+
+    -- if a loaded one is free, it is so on the board
+    pub free_there : is_free l.value ≡ true → IsFree takes_steps b (candidate_of l.value)
+    unfolding its
+    free_there = free_if_loaded l.value.no l.value its_content (its, is_resident, refl)
+
   -- a free one on the board is one of the loaded threads
   pub free_here : (c : Candidate) → IsFree takes_steps b c → (l : Loaded ThreadRec) × (cell_at (contents_of b).threads.cells l.ident.slot ≡ Some l) × (is_free l.value ≡ true) × (candidate_of l.value ≡ c)
   free_here c free =
@@ -114,24 +183,13 @@ module _ (b : Recorded) (one : IsExactlyOne (contents_of b)) (found : AreFound (
       let l = cell.0 in
       let there : cell_at (contents_of b).threads.cells l.ident.slot ≡ Some l = ap (λ (i : Ident). cell_at (contents_of b).threads.cells i.slot) (ap (λ (x : Resident). x.ident) cell.2) ∙ cell.1 in
       let named : name.Thread l.value.no ≡ name.Thread c.no = ap (λ (x : Resident). x.name) cell.2 ∙ free.loaded.2 in
-      let number : l.value.no ≡ c.no = cc in
-      let content : content_of (contents_of b) (name.Thread c.no) ≡ Some (item.Thread l.value) = ap (λ (n : ThreadNo). content_of (contents_of b) (name.Thread n)) (sym number) ∙ its_content l there in
-      let shows : Some (flat_thread l.value) ≡ Some free.thread = sym (ap thread_of content) ∙ sym (found.threads c.no.0) ∙ free.there in
-      let thread : flat_thread l.value ≡ free.thread = cc in
-      let ready : is_ready l.value.status ≡ true = ap (λ (t : FlatThread). is_ready t.status) thread ∙ free.passes in
-      let away : l.value.on_cpu ≡ None = sym (ap mark_in content) ∙ free.free in
-      let priority : l.value.priority ≡ c.priority = ap (λ (t : FlatThread). t.priority) thread ∙ sym free.priority in
-      let last : l.value.last ≡ c.last = sym (ap last_in content) ∙ sym free.last in
-      (l, there, ap₂ (λ (x : Bool) (o : Option ℕ). x && not (is_some o)) ready away, same_candidate (candidate_of l.value) c number priority last)
+      let number : c.no ≡ l.value.no = cc in
+      let is = free_is_this l.value.no l.value (its_content l there) c number free in
+      (l, there, is.0, is.1)
     where
       mapped_back : (o : Option (Loaded ThreadRec)) (r : Resident) → option_map (resident_of thread_rec.name_of) o ≡ Some r → (l : Loaded ThreadRec) × (o ≡ Some l) × (resident_of thread_rec.name_of l ≡ r)
       mapped_back None r is = absurd (cc)
       mapped_back (Some l) r is = (l, refl, (cc))
-
-      same_candidate : (x y : Candidate) → x.no ≡ y.no → x.priority ≡ y.priority → x.last ≡ y.last → x ≡ y
-      same_candidate x y number priority last =
-          ap (λ (n : ThreadNo). let c : Candidate = record { no = n; priority = x.priority; last = x.last } in c) number
-          ∙ ap₂ (λ (p l : ℕ). let c : Candidate = record { no = y.no; priority = p; last = l } in c) priority last
 
   -- those among all that is loaded are those on the board
   pub free_iff : (list : List (Loaded ThreadRec)) → HasExactlyLoaded (contents_of b).threads.cells list → (c : Candidate) → IsFreeAmong list c ↔ IsFree takes_steps b c
@@ -147,8 +205,7 @@ module _ (b : Recorded) (one : IsExactlyOne (contents_of b)) (found : AreFound (
   )
 
   pub first_of_all : (list : List (Loaded ThreadRec)) → HasExactlyLoaded (contents_of b).threads.cells list → (first : Option Candidate) → IsFirstAmong list first → IsFirstFree b first
-  first_of_all list exact None none = λ c free. none c ((free_iff list exact c).1 free)
-  first_of_all list exact (Some first) is = ((free_iff list exact first).0 is.0, λ c free. is.1 c ((free_iff list exact c).1 free))
+  first_of_all list exact = same_first (IsFreeAmong list) (IsFree takes_steps b) (λ c. (free_iff list exact c).0) (λ c. (free_iff list exact c).1)
 
 -- ---- one after another
 
@@ -188,40 +245,16 @@ module _ (list : List (Loaded ThreadRec)) (l : Loaded ThreadRec) where
   )
 
   pub first_stays : (first : Option Candidate) → IsFirstAmong list first → is_free l.value ≡ false → IsFirstAmong (list ++ l ∷ []) first
-  first_stays None none busy = λ c is. elim (was c is) [
-    | inl before ↦ none c before
+  first_stays first is busy = same_first (IsFreeAmong list) (IsFreeAmong (list ++ l ∷ [])) longer (λ c among. elim (was c among) [
+    | inl before ↦ before
     | inr last ↦ absurd (let never : false ≡ true = sym busy ∙ last.0 in cc)
-  ]
-  first_stays (Some first) is busy = (
-    longer first is.0,
-    λ c among. elim (was c among) [
-      | inl before ↦ is.1 c before
-      | inr last ↦ absurd (let never : false ≡ true = sym busy ∙ last.0 in cc)
-    ],
-  )
+  ]) first is
 
   pub first_or_this : (first : Option Candidate) (now : Candidate) → IsFirstAmong list first → is_free l.value ≡ true → IsEarlier first (candidate_of l.value) now → IsFirstAmong (list ++ l ∷ []) (Some now)
-  first_or_this None now none free only = subst (λ (c : Candidate). IsFirstAmong (list ++ l ∷ []) (Some c)) (sym only) (
-    here free,
-    λ c among. elim (was c among) [
-      | inl before ↦ absurd (none c before)
-      | inr last ↦ subst (λ (x : Candidate). is_before x (candidate_of l.value) ≡ false) last.1 (not_before_itself (candidate_of l.value))
-    ],
-  )
-  first_or_this (Some first) now is free (inl stays) = subst (λ (c : Candidate). IsFirstAmong (list ++ l ∷ []) (Some c)) (sym stays.0) (
-    longer first is.0,
-    λ c among. elim (was c among) [
-      | inl before ↦ is.1 c before
-      | inr last ↦ subst (λ (x : Candidate). is_before x first ≡ false) last.1 stays.1
-    ],
-  )
-  first_or_this (Some first) now is free (inr comes) = subst (λ (c : Candidate). IsFirstAmong (list ++ l ∷ []) (Some c)) (sym comes.0) (
-    here free,
-    λ c among. elim (was c among) [
-      | inl before ↦ choice_ranks.chain c first (candidate_of l.value) (is.1 c before) comes.1
-      | inr last ↦ subst (λ (x : Candidate). is_before x (candidate_of l.value) ≡ false) last.1 (not_before_itself (candidate_of l.value))
-    ],
-  )
+  first_or_this first now is free = earlier_first (IsFreeAmong list) (IsFreeAmong (list ++ l ∷ [])) longer (candidate_of l.value) (here free) (λ c among. elim (was c among) [
+    | inl before ↦ inl before
+    | inr last ↦ inr last.1
+  ]) first now is
 
 -- ---- the loaded threads, one after another
 
@@ -233,6 +266,51 @@ module _ (all start : List (Loaded ThreadRec)) (are : start ≡ all) (gone : Lis
   -- and in the end all are
   pub all_gone : item ≡ None → map (λ (x : Bor (Loaded ThreadRec)). x.now) gone ≡ all
   all_gone none = (YieldsList-end (YieldsList-from_first (λ (x : Bor (Loaded ThreadRec)). x.now) (λ left. left) all are) gone left yielded item rest none next).0
+
+-- ---- the ready threads, one after another
+
+-- the candidate is a free one whose number is below
+abbrev pub IsFreeBelow : Recorded → ℕ → Candidate → Type 0
+IsFreeBelow b from c = (c.no.0 < from) × IsFree takes_steps b c
+
+module _ (b : Recorded) (from : ℕ) where
+  ready_there : (c : Candidate) → IsFree takes_steps b c → is_ready_at b c.no.0 ≡ true
+  ready_there c free = ap (passes takes_steps) free.there ∙ free.passes
+
+  -- none more is ready
+  pub first_of_ready : ((n : ℕ) → from ≤ n → is_ready_at b n ≡ false) → (first : Option Candidate) → IsFirstOf (IsFreeBelow b from) first → IsFirstFree b first
+  first_of_ready none = same_first (IsFreeBelow b from) (IsFree takes_steps b) (λ c is. is.1) (λ c free. elim (cases_lt c.no.0 from) [
+    | inl low ↦ (low, free)
+    | inr high ↦ absurd (let never : false ≡ true = sym (none c.no.0 high) ∙ ready_there c free in cc)
+  ])
+
+  module _ (whom : ThreadNo) (next : IsFirst (is_ready_at b) from whom.0) where
+    still_below : (c : Candidate) → IsFreeBelow b from c → IsFreeBelow b (whom.0 + 1) c
+    still_below c is = (omega (arith, is.0, next.from_there), is.1)
+
+    -- up to the next that is ready, a free one was there before, or it is that one
+    was_or_next : (c : Candidate) → IsFreeBelow b (whom.0 + 1) c → IsFreeBelow b from c ⊎ (c.no ≡ whom)
+    was_or_next c is = elim (cases_lt c.no.0 from) [
+      | inl low ↦ inl (low, is.1)
+      | inr high ↦ inr (same_thread c.no whom (elim (cases_lt c.no.0 whom.0) [
+        | inl between ↦ absurd (let never : false ≡ true = sym (next.none_before c.no.0 high between) ∙ ready_there c is.1 in cc)
+        | inr last ↦ omega (arith, last, is.0)
+      ]))
+    ]
+
+    pub busy_next : ((c : Candidate) → c.no ≡ whom → IsFree takes_steps b c → ⊥) → (first : Option Candidate) → IsFirstOf (IsFreeBelow b from) first → IsFirstOf (IsFreeBelow b (whom.0 + 1)) first
+    busy_next busy = same_first (IsFreeBelow b from) (IsFreeBelow b (whom.0 + 1)) still_below (λ c is. elim (was_or_next c is) [
+      | inl was ↦ was
+      | inr same ↦ absurd (busy c same is.1)
+    ])
+
+    pub free_next : (this : Candidate) → IsFree takes_steps b this → this.no ≡ whom → (first : Option Candidate) (now : Candidate) → IsFirstOf (IsFreeBelow b from) first → IsEarlier first this now → IsFirstOf (IsFreeBelow b (whom.0 + 1)) (Some now)
+    free_next this free named =
+        let below : this.no.0 < whom.0 + 1 = let same = ap (λ (n : ThreadNo). n.0) named in omega arith in
+        earlier_first (IsFreeBelow b from) (IsFreeBelow b (whom.0 + 1)) still_below this (below, free) (λ c is. elim (was_or_next c is) [
+          | inl was ↦ inl was
+          | inr same ↦ inr (free_alone b this c (named ∙ sym same) free is.1)
+        ])
 
 -- no more are loaded than there are slots
 pub few_loaded : (cells : List (Option (Loaded ThreadRec))) → length (loaded_in cells) ≤ length cells

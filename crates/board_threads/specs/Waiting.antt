@@ -55,15 +55,18 @@ pub record IsFreeAmong (list : List (Loaded ThreadRec)) (c : Candidate) : Type 0
   pub free : is_free loaded.value ≡ true
   pub its : candidate_of loaded.value ≡ c
 
--- of the free ones among these threads none goes before this one, if there is one
+-- of the candidates that are meant none goes before this one, if there is one
+abbrev pub IsFirstOf : (Candidate → Type 0) → Option Candidate → Type 0
+IsFirstOf Is None = (c : Candidate) → Is c → ⊥
+IsFirstOf Is (Some first) = Is first × ((c : Candidate) → Is c → is_before c first ≡ false)
+
+-- the first of the free ones among these threads, if there is one
 abbrev pub IsFirstAmong : List (Loaded ThreadRec) → Option Candidate → Type 0
-IsFirstAmong list None = (c : Candidate) → IsFreeAmong list c → ⊥
-IsFirstAmong list (Some first) = IsFreeAmong list first × ((c : Candidate) → IsFreeAmong list c → is_before c first ≡ false)
+IsFirstAmong list = IsFirstOf (IsFreeAmong list)
 
 -- the first of all free ones, if there is one
 abbrev pub IsFirstFree : Recorded → Option Candidate → Type 0
-IsFirstFree b None = (c : Candidate) → IsFree takes_steps b c → ⊥
-IsFirstFree b (Some first) = IsFree takes_steps b first × ((c : Candidate) → IsFree takes_steps b c → is_before c first ≡ false)
+IsFirstFree b = IsFirstOf (IsFree takes_steps b)
 
 -- of two the one that goes before, and the only one there is
 abbrev pub IsEarlier : Option Candidate → Candidate → Candidate → Type 0

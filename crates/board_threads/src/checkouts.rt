@@ -16,13 +16,13 @@ ghost use Rattle.board_threads.specs.Posts.{HasComeBack, IsCheckedOut, IsOutWith
 ghost use Rattle.board_threads.specs.Tests.{goes_on};
 ghost use Rattle.board_threads.specs.Waiting.{candidate_of as candidate_of_def, is_free as is_free_def, IsChosenOf, IsEarlier, IsFirstFree, IsFirstThat, IsFree, IsWaiting};
 
-use crate::known::{is_runnable, known};
+use crate::known::{is_runnable, known, next_ready};
 use crate::tickets::Ticket;
 use arrayvec::ArrayVec;
 use board_checks::thread_as;
 use board_core::{CachedMachine, Core, ItemRef};
 use cache_ident::{Ident, Name, ThreadNo};
-use flat_rules::is_ready;
+use flat_rules::{Records, is_ready};
 use ready_queue::{Candidate, in_order};
 use slot_cache::Loaded;
 use thread_cache::ThreadRec;
@@ -30,11 +30,19 @@ use thread_cache::ThreadRec;
 // As many threads as can be loaded.
 const MOST_LOADED: usize = 256;
 
+// Where no more threads stand than that, few are loaded, and going over these is cheap.
+const MANY: u32 = 64;
+
+// As many ready threads are looked up one by one, each by a search. Where more are ready, the searches were in vain: so they are
+// to cost little beside going over the loaded ones.
+const FEW: usize = 4;
+
 /// Takes the next thread to a processor: of the loaded runnable ones that are on none, the one of the highest priority; among
 /// those the one that was checked out the longest ago; among those the one with the lowest number. None where there is none.
 ///
-/// It goes over the loaded threads, and looks at the next step of the first that is ready, unless no row has a receiver. Only where
-/// that isn't runnable, it sorts all that are ready, and looks at one after another until one is. It takes no memory.
+/// Where many threads stand and few of them are ready, it takes a search for each ready one; else it goes over the loaded ones.
+/// It looks at the next step of the first that is ready, unless no row has a receiver. Only where that isn't runnable, it goes
+/// over the loaded threads, sorts those that are ready, and looks at one after another until one is. It takes no memory.
 #[inline(always)]
 pub fn checkout(core: &mut Core, cpu: u32) -> Option<Ticket>
     requires processor { cpu < 8 }
@@ -55,6 +63,13 @@ pub fn checkout(core: &mut Core, cpu: u32) -> Option<Ticket>
 struct Next {
     no: ThreadNo,
     near: Option<Ident>,
+}
+
+// A thread that is loaded, ready and on no processor, and the identifier that it is loaded with.
+#[derive(Clone, Copy)]
+struct Free {
+    candidate: Candidate,
+    ident: Ident,
 }
 
 // The thread that goes next.
@@ -86,6 +101,65 @@ fn next_in_order(core: &Core) -> Option<ThreadNo>
 // Of the loaded threads that are ready and on no processor, the first in the order of choice. Beside it the identifier that it
 // was seen with, which is no more than a hint.
 fn first_free(core: &Core) -> (Option<Candidate>, Option<Ident>)
+    ensures { IsFirstFree core.now result.0 }
+{
+    if core.machine().thread_count() > MANY {
+        if let Some(found) = first_of_ready(core) {
+            return found;
+        }
+    }
+    first_of_loaded(core)
+}
+
+// The same, found by the threads that are ready; None where more than a few are.
+fn first_of_ready(core: &Core) -> Option<(Option<Candidate>, Option<Ident>)>
+    ensures { IfSome result (λ found. IsFirstFree core.now found.0) }
+{
+    let mut first = None;
+    let mut near = None;
+    let mut from = 0;
+    for _ in 0..FEW {
+        let Some(no) = next_ready(core, from) else {
+            return Some((first, near));
+        };
+        if let Some(free) = free_one(core, no) {
+            let sooner = earlier(first, free.candidate);
+            if sooner.no == no {
+                near = Some(free.ident);
+            }
+            first = Some(sooner);
+        }
+        from = no.0 + 1;
+    }
+    match next_ready(core, from) {
+        Some(_) => None,
+        None => Some((first, near)),
+    }
+}
+
+// The thread of that number, where it is loaded, ready and on no processor. It takes one search where it is loaded.
+fn free_one(core: &Core, no: ThreadNo) -> Option<Free>
+    ensures free { IfSome result (λ found. IsFree takes_steps core.now found.candidate) }
+    ensures named { IfSome result (λ found. found.candidate.no ≡ no) }
+    ensures none { IfNone result ((candidate : Candidate) → candidate.no ≡ no → IsFree takes_steps core.now candidate → ⊥) }
+{
+    known(core);
+    let found = core.machine().tables().found(Name::Thread(no))?;
+    let ident = found.ident?;
+    let ItemRef::Thread(thread) = found.item else {
+        unreachable!()
+    };
+    if !is_free(thread) {
+        return None;
+    }
+    Some(Free {
+        candidate: candidate_of(thread),
+        ident,
+    })
+}
+
+// The same, found by the threads that are loaded.
+fn first_of_loaded(core: &Core) -> (Option<Candidate>, Option<Ident>)
     ensures { IsFirstFree core.now result.0 }
 {
     known(core);

@@ -1,7 +1,8 @@
 //! What holds of every core, and what is read of it.
 
-ghost use Rattle.std.specs.Prelude.{◌≡◌, None, Some, IfNone, IfSome, is_some, slice_get};
+ghost use Rattle.std.specs.Prelude.{◌≡◌, ◌-◌, ◌<◌, ◌^◌, None, Some, IfNone, IfSome, is_some, slice_get};
 ghost use Rattle.std.specs.Option.{option_copied, option_map};
+ghost use Rattle.number_set.specs.First.{IsFirstFrom};
 ghost use Rattle.flat_state.specs.Signals.{full_receiver as full_receiver_def, is_runnable as is_runnable_def};
 ghost use Rattle.flat_state.specs.WellFormed.{IsWellFormed};
 ghost use Rattle.flat_rules.specs.Readings.{IsThreadOf};
@@ -13,7 +14,7 @@ ghost use Rattle.board_checks.specs.shown_state.specs.Shown.{flat_thread};
 ghost use Rattle.board_core.specs.store_residents.specs.Slots.{HasSlots};
 ghost use Rattle.board_core.specs.cached_machine.specs.Cached.{is_loaded as is_loaded_def, state_of};
 ghost use Rattle.board_core.specs.Core.{contents_of, IsSound};
-ghost use Rattle.board_threads.specs.Tests.{goes_on};
+ghost use Rattle.board_threads.specs.Tests.{goes_on, is_ready_at};
 
 use board_core::{CachedMachine, Core, ItemRef};
 use cache_ident::{Ident, Name, ThreadNo};
@@ -74,6 +75,17 @@ pub(crate) fn is_loaded(core: &Core, name: Name) -> bool
     ensures { result ≡ is_loaded_def (contents_of core.now) name }
 {
     core.machine().tables().resident(name).is_some()
+}
+
+// The first thread from a number on that is ready.
+pub(crate) fn next_ready(core: &Core, from: u32) -> Option<ThreadNo>
+    ensures first { IsFirstFrom (is_ready_at core.now) from (option_map (λ no. no.0) result) }
+    ensures small { IfSome result (λ no. no.0 < 2 ^ 32 - 1) }
+{
+    let sets = core.machine().sets();
+    let _ = sets.len();
+    let number = sets.next_ready(from)?;
+    Some(ThreadNo(number))
 }
 
 /// The record of a thread, wherever it is, and none where there is none of that number.

@@ -1,6 +1,6 @@
 //! Who is to be served next, and whether the run is over.
 
-ghost use Rattle.std.specs.Prelude.{◌≡◌, ◌-◌, ◌<◌, ◌^◌, slice_get, IfSome};
+ghost use Rattle.std.specs.Prelude.{◌≡◌, slice_get};
 ghost use Rattle.std.specs.List.{list_all, list_any};
 ghost use Rattle.std.specs.Option.{option_map};
 ghost use Rattle.number_set.specs.First.{IsFirstFrom};
@@ -8,9 +8,9 @@ ghost use Rattle.flat_state.specs.Signals.{is_runnable as is_runnable_def};
 ghost use Rattle.flat_state.specs.State.{is_ended};
 ghost use Rattle.flat_state.specs.Settling.{settled_of};
 ghost use Rattle.board_core.specs.cached_machine.specs.Cached.{state_of};
-ghost use Rattle.board_threads.specs.Tests.{completes, is_ready_at, passes, wants_load as wants_load_def, IsWanted};
+ghost use Rattle.board_threads.specs.Tests.{completes, passes, wants_load as wants_load_def, IsWanted};
 
-use crate::known::{is_loaded, is_runnable};
+use crate::known::{is_loaded, is_runnable, next_ready};
 use board_core::Core;
 use cache_ident::{Name, ThreadNo};
 use flat_rules::Records;
@@ -59,17 +59,6 @@ fn next_completable(core: &Core) -> Option<ThreadNo>
     ensures { IsFirstFrom (completes core.now) 0 (option_map (λ no. no.0) result) }
 {
     let number = core.machine().sets().next_completable(0)?;
-    Some(ThreadNo(number))
-}
-
-// The first thread from a number on that is ready.
-fn next_ready(core: &Core, from: u32) -> Option<ThreadNo>
-    ensures first { IsFirstFrom (is_ready_at core.now) from (option_map (λ no. no.0) result) }
-    ensures small { IfSome result (λ no. no.0 < 2 ^ 32 - 1) }
-{
-    let sets = core.machine().sets();
-    let _ = sets.len();
-    let number = sets.next_ready(from)?;
     Some(ThreadNo(number))
 }
 

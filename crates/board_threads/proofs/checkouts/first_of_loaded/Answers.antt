@@ -8,7 +8,7 @@ use Rattle.board_checks.specs.desc_tables.specs.Tables.{Held}
 use Rattle.board_core.specs.cached_machine.specs.Cached.{Cached}
 use Rattle.board_threads.specs.Waiting.{IsEarlier, IsFirstAmong}
 use Rattle.board_threads.proofs.CandidateLemmas.{all_gone, first_of_all, first_or_this, first_stays}
-use Rattle.board_threads.proofs.checkouts.first_free.Goals as goal
+use Rattle.board_threads.proofs.checkouts.first_of_loaded.Goals as goal
 
 pub loop-loaded-init : goal.loop-loaded-init
 loop-loaded-init c = λ candidate is. let never : is.there.0 < 0 = is.there.1 in absurd (omega arith)

@@ -1,6 +1,6 @@
 use Rattle.std.proofs.Common.{map}
 use Rattle.board_threads.specs.Waiting.{IsFirstAmong}
-use Rattle.board_threads.proofs.checkouts.first_free.Given as goal
+use Rattle.board_threads.proofs.checkouts.first_of_loaded.Given as goal
 
 -- as far as it went over them
 abbrev pub invariant-loop-loaded : goal.invariant-loop-loaded
