@@ -1,6 +1,7 @@
 -- How long quanta are where several processors share a board.
 use Rattle.std.specs.Prelude.{ℕ, ◌*◌, ◌%◌, ◌&&◌, Bool, false, not, List, Option, Some, None, min, nat_le, if◌then◌else◌, slice_index_or, slice_set}
 use Rattle.cache_ident.specs.declared.names.ThreadNo.{ThreadNo}
+use Rattle.alone_run.specs.board_turns.specs.Paces.{must_bring, Beat}
 use Rattle.alone_run.specs.board_turns.specs.declared.found.Found.{Found}
 use Rattle.alone_run.specs.board_turns.specs.declared.found.Found.TheVariants.{Out, Wanted, Nothing, Over}
 use Rattle.processors.specs.declared.lengths.Length.{Length}
@@ -33,3 +34,7 @@ length_for lengths None = 256
 abbrev pub lengths_after : List Length → Option ThreadNo → ℕ → Bool → List Length
 lengths_after lengths (Some whom) steps committed = slice_set lengths (whom.0 % 16) (length_after (slice_index_or lengths (whom.0 % 16) first_length) steps committed)
 lengths_after lengths None steps committed = lengths
+
+-- of which thread a turn ran a quantum: one that had to bring something ran none
+abbrev pub ran_by : Beat → Option ThreadNo → Option ThreadNo
+ran_by beat runner = if must_bring beat then None else runner

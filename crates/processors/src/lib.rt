@@ -1,6 +1,7 @@
 //! Processors that share a board behind its lock.
 #![tactic(auto)]
 
+mod course;
 mod gate;
 mod holds;
 mod lengths;

@@ -9,10 +9,11 @@ ghost use Rattle.alone_run.specs.cache_board.specs.Pasts.{entries_of};
 ghost use Rattle.alone_run.specs.board_turns.specs.Looks.{IsIdle};
 ghost use Rattle.processors.specs.Stops.{found_at, OnIdle, OnSpent};
 
+use crate::course::Course;
 use crate::gate::Gate;
-use crate::lengths::{Lengths, runner};
+use crate::lengths::runner;
 use crate::sharing::Sharing;
-use alone_run::turns::{Board, Found, Owners, Pace, Processor, Quantum, turn};
+use alone_run::turns::{Board, Found, Owners, Processor, Quantum, turn};
 use std::sync::Wait;
 use turn_lock::{Pass, Turn};
 
@@ -43,10 +44,9 @@ fn take_turns<R: Wait, P: Processor + RanLast>(
     ensures so { IfSome (found_at result) (P.is_so port.new) }
     ensures continued { P.continues port.old port.new }
 {
-    let mut lengths = Lengths::new();
-    let mut pace = Pace::new();
+    let mut course = Course::new();
     let mut found = Found::Over;
-    port.look(pace.wants_first(), quantum, &mut found);
+    port.look(course.pace.wants_first(), quantum, &mut found);
     'turns: for _ in rt.forever() {
         match found {
             Found::Nothing => return Stop::Idle,
@@ -54,15 +54,14 @@ fn take_turns<R: Wait, P: Processor + RanLast>(
             Found::Out(_) | Found::Wanted { .. } => {}
         }
         let runner = runner(&found);
-        let length = lengths.for_turn(runner);
-        let runs = !pace.must_bring();
+        let length = course.length(runner);
         let before = port.brought();
+        let mut pace = course.pace;
         let Ok(()) = turn(port, owners, quantum, &mut pace, length, &mut found) else {
             return Stop::NoMemory;
         };
-        if runs {
-            lengths.note(runner, port.last_steps(), before < port.brought());
-        }
+        let brought = before < port.brought();
+        course.go_on(runner, pace, port.last_steps(), brought);
     }
     unreachable!()
 }

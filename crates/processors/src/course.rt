@@ -1,0 +1,74 @@
+//! How a processor's turns follow each other, where several share a board.
+
+ghost use Rattle.std.specs.Prelude.{◌≡◌, ◌⊎◌, true};
+ghost use Rattle.alone_run.specs.board_turns.specs.Paces.{beat_of, paced};
+ghost use Rattle.processors.specs.Lengths.{length_for, lengths_after, ran_by};
+
+use crate::lengths::Lengths;
+use alone_run::turns::Pace;
+use cache_ident::ThreadNo;
+
+// So many quanta in a row may be refused before turns that bring nothing are counted.
+const MOST_REFUSALS: u32 = 16;
+
+/// Where a processor is in its turns, how long quanta are, and how many of its quanta were refused in a row.
+///
+/// A quantum is refused where another processor stored to its pages meanwhile. It is tried again with fewer steps, and its turn isn't counted
+/// among those that bring nothing: the turn that has to bring something takes one step alone, and where that stores to such a page,
+/// the quanta of all others are refused for it. Only where very many were refused in a row, the processor needs that turn.
+#[derive(Clone, Copy)]
+pub(crate) struct Course {
+    pub(crate) pace: Pace,
+    lengths: Lengths,
+    refusals: u32,
+}
+
+impl Course {
+    /// Before the first turn.
+    pub(crate) fn new() -> Course {
+        Course {
+            pace: Pace::new(),
+            lengths: Lengths::new(),
+            refusals: 0,
+        }
+    }
+
+    /// How many steps the next turn may take in a quantum of this thread, or of none.
+    pub(crate) fn length(&self, runner: Option<ThreadNo>) -> u32
+        ensures { result ≡ length_for self.now.lengths.of_threads runner }
+    {
+        self.lengths.for_turn(runner)
+    }
+
+    /// A turn was taken for this thread, or for none, that left the processor at `pace`. Where it ran a quantum, that had so many steps; and it
+    /// brought something, or nothing.
+    pub(crate) fn go_on(
+        &mut self,
+        runner: Option<ThreadNo>,
+        pace: Pace,
+        steps: u32,
+        brought: bool,
+    )
+        ensures lengths { self.new.lengths.of_threads ≡ lengths_after self.old.lengths.of_threads (ran_by (beat_of self.old.pace) runner) steps brought }
+        ensures pace { (beat_of self.new.pace ≡ beat_of pace) ⊎ (beat_of self.new.pace ≡ paced true (beat_of self.old.pace)) }
+    {
+        // A turn that has to bring something runs no quantum.
+        let ran = if self.pace.must_bring() {
+            None
+        } else {
+            runner
+        };
+        self.lengths.note(ran, steps, brought);
+        let refused = ran.is_some() && steps > 0 && !brought;
+        self.refusals = if refused {
+            self.refusals.saturating_add(1)
+        } else {
+            0
+        };
+        self.pace = if refused && self.refusals <= MOST_REFUSALS {
+            self.pace.after(true)
+        } else {
+            pace
+        };
+    }
+}
