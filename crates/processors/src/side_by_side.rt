@@ -19,6 +19,23 @@ use std::sync::Wait;
 use std::thread::{Threads, join};
 use turn_lock::{Pass, Turn};
 
+// What a quantum takes for a view, and else, with what its owners take: somewhat more than that.
+const VIEW_BYTES: usize = 8_320;
+
+const OTHER_BYTES: usize = 49_152;
+
+// Asks for as much memory as a quantum with so many views takes, and gives it back. So this thread has it from the system at once: threads
+// that ask for memory side by side, a view at a time, wait for each other in the system. The first that is given back may go back to the
+// system, the second then stays with the thread. Nothing depends on it.
+fn get_room(alloc: Global, views: usize)
+    requires { views ≤ 64 }
+{
+    for _ in 0..2 {
+        let _room: Result<Vec<u8>, AllocError> =
+            Vec::with_capacity(alloc, views * VIEW_BYTES + OTHER_BYTES);
+    }
+}
+
 // Runs the processor of a pass. Its owners and its quantum are made here, in its own thread; where there is no memory for them, it does
 // nothing, and the others go on.
 fn run_with_pass<R: Wait, G: Gate>(
@@ -34,10 +51,12 @@ fn run_with_pass<R: Wait, G: Gate>(
     requires processor { first_of pass < 8 }
     ensures { HasGoneOn lock.now pass result }
 {
+    let views = views_for(decls);
+    get_room(alloc, views);
     let Ok(mut owners) = Owners::new(alloc, decls) else {
         return pass;
     };
-    let Ok(mut quantum) = Quantum::new(alloc, views_for(decls)) else {
+    let Ok(mut quantum) = Quantum::new(alloc, views) else {
         return pass;
     };
     let (pass, _) = run_processor(rt, lock, pass, &mut owners, &mut quantum, limit, gate);
