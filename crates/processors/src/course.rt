@@ -4,7 +4,7 @@ ghost use Rattle.std.specs.Prelude.{◌≡◌, ◌⊎◌, true};
 ghost use Rattle.alone_run.specs.board_turns.specs.Paces.{beat_of, paced};
 ghost use Rattle.processors.specs.Lengths.{length_for, lengths_after, ran_by};
 
-use crate::lengths::Lengths;
+use crate::lengths::{Lengths, Ran};
 use alone_run::turns::Pace;
 use cache_ident::ThreadNo;
 
@@ -40,26 +40,26 @@ impl Course {
         self.lengths.for_turn(runner)
     }
 
-    /// A turn was taken for this thread, or for none, that left the processor at `pace`. Where it ran a quantum, that had so many steps; and it
+    /// A turn was taken for this thread, or for none, that left the processor at `pace`. Where it ran a quantum, that came to `ran`; and it
     /// brought something, or nothing.
     pub(crate) fn go_on(
         &mut self,
         runner: Option<ThreadNo>,
         pace: Pace,
-        steps: u32,
+        ran: Ran,
         brought: bool,
     )
-        ensures lengths { self.new.lengths.of_threads ≡ lengths_after self.old.lengths.of_threads (ran_by (beat_of self.old.pace) runner) steps brought }
+        ensures lengths { self.new.lengths.of_threads ≡ lengths_after self.old.lengths.of_threads (ran_by (beat_of self.old.pace) runner) ran brought }
         ensures pace { (beat_of self.new.pace ≡ beat_of pace) ⊎ (beat_of self.new.pace ≡ paced true (beat_of self.old.pace)) }
     {
         // A turn that has to bring something runs no quantum.
-        let ran = if self.pace.must_bring() {
+        let runner = if self.pace.must_bring() {
             None
         } else {
             runner
         };
-        self.lengths.note(ran, steps, brought);
-        let refused = ran.is_some() && steps > 0 && !brought;
+        self.lengths.note(runner, ran, brought);
+        let refused = runner.is_some() && ran.steps > 0 && !brought;
         self.refusals = if refused {
             self.refusals.saturating_add(1)
         } else {

@@ -7,7 +7,11 @@ use alone_run::turns::Found;
 use cache_ident::ThreadNo;
 
 // How many steps a quantum has at most to begin with, and after one that was refused.
-const SHORTEST: u32 = 256;
+const FIRST_STEPS: u32 = 256;
+
+// How many it has after one that was refused and stored nothing. Such a thread mostly waits for what another one stores, in a loop: it takes a few
+// steps for what it waited for, and what it stores then is to be seen soon.
+const WAITING_STEPS: u32 = 64;
 
 // How many it has at most. The hand-over of the board's memory between two processors takes as long as several hundred steps.
 const LONGEST: u32 = 1_024;
@@ -24,21 +28,30 @@ struct Length {
 }
 
 const FIRST: Length = Length {
-    steps: SHORTEST,
+    steps: FIRST_STEPS,
     wary: false,
 };
 
-// The length of a thread's next quantum, once one of that length took so many steps and was committed or refused.
-fn length_after(length: Length, steps: u32, committed: bool) -> Length
-    ensures { result ≡ length_after length steps committed }
+/// What a quantum came to: how many steps it took, and whether it stored anything.
+#[derive(Clone, Copy)]
+pub(crate) struct Ran {
+    pub(crate) steps: u32,
+    pub(crate) stored: bool,
+}
+
+// The length of a thread's next quantum, once one of that length came to this and was committed or refused.
+fn length_after(length: Length, ran: Ran, committed: bool) -> Length
+    ensures { result ≡ length_after length ran committed }
 {
-    let longer = committed && length.steps <= steps && !length.wary;
+    let longer = committed && length.steps <= ran.steps && !length.wary;
     let steps = if longer {
         length.steps.saturating_mul(2).min(LONGEST)
     } else if committed {
         length.steps
+    } else if ran.stored {
+        FIRST_STEPS
     } else {
-        SHORTEST
+        WAITING_STEPS
     };
     Length {
         steps,
@@ -58,7 +71,7 @@ pub(crate) fn runner(found: &Found) -> Option<ThreadNo>
 
 /// How many steps the next quantum of a thread may have. A thread that runs to the end of its quanta gets longer ones, so that the
 /// board is held less often; one whose quanta are refused gets short ones, so that less is lost: of threads that write to one page each
-/// goes ahead only as far as the others let it.
+/// goes ahead only as far as the others let it. Who was refused and stored nothing gets the shortest.
 #[derive(Clone, Copy)]
 pub(crate) struct Lengths {
     of_threads: [Length; PLACES],
@@ -80,17 +93,17 @@ impl Lengths {
     {
         match runner {
             Some(thread) => self.of_threads[thread.0 as usize % PLACES].steps,
-            None => SHORTEST,
+            None => FIRST_STEPS,
         }
     }
 
-    /// A turn ran a quantum of this thread, if of any, of so many steps, which were committed or refused.
-    pub(crate) fn note(&mut self, runner: Option<ThreadNo>, steps: u32, committed: bool)
-        ensures { self.new.of_threads ≡ lengths_after self.old.of_threads runner steps committed }
+    /// A turn ran a quantum of this thread, if of any, which came to this, and was committed or refused.
+    pub(crate) fn note(&mut self, runner: Option<ThreadNo>, ran: Ran, committed: bool)
+        ensures { self.new.of_threads ≡ lengths_after self.old.of_threads runner ran committed }
     {
         if let Some(thread) = runner {
             let place = thread.0 as usize % PLACES;
-            self.of_threads[place] = length_after(self.of_threads[place], steps, committed);
+            self.of_threads[place] = length_after(self.of_threads[place], ran, committed);
         }
     }
 }

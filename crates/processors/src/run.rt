@@ -11,7 +11,7 @@ ghost use Rattle.processors.specs.Stops.{found_at, OnIdle, OnSpent};
 
 use crate::course::Course;
 use crate::gate::Gate;
-use crate::lengths::runner;
+use crate::lengths::{Ran, runner};
 use crate::sharing::Sharing;
 use alone_run::turns::{Board, Found, Owners, Processor, Quantum, turn};
 use std::sync::Wait;
@@ -29,8 +29,8 @@ pub enum Stop {
 
 /// Who remembers the quantum that it ran last.
 pub(crate) trait RanLast {
-    /// How many steps that took, whatever came of its commit: once they happened, the quantum itself has none any more.
-    fn last_steps(&self) -> u32;
+    /// What that came to, whatever came of its commit: once its steps happened, the quantum itself has none any more.
+    fn last(&self) -> Ran;
 }
 
 // Takes turns until there is nothing to do.
@@ -61,7 +61,7 @@ fn take_turns<R: Wait, P: Processor + RanLast>(
             return Stop::NoMemory;
         };
         let brought = before < port.brought();
-        course.go_on(runner, pace, port.last_steps(), brought);
+        course.go_on(runner, pace, port.last(), brought);
     }
     unreachable!()
 }

@@ -8,6 +8,7 @@ ghost use Rattle.processors.specs.Sharing.{IsSoOf, SeesMore};
 
 use crate::gate::Gate;
 use crate::holds::{commit, hold, look};
+use crate::lengths::Ran;
 use crate::run::RanLast;
 use alone_run::turns::{
     Board, Committed, Found, Heard, Point, Port, PortCall, Processor, Quantum, Refused, Ticket,
@@ -35,8 +36,8 @@ pub struct Sharing<'a, R, G> {
     pass: Option<Pass<Board>>,
     heard: Heard,
     brought: u64,
-    // How many steps the quantum had that was to be committed last.
-    last_steps: u32,
+    // What the quantum came to that was to be committed last.
+    last: Ran,
 }
 
 impl<'a, R, G> Model for Sharing<'a, R, G> {
@@ -77,7 +78,10 @@ impl<'a, R, G> Sharing<'a, R, G> {
             pass: Some(pass),
             heard: Heard::nothing(),
             brought: 0,
-            last_steps: 0,
+            last: Ran {
+                steps: 0,
+                stored: false,
+            },
         }
     }
 
@@ -210,8 +214,8 @@ fn brought_by(committed: Committed, steps: u32, brought: u64) -> u64 {
 }
 
 impl<R, G> RanLast for Sharing<'_, R, G> {
-    fn last_steps(&self) -> u32 {
-        self.last_steps
+    fn last(&self) -> Ran {
+        self.last
     }
 }
 
@@ -267,7 +271,8 @@ impl<R: Wait, G: Gate> Processor for Sharing<'_, R, G> {
         next: &mut Found,
     ) -> Result<Committed, NoMemory> {
         let steps = quantum.steps();
-        self.last_steps = steps;
+        let stored = quantum.views().iter().any(|view| !view.is_as_copied());
+        self.last = Ran { steps, stored };
         let mut held = hold(self.rt, self.lock, &mut self.pass);
         let answer = commit(held.value_mut(), ticket, self.limit, look, quantum, next);
         self.pass = Some(held.release());
