@@ -42,22 +42,12 @@ impl Course {
 
     /// A turn was taken for this thread, or for none, that left the processor at `pace`. Where it ran a quantum, that came to `ran`; and it
     /// brought something, or nothing.
-    pub(crate) fn go_on(
-        &mut self,
-        runner: Option<ThreadNo>,
-        pace: Pace,
-        ran: Ran,
-        brought: bool,
-    )
+    pub(crate) fn go_on(&mut self, runner: Option<ThreadNo>, pace: Pace, ran: Ran, brought: bool)
         ensures lengths { self.new.lengths.of_threads ≡ lengths_after self.old.lengths.of_threads (ran_by (beat_of self.old.pace) runner) ran brought }
         ensures pace { (beat_of self.new.pace ≡ beat_of pace) ⊎ (beat_of self.new.pace ≡ paced true (beat_of self.old.pace)) }
     {
         // A turn that has to bring something runs no quantum.
-        let runner = if self.pace.must_bring() {
-            None
-        } else {
-            runner
-        };
+        let runner = if self.pace.must_bring() { None } else { runner };
         self.lengths.note(runner, ran, brought);
         let refused = runner.is_some() && ran.steps > 0 && !brought;
         self.refusals = if refused {

@@ -30,9 +30,9 @@ const OTHER_BYTES: usize = 49_152;
 fn get_room(alloc: Global, views: usize)
     requires { views ≤ 64 }
 {
+    let bytes = views * VIEW_BYTES + OTHER_BYTES;
     for _ in 0..2 {
-        let _room: Result<Vec<u8>, AllocError> =
-            Vec::with_capacity(alloc, views * VIEW_BYTES + OTHER_BYTES);
+        let _room: Result<Vec<u8>, AllocError> = Vec::with_capacity(alloc, bytes);
     }
 }
 
