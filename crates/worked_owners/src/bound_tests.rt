@@ -3,8 +3,9 @@
 ghost use Rattle.std.specs.Prelude.{None, refl};
 
 use app_kernel::{Heard, Notice, Owners, Port, PortCall, Refused, Served, serve};
-use cache_ident::{Ident, KernelNo, Kind, SpaceNo, ThreadNo, Vpn};
+use cache_ident::{Ident, KernelNo, Kind, NoMemory, SpaceNo, ThreadNo, Vpn};
 use rv32_exec::{Access, Status};
+use std::alloc::Global;
 use std::test::Fail;
 
 // Whatever is asked for is loaded, but for page 16, for which another row is always wanted first.
@@ -102,9 +103,9 @@ impl Port for Wanting {
     ghost tells = { λ old new follows. refl };
 }
 
-#[test]
-fn a_try_wants_two_rows_a_walk(rt: HostRuntime) -> Result<(), Fail> {
-    let mut owners = Owners::new(rt.alloc(), &[])?;
+// What comes of a thread's fault over such a port, and after how many calls.
+fn tried(alloc: Global) -> Result<(Served, u64), NoMemory> {
+    let mut owners = Owners::new(alloc, &[])?;
     let mut port = Wanting {
         heard: Heard::nothing(),
     };
@@ -113,12 +114,18 @@ fn a_try_wants_two_rows_a_walk(rt: HostRuntime) -> Result<(), Fail> {
         access: Access::Read,
     };
     let served = serve(&mut port, &mut owners, ThreadNo(0), notice);
+    Ok((served, port.heard.calls))
+}
+
+#[test]
+fn a_try_wants_two_rows_a_walk(rt: HostRuntime) -> Result<(), Fail> {
+    let (served, calls) = tried(rt.alloc())?;
     let wanted = Refused::ReceiversAbsent {
         space: SpaceNo(1),
         vpn: Vpn(32),
     };
     assert!(rt; served == Served::Again(wanted));
     // Three tries of two walks. The first notes the spaces and the thread, which the second asks for again.
-    assert!(rt; port.heard.calls == 17 + 14 + 14);
+    assert!(rt; calls == 17 + 14 + 14);
     Ok(())
 }

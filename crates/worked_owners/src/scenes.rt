@@ -1,6 +1,7 @@
-//! Boards of scenarios with their owners, and what is asked of them.
+//! Boards of scenarios with their owners, and what is asked of them. A test is a table of that, and no scene stands in it: a
+//! statement beside a scene takes seconds to prove, and a line of a table none.
 
-use app_kernel::{Alone, Board, Notice, Owners, Served, serve};
+use app_kernel::{Alone, Board, Notice, Owners, Refused, Served, serve};
 use board_opening::board_of;
 use cache_ident::{Ident, Kind, Name, NoMemory, SpaceNo, ThreadNo, Vpn};
 use journal_text::print;
@@ -32,15 +33,52 @@ pub const MADE: &str =
 pub const CROWDED: &str =
     "mem 1\ncaps 8 8 5 8\nkernel 0\nright 0 0 rw\nspace 0 0\nthread 0 0 0 a0 0x4000\nthread 1 0 0\nthread 2 0 0\nthread 3 0 0\nthread 4 0 0\nthread 5 0 0\nmap 0 0 0 rx\ncode 0 0\nlw a1, 0(a0)\nendcode\nend\n";
 
-/// A board and its owners.
+// A board and its owners.
 #[derive(Drop)]
-pub struct Scene {
-    pub board: Board,
-    pub owners: Owners,
+struct Scene {
+    board: Board,
+    owners: Owners,
 }
 
-/// The sealed board of a scenario, and the owners that its declarations make.
-pub fn opened(alloc: Global, text: &str) -> Result<Scene, NoMemory> {
+/// A line of a test: what is asked of a scene, and what is to come of it.
+#[derive(Clone, Copy)]
+pub enum Ask {
+    /// For a thread's fault of a fetch from the page of that number owners do this, by so many calls.
+    Fault(u32, u32, Served, u64),
+    /// After such a fault the thread goes on, by any number of calls.
+    FaultGoesOn(u32, u32),
+    /// For a thread that is in a call owners do this, by so many calls of their own.
+    Trap(u32, Served, u64),
+    /// The thread goes on, by any number of calls.
+    TrapGoesOn(u32),
+    /// Owners are told that the thread is in no call.
+    NoTrap(u32),
+    /// So many steps of a thread can be taken.
+    Step(u32, u32),
+    /// A thread has ended for this reason.
+    HasEnded(u32, Reason),
+    /// The text of the journal ends with these lines.
+    Tells(&'static str),
+    /// The board has taken so many steps.
+    Steps(u64),
+    /// The identifier that the load of that number gave is noted for a name.
+    Noted(Name, Kind, u64),
+    /// Such an identifier is noted from now on.
+    Note(Name, Kind, u64),
+    /// A kernel can unload the descriptor that the load of that number loaded.
+    Unload(Ident, Kind, u64),
+    /// No thread is known to receive the signals of a page's row.
+    NoReceiver(SpaceNo, Vpn),
+    /// The thread that receives them is learnt.
+    LearnReceiver(SpaceNo, Vpn, ThreadNo),
+    /// A thread is known to be in a space.
+    Space(ThreadNo, SpaceNo),
+    /// The space of a thread is learnt.
+    LearnSpace(ThreadNo, SpaceNo),
+}
+
+// The sealed board of a scenario, and the owners that its declarations make.
+fn opened(alloc: Global, text: &str) -> Result<Scene, NoMemory> {
     let Ok(scenario) = read_opening(alloc, text.as_bytes()) else {
         return Err(AllocError);
     };
@@ -52,8 +90,8 @@ pub fn opened(alloc: Global, text: &str) -> Result<Scene, NoMemory> {
     Ok(Scene { board, owners })
 }
 
-/// A fault of a fetch from the page of that number.
-pub fn fault(page: u32) -> Notice {
+// A fault of a fetch from the page of that number.
+fn fault(page: u32) -> Notice {
     Notice::Fault {
         va: page.saturating_mul(4_096),
         access: Access::Fetch,
@@ -61,15 +99,15 @@ pub fn fault(page: u32) -> Notice {
 }
 
 impl Scene {
-    /// What owners do for a thread, and how many calls they make for it.
-    pub fn serve(&mut self, thread: u32, notice: Notice) -> (Served, u64) {
+    // What owners do for a thread, and how many calls they make for it.
+    fn serve(&mut self, thread: u32, notice: Notice) -> (Served, u64) {
         let mut port = Alone::new(&mut self.board);
         let served = serve(&mut port, &mut self.owners, ThreadNo(thread), notice);
         (served, port.heard.calls)
     }
 
-    /// Takes so many steps of a thread, and says whether each could be taken.
-    pub fn step(&mut self, thread: u32, steps: u32) -> bool {
+    // Takes so many steps of a thread, and says whether each could be taken.
+    fn step(&mut self, thread: u32, steps: u32) -> bool {
         for _ in 0..steps {
             if self.board.heal_step(0, ThreadNo(thread)).is_err() {
                 return false;
@@ -78,22 +116,81 @@ impl Scene {
         true
     }
 
-    /// Has the thread ended for this reason?
-    pub fn has_ended(&self, thread: u32, reason: Reason) -> bool {
+    // Has the thread ended for this reason?
+    fn has_ended(&self, thread: u32, reason: Reason) -> bool {
         let record = self.board.flat_thread(ThreadNo(thread));
         record.is_some_and(|record| record.status == Status::Ended(reason))
     }
 
-    /// Does the text of the journal end with these lines?
-    pub fn tells(&self, alloc: Global, lines: &str) -> Result<bool, NoMemory> {
+    // Does the text of the journal end with these lines?
+    fn tells(&self, alloc: Global, lines: &str) -> Result<bool, NoMemory> {
         let text = print(alloc, self.board.journal())?;
         Ok(text.as_slice().ends_with(lines.as_bytes()))
     }
 
-    /// Unloads a descriptor of a kernel.
-    pub fn unload(&mut self, kernel: Ident, ident: Ident) -> bool {
+    // Unloads a descriptor of a kernel.
+    fn unload(&mut self, kernel: Ident, ident: Ident) -> bool {
         self.board.unload(0, kernel, ident).is_ok()
     }
+
+    // Is a thread in no call that could be completed?
+    fn has_no_trap(&mut self, thread: u32) -> bool {
+        let (served, _) = self.serve(thread, Notice::Trap);
+        matches!(served, Served::Again(Refused::NotTrapped { .. }))
+    }
+
+    // Does what is asked, and says whether it comes out so.
+    fn comes_out(&mut self, alloc: Global, ask: &Ask) -> Result<bool, NoMemory> {
+        let so = match *ask {
+            Ask::Fault(thread, page, served, calls) => self.serve(thread, fault(page))
+                == (served, calls),
+            Ask::FaultGoesOn(thread, page) => self.serve(thread, fault(page)).0 == Served::Resumed,
+            Ask::Trap(thread, served, calls) => self.serve(thread, Notice::Trap) == (served, calls),
+            Ask::TrapGoesOn(thread) => self.serve(thread, Notice::Trap).0 == Served::Resumed,
+            Ask::NoTrap(thread) => self.has_no_trap(thread),
+            Ask::Step(thread, steps) => self.step(thread, steps),
+            Ask::HasEnded(thread, reason) => self.has_ended(thread, reason),
+            Ask::Tells(lines) => self.tells(alloc, lines)?,
+            Ask::Steps(steps) => self.board.steps() == steps,
+            Ask::Unload(kernel, kind, serial) => self.unload(kernel, ident(kind, serial)),
+            _ => self.is_noted(ask)?,
+        };
+        Ok(so)
+    }
+
+    // The same, of what owners note.
+    fn is_noted(&mut self, ask: &Ask) -> Result<bool, NoMemory> {
+        match *ask {
+            Ask::Noted(name, kind, serial) => return Ok(
+                self.owners.noted(name) == Some(ident(kind, serial)),
+            ),
+            Ask::NoReceiver(space, vpn) => return Ok(self.owners.receiver_of(space, vpn).is_none()),
+            Ask::Space(thread, space) => return Ok(self.owners.space_of(thread) == Some(space)),
+            Ask::Note(name, kind, serial) => self.owners.note(name, ident(kind, serial))?,
+            Ask::LearnReceiver(space, vpn, thread) => self
+                .owners
+                .learn_receiver(space, vpn, Some(thread))?,
+            Ask::LearnSpace(thread, space) => self.owners.learn_space(thread, space)?,
+            _ => return Ok(false),
+        }
+        Ok(true)
+    }
+
+    // Asks one after the other, and says the place of the first that comes out otherwise, if one does.
+    fn go_through(&mut self, alloc: Global, asks: &[Ask]) -> Result<Option<usize>, NoMemory> {
+        for (place, ask) in asks.iter().enumerate() {
+            if !self.comes_out(alloc, ask)? {
+                return Ok(Some(place));
+            }
+        }
+        Ok(None)
+    }
+}
+
+/// The place of the first ask that comes out otherwise on the board of a scenario, if one does. They are asked in order.
+pub fn first_otherwise(alloc: Global, text: &str, asks: &[Ask]) -> Result<Option<usize>, NoMemory> {
+    let mut scene = opened(alloc, text)?;
+    scene.go_through(alloc, asks)
 }
 
 /// The first kernel, and the next one that was loaded first.
@@ -109,8 +206,8 @@ pub const SECOND: Ident = Ident {
     serial: 1,
 };
 
-/// The identifier that the load of that number gave, for the first slot.
-pub fn ident(kind: Kind, serial: u64) -> Ident {
+// The identifier that the load of that number gave, for the first slot.
+fn ident(kind: Kind, serial: u64) -> Ident {
     Ident {
         kind,
         slot: 0,
