@@ -2,7 +2,7 @@
 
 ghost use Rattle.std.specs.Prelude.{◌≡◌, ◌⊎◌, true};
 ghost use Rattle.alone_run.specs.board_turns.specs.Paces.{beat_of, paced};
-ghost use Rattle.processors.specs.Lengths.{length_for, lengths_after, ran_by};
+ghost use Rattle.processors.specs.Lengths.{lengths_after, ran_by};
 
 use crate::lengths::{Lengths, Ran};
 use alone_run::turns::Pace;
@@ -19,7 +19,7 @@ const MOST_REFUSALS: u32 = 16;
 #[derive(Clone, Copy)]
 pub(crate) struct Course {
     pub(crate) pace: Pace,
-    lengths: Lengths,
+    pub(crate) lengths: Lengths,
     refusals: u32,
 }
 
@@ -31,13 +31,6 @@ impl Course {
             lengths: Lengths::new(),
             refusals: 0,
         }
-    }
-
-    /// How many steps the next turn may take in a quantum of this thread, or of none.
-    pub(crate) fn length(&self, runner: Option<ThreadNo>) -> u32
-        ensures { result ≡ length_for self.now.lengths.of_threads runner }
-    {
-        self.lengths.for_turn(runner)
     }
 
     /// A turn was taken for this thread, or for none, that left the processor at `pace`. Where it ran a quantum, that came to `ran`; and it

@@ -54,7 +54,7 @@ fn take_turns<R: Wait, P: Processor + RanLast>(
             Found::Out(_) | Found::Wanted { .. } => {}
         }
         let runner = runner(&found);
-        let length = course.length(runner);
+        let length = course.lengths.for_turn(runner);
         let before = port.brought();
         let mut pace = course.pace;
         let Ok(()) = turn(port, owners, quantum, &mut pace, length, &mut found) else {
