@@ -12,10 +12,10 @@ first_length = record { steps = 256; wary = false }
 
 -- How long a thread's next quantum may be, once one of that length came to this and was committed, or not. After one that was refused it has
 -- 256 steps, or 64 where that stored nothing; the next one that is committed leaves that so; and from then on each that ran to its end makes it
--- twice as long, up to 2,048 steps.
+-- twice as long, up to 1,024 steps.
 abbrev pub length_after : Length → Ran → Bool → Length
 length_after length ran committed = record {
-  steps = if committed && nat_le length.steps ran.steps && not length.wary then min (2 * length.steps) 2048 else (if committed then length.steps else (if ran.stored then 256 else 64));
+  steps = if committed && nat_le length.steps ran.steps && not length.wary then min (2 * length.steps) 1024 else (if committed then length.steps else (if ran.stored then 256 else 64));
   wary = not committed;
 }
 

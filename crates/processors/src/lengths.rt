@@ -14,7 +14,7 @@ const FIRST_STEPS: u32 = 256;
 const WAITING_STEPS: u32 = 64;
 
 // How many it has at most. The hand-over of the board's memory between two processors takes as long as several hundred steps.
-const LONGEST: u32 = 2_048;
+const LONGEST: u32 = 1_024;
 
 // For so many threads the lengths are kept. Threads whose numbers are the same modulo this have one length.
 const PLACES: usize = 16;
