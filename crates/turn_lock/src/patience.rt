@@ -1,12 +1,15 @@
 //! How a thread passes the time between two looks at the lock.
-use std::hint;
+use std::{hint, thread};
 
 // Pauses of the processor between two looks.
 const PAUSES: u32 = 4;
 
-// After so many looks a thread sleeps. On free processors the value comes back before that; where they are taken, who has it
-// may need this one.
-const MOST_LOOKS: u32 = 4_000;
+// After so many looks a thread yields its processor before each further one. On free processors the value comes back before that;
+// where they are taken, who has it may need this one.
+const MOST_LOOKS: u32 = 500;
+
+// After so many of these it sleeps.
+const MOST_YIELDS: u32 = 100;
 
 // After so many sleeps a thread no longer lets others go before it.
 const MOST_SLEEPS: u32 = 8;
@@ -32,13 +35,17 @@ impl Patience {
 
     // Lets a moment pass, or answers that it is time to sleep.
     pub(crate) fn asks_for_sleep(&mut self) -> bool {
-        if self.looks >= MOST_LOOKS {
+        if self.looks >= MOST_LOOKS + MOST_YIELDS {
             self.looks = 0;
             self.sleeps = self.sleeps.saturating_add(1);
             return true;
         }
-        for _ in 0..PAUSES {
-            hint::spin_loop();
+        if self.looks >= MOST_LOOKS {
+            thread::yield_now();
+        } else {
+            for _ in 0..PAUSES {
+                hint::spin_loop();
+            }
         }
         self.looks += 1;
         false

@@ -134,8 +134,8 @@ impl<V: History> Turn<V> {
     ///
     /// A thread that finds the value taken waits without a ticket, since all who draw one after it would wait for it, also
     /// while it has no processor. After a long wait it draws one all the same, and then nobody goes before it. Who has looked
-    /// for long sleeps until a release. Whether the turn comes depends on those who have the value before. After 2^64 - 1
-    /// holds of one lock it waits for ever.
+    /// for long yields its processor between its looks, and in the end sleeps until a release. Whether the turn comes depends
+    /// on those who have the value before. After 2^64 - 1 holds of one lock it waits for ever.
     pub fn hold<R: Wait>(&self, rt: &R, pass: Pass<V>) -> Held<'_, V>
         requires { IsPassOf self.now pass }
         ensures lock { held_lock result ≡ lock_of self.now }
