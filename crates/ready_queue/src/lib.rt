@@ -45,28 +45,3 @@ pub fn choose(waiting: &[Candidate]) -> Option<ThreadNo>
     }
     Some(best.no)
 }
-
-#[cfg(test)]
-mod tests {
-    use super::*;
-
-    fn candidate(no: u32, priority: u32, last: u64) -> Candidate {
-        Candidate {
-            no: ThreadNo(no),
-            priority,
-            last,
-        }
-    }
-
-    #[test]
-    fn ties_go_to_the_longest_ago_and_then_to_the_lowest(rt: HostRuntime) {
-        let low = candidate(0, 1, 0);
-        let recent = candidate(1, 2, 9);
-        let tied = candidate(5, 2, 4);
-        let lower = candidate(3, 2, 4);
-        assert_eq!(rt; choose(&[]), None);
-        assert_eq!(rt; choose(&[low, recent]), Some(ThreadNo(1)));
-        assert_eq!(rt; choose(&[recent, tied, low]), Some(ThreadNo(5)));
-        assert_eq!(rt; choose(&[tied, lower, recent]), Some(ThreadNo(3)));
-    }
-}
