@@ -13,7 +13,7 @@
 # runs in turn with the program; one processor should reach 0.85 of it; and how much more two and four interpreters do at once than one
 # does says what the machine itself has to give. Else the loop is one that adds the words of a page.
 #
-# What is timed is the whole program, the middle one of 31 runs in turn, less that of runs of one step. Not the shortest: a processor whose
+# What is timed is the whole program, the middle one of 101 runs in turn, less that of runs of one step. Not the shortest: a processor whose
 # neighbours rest may be twice as fast as usual for a moment, which one thread can meet and several can't. It wants the program that
 # ./build leaves, and four processors that nobody else uses: a thread that waits for another one takes steps meanwhile, of which there are
 # a million. It fails where a run ends otherwise than it should; of the other bars it prints what is missed.
@@ -26,7 +26,7 @@ want_proved v_run
 place="$(mktemp -d)"
 busy=()
 trap '((${#busy[@]} == 0)) || kill "${busy[@]}" 2> /dev/null; rm -rf "$place"' EXIT
-runs=31
+runs=101
 failed=0
 steps=1000000
 
