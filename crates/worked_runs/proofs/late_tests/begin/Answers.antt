@@ -3,7 +3,7 @@ use Rattle.alone_run.specs.quantum.specs.Ahead.{Ahead}
 use Rattle.alone_run.specs.board_commits.specs.Tickets.{AreAllAsOf, AreOfTicket}
 use Rattle.alone_run.specs.board_commits.proofs.CopyLaws.{of_begun}
 use Rattle.alone_run.specs.board_commits.proofs.KeptLaws.{kept_unbegun}
-use Rattle.worked_processors.proofs.late_tests.begin.Goals as goal
+use Rattle.worked_runs.proofs.late_tests.begin.Goals as goal
 
 -- there is no view, and nothing is kept
 pub returns : goal.returns

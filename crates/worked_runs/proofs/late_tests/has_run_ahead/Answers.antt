@@ -1,5 +1,5 @@
 use Rattle.alone_run.specs.board_commits.proofs.CopyLaws.{all_of}
-use Rattle.worked_processors.proofs.late_tests.has_run_ahead.Goals as goal
+use Rattle.worked_runs.proofs.late_tests.has_run_ahead.Goals as goal
 
 pub returns : goal.returns
 returns c =

@@ -1,7 +1,7 @@
 use Rattle.std.proofs.Common.{◌∙◌}
 use Rattle.turn_lock.specs.Passes.{found_by, holder_first, value_of}
 use Rattle.processors.proofs.Holding.{signed}
-use Rattle.worked_processors.proofs.unload_tests.unload_meanwhile.Goals as goal
+use Rattle.worked_runs.proofs.unload_tests.unload_meanwhile.Goals as goal
 
 pub release-pass-requires : goal.release-pass-requires
 release-pass-requires g c =

@@ -1,4 +1,4 @@
-use Rattle.worked_processors.proofs.late_tests.run_on.Goals as goal
+use Rattle.worked_runs.proofs.late_tests.run_on.Goals as goal
 
 pub run_alone-requires-clause-sealed : goal.run_alone-requires-clause-sealed
 run_alone-requires-clause-sealed g c =

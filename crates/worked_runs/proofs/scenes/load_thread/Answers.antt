@@ -1,5 +1,5 @@
-use Rattle.worked_processors.proofs.Owned.{owned_on}
-use Rattle.worked_processors.proofs.scenes.load_thread.Goals as goal
+use Rattle.worked_runs.proofs.Owned.{owned_on}
+use Rattle.worked_runs.proofs.scenes.load_thread.Goals as goal
 
 pub returns : goal.returns
 returns c = λ known was.

@@ -1,6 +1,6 @@
-use Rattle.worked_processors.proofs.Late.{views_on}
-use Rattle.worked_processors.proofs.Owned.{owned_on}
-use Rattle.worked_processors.proofs.late_tests.refusal_of_late_commit.Goals as goal
+use Rattle.worked_runs.proofs.Late.{views_on}
+use Rattle.worked_runs.proofs.Owned.{owned_on}
+use Rattle.worked_runs.proofs.late_tests.refusal_of_late_commit.Goals as goal
 
 pub commit-requires : goal.commit-requires
 commit-requires c =

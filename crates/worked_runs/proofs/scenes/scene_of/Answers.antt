@@ -1,5 +1,5 @@
 use Rattle.proc_run.proofs.Opened.{sealed_begins}
-use Rattle.worked_processors.proofs.scenes.scene_of.Goals as goal
+use Rattle.worked_runs.proofs.scenes.scene_of.Goals as goal
 
 pub returns : goal.returns
 returns c =

@@ -2,7 +2,7 @@
 
 ghost use Rattle.alone_run.specs.board_commits.specs.Tickets.{AreOfTicket};
 ghost use Rattle.alone_run.specs.board_turns.specs.owners.specs.Known.{Known};
-ghost use Rattle.worked_processors.specs.Owned.{HasOwners};
+ghost use Rattle.worked_runs.specs.Owned.{HasOwners};
 
 use crate::scenes::{CODE, FIRST, REPORT, Scene, THREAD, load_thread, opened, report_of};
 use alone_run::run_alone;

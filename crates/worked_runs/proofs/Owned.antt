@@ -7,7 +7,7 @@ use Rattle.alone_run.specs.board_core.specs.Going.{IsOneEvent}
 use Rattle.alone_run.specs.board_turns.specs.owners.specs.Known.{Known}
 use Rattle.alone_run.specs.board_turns.specs.owners.specs.Owning.{AreOwnersOf}
 use Rattle.alone_run.specs.board_turns.specs.owners.proofs.Learning.{still_owners}
-use Rattle.worked_processors.specs.Owned.{HasOwners}
+use Rattle.worked_runs.specs.Owned.{HasOwners}
 
 pub owned_on : (cpu : ℕ) (old new : Recorded) (known : Known) → IsOneEvent cpu old new → HasOwners old known → HasOwners new known
 owned_on cpu old new known event was =
