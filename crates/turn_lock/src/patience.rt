@@ -4,12 +4,12 @@ use std::{hint, thread};
 // Pauses of the processor between two looks.
 const PAUSES: u32 = 4;
 
-// After so many looks a thread yields its processor before each further one. On free processors the value comes back before that;
+// After so many looks a thread yields its processor before each further one. On free processors the value mostly comes back before that;
 // where they are taken, who has it may need this one.
-const MOST_LOOKS: u32 = 500;
+const MOST_LOOKS: u32 = 10;
 
 // After so many of these it sleeps.
-const MOST_YIELDS: u32 = 100;
+const MOST_YIELDS: u32 = 1_000;
 
 // After so many sleeps a thread no longer lets others go before it.
 const MOST_SLEEPS: u32 = 8;

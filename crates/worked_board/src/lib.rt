@@ -1,4 +1,5 @@
-//! Tests of the board, call by call, and of its choice among threads. They stand above it, since a crate with tests in it is proved twice, from nothing both times.
+//! Tests of the board, call by call, and of its choice among threads. They stand above it, since a crate with tests in it is proved
+//! twice, from nothing both times.
 #![tactic(auto)]
 
 #[cfg(test)]

@@ -1,5 +1,5 @@
-//! Tests of what owners know, and of what they do for threads, call by call. They stand above it, since a crate with tests in it is proved twice, from
-//! nothing both times.
+//! Tests of what owners know, and of what they do for threads, call by call. They stand above it, since a crate with tests in it is
+//! proved twice, from nothing both times.
 #![tactic(auto)]
 
 #[cfg(test)]
