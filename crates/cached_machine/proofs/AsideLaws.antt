@@ -21,14 +21,14 @@ use Rattle.cached_machine.specs.Moved.{KeepsBeside}
 use Rattle.cached_machine.proofs.AlikeLaws.{same_out}
 
 -- what a step leaves of a content has its processor and its last checkout
-marked_alike : (o : Option Item) → mark_in (option_map but_for_steps o) ≡ mark_in o
+pub marked_alike : (o : Option Item) → mark_in (option_map but_for_steps o) ≡ mark_in o
 marked_alike None = refl
 marked_alike (Some (item.Kernel kernel)) = refl
 marked_alike (Some (item.Space space)) = refl
 marked_alike (Some (item.Thread thread)) = refl
 marked_alike (Some (item.Mapping row)) = refl
 
-checked_alike : (o : Option Item) → last_in (option_map but_for_steps o) ≡ last_in o
+pub checked_alike : (o : Option Item) → last_in (option_map but_for_steps o) ≡ last_in o
 checked_alike None = refl
 checked_alike (Some (item.Kernel kernel)) = refl
 checked_alike (Some (item.Space space)) = refl

@@ -1,7 +1,6 @@
 -- What the parts of a completion leave of the machine.
 use Rattle.std.proofs.Common.{◌≡◌, ℕ, ◌<◌, Bool, true, false, not, List, [], ◌∷◌, filter, length, zero, suc, Option, Some, None, slice_get, set, refl, sym, ◌∙◌, ap, subst, subst₂, arith}
 use Rattle.std.specs.List.{find}
-use Rattle.std.specs.Option.{option_map}
 use Rattle.std.specs.Prelude.{if◌then◌else◌, is_some, Result, Ok, Err, OnErr, OnOk}
 use Rattle.std.proofs.lemmas.List.{set-get_or}
 use Rattle.std.proofs.lemmas.Option.{get_or_from_slice_get, same_Some, slice_get_within}
@@ -14,14 +13,10 @@ use Rattle.cache_ident.specs.declared.names.ThreadNo.{ThreadNo}
 use Rattle.cache_ident.specs.declared.names.Vpn.{Vpn}
 use Rattle.phys_groups.specs.declared.rows.Row.{Row}
 use Rattle.phys_groups.specs.Translation.{is_row_of, without}
-use Rattle.flat_state.specs.declared.events.Decl.{Decl}
-use Rattle.flat_state.specs.declared.events.Decl.TheVariants as decls
 use Rattle.flat_state.specs.declared.events.Machine.{Machine}
 use Rattle.flat_state.specs.declared.records.FlatThread.{FlatThread}
-use Rattle.flat_state.specs.Declaration.{declared}
 use Rattle.flat_state.specs.Names.{stands}
 use Rattle.flat_state.specs.State.{FlatState, with_thread}
-use Rattle.flat_state.proofs.Places.{get-append}
 use Rattle.flat_rules.specs.Readings.{OfThread}
 use Rattle.flat_thread.specs.Calls.{own_part}
 use Rattle.flat_machine.proofs.ChangeSound.{in_place, own_sound, without_sound}
@@ -42,28 +37,15 @@ use Rattle.thread_sets.specs.Sets.{noted, Sets}
 use Rattle.thread_sets.specs.SetsOf.{AreSetsOf}
 use Rattle.thread_sets.proofs.SetsLemmas.{sets_noted}
 use Rattle.board_laws.specs.desc_tables.specs.Tables.{Held}
-use Rattle.cached_machine.specs.Aside.{aside_of, but_for_steps, Aside}
+use Rattle.cached_machine.specs.Aside.{aside_of, Aside}
 use Rattle.cached_machine.specs.Cached.{state_of, Cached, IsSoundMachine}
 use Rattle.cached_machine.specs.Moved.{KeepsBeside, KeepsPost, OnlyRoom}
 use Rattle.cached_machine.specs.Posts.{last_in, mark_in, HasPosts}
 use Rattle.cached_machine.specs.Stepping.{IfThread}
+use Rattle.cached_machine.proofs.AsideLaws.{checked_alike, marked_alike}
 use Rattle.cached_machine.proofs.MadeLaws.{beside_held, held_with, held_without, posts_kept, room_held, sound_as, KeepsHeld}
 
 -- ---- beside the state
-
-marks_aside : (o : Option Item) → mark_in (option_map but_for_steps o) ≡ mark_in o
-marks_aside None = refl
-marks_aside (Some (item.Kernel kernel)) = refl
-marks_aside (Some (item.Space space)) = refl
-marks_aside (Some (item.Thread thread)) = refl
-marks_aside (Some (item.Mapping row)) = refl
-
-lasts_aside : (o : Option Item) → last_in (option_map but_for_steps o) ≡ last_in o
-lasts_aside None = refl
-lasts_aside (Some (item.Kernel kernel)) = refl
-lasts_aside (Some (item.Space space)) = refl
-lasts_aside (Some (item.Thread thread)) = refl
-lasts_aside (Some (item.Mapping row)) = refl
 
 -- what a step leaves is kept beside the state
 pub beside_aside : (m m' : Cached) → aside_of m' ≡ aside_of m → KeepsBeside m m'
@@ -77,23 +59,12 @@ beside_aside m m' same =
       spare = ap (λ (a : Aside). a.spare) same;
       loaded = record { residents = residents; issued = ap (λ (a : Aside). a.issued) same };
       marks = record {
-        marks = λ whom. sym (marks_aside (content_of m'.held.contents (name.Thread whom))) ∙ ap mark_in (content (name.Thread whom)) ∙ marks_aside (content_of m.held.contents (name.Thread whom));
-        lasts = λ whom. sym (lasts_aside (content_of m'.held.contents (name.Thread whom))) ∙ ap last_in (content (name.Thread whom)) ∙ lasts_aside (content_of m.held.contents (name.Thread whom));
+        marks = λ whom. sym (marked_alike (content_of m'.held.contents (name.Thread whom))) ∙ ap mark_in (content (name.Thread whom)) ∙ marked_alike (content_of m.held.contents (name.Thread whom));
+        lasts = λ whom. sym (checked_alike (content_of m'.held.contents (name.Thread whom))) ∙ ap last_in (content (name.Thread whom)) ∙ checked_alike (content_of m.held.contents (name.Thread whom));
       };
     }
 
 -- ---- declarations
-
--- a declaration leaves each thread in its place
-pub thread_stays : (s : FlatState) (d : Decl) (n : ℕ) (t : FlatThread) → slice_get s.threads n ≡ Some t → slice_get (declared s d).threads n ≡ Some t
-unfolding declared
-thread_stays s (decls.Machine machine) n t here = here
-thread_stays s (decls.Kernel number limits) n t here = here
-thread_stays s (decls.Right kernel group read write) n t here = here
-thread_stays s (decls.Space number kernel) n t here = here
-thread_stays s (decls.Thread number space pc priority a0 a1) n t here = get-append s.threads _ n t here
-thread_stays s (decls.Map space vpn frame flags receiver) n t here = here
-thread_stays s (decls.Word frame offset value) n t here = here
 
 -- the thread of a number below the count
 pub found_at : (threads : List FlatThread) (n : ℕ) → n < length threads → (t : FlatThread) × (slice_get threads n ≡ Some t)

@@ -8,8 +8,8 @@ use Rattle.cache_ident.specs.declared.idents.Ident.{Ident}
 use Rattle.text_fields.specs.Reading.{after}
 use Rattle.journal_text.specs.Lines.{field, decl_text}
 use Rattle.journal_text.specs.Ranges.{IsSmall, IsIdentInRange, IsDeclInRange}
-use Rattle.journal_text.proofs.FieldLaws.{after_again, number_again, field_again, field_ends}
-use Rattle.journal_text.proofs.LineLaws.{decl_again}
+use Rattle.journal_text.proofs.FieldLaws.{after_again, four_parts, number_again, field_again, field_ends}
+use Rattle.journal_text.proofs.LineLaws.{decl_again, five_parts}
 use Rattle.quantum.specs.flat_state.specs.declared.events.Decl.{Decl}
 use Rattle.board_ops.specs.declared.ops.Op.{Op}
 use Rattle.board_ops.specs.declared.ops.Op.TheVariants.{Declare, Seal, LoadKernel, LoadSpace, LoadThread, LoadMapping, Unload, Lock, Unlock, Checkout, View, RunAhead, Commit, Leave, Complete, ConfirmFault, HealStep, Reserve}
@@ -27,12 +27,6 @@ two_parts a b rest = append_assoc a b rest
 
 three_parts : (a b c rest : List ℕ) → (a ++ b ++ c) ++ rest ≡ a ++ (b ++ (c ++ rest))
 three_parts a b c rest = simp append_assoc
-
-four_parts : (a b c d rest : List ℕ) → (a ++ b ++ c ++ d) ++ rest ≡ a ++ (b ++ (c ++ (d ++ rest)))
-four_parts a b c d rest = simp append_assoc
-
-five_parts : (a b c d e rest : List ℕ) → (a ++ b ++ c ++ d ++ e) ++ rest ≡ a ++ (b ++ (c ++ (d ++ (e ++ rest))))
-five_parts a b c d e rest = simp append_assoc
 
 six_parts : (a b c d e f rest : List ℕ) → (a ++ b ++ c ++ d ++ e ++ f) ++ rest ≡ a ++ (b ++ (c ++ (d ++ (e ++ (f ++ rest)))))
 six_parts a b c d e f rest = simp append_assoc

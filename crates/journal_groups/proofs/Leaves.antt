@@ -23,7 +23,7 @@ use Rattle.residents.specs.run_journal.proofs.Growth.{count-append}
 use Rattle.residents.specs.run_journal.proofs.Others.{other_ident, without_cases, stays_without}
 use Rattle.journal_tables.specs.journal_laws.specs.Leaving.{AreApart, HaveLeft, HaveOneEach, LacksParent}
 use Rattle.journal_tables.specs.journal_laws.proofs.GroupLaw.{group_if, order_if}
-use Rattle.journal_tables.proofs.Counting.{count-without}
+use Rattle.journal_tables.specs.group_laws.proofs.Counting.{count-without}
 use Rattle.journal_groups.specs.declared.gone.Gone.{Gone}
 use Rattle.journal_groups.specs.declared.group.Group.{Group}
 use Rattle.journal_groups.specs.Leaving.{gone_of, node_of_gone, IsLeaving, IsBehindLast, LackOneEach}

@@ -1,6 +1,5 @@
 pub mod KindLemmas
 pub mod Recounting
-pub mod Counting
 pub mod WholeLemmas
 pub mod SlotLemmas
 pub mod PairLemmas

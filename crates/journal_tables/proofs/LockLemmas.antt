@@ -14,7 +14,7 @@ use Rattle.residents.specs.run_journal.specs.Legal.{is_kind, is_kernel, locked_b
 use Rattle.journal_tables.specs.declared.locks.Locks.{Locks}
 use Rattle.journal_tables.specs.Locks.{lock_count, Recounts, RecountsFor, RecountsIf}
 use Rattle.journal_rules.specs.journal_laws.specs.Leaving.{AreApart}
-use Rattle.journal_tables.proofs.Counting.{one, count-loaded, count-without, count-locked, count-same}
+use Rattle.group_laws.proofs.Counting.{one, count-loaded, count-without, count-locked, count-same}
 use Rattle.journal_tables.proofs.KindLemmas.{owned_or, is_kind-refl, kind_is}
 
 -- the locks are those of what is resident

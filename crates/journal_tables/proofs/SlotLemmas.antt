@@ -12,7 +12,7 @@ use Rattle.residents.specs.declared.slots.Slots.{Slots}
 use Rattle.residents.specs.Slots.{IsCount, IsTakenIn}
 use Rattle.journal_tables.specs.Tables.{AreSlotsOf}
 use Rattle.journal_rules.specs.journal_laws.specs.Leaving.{AreApart}
-use Rattle.journal_tables.proofs.Counting.{count-loaded, count-without, count-locked}
+use Rattle.group_laws.proofs.Counting.{count-loaded, count-without, count-locked}
 use Rattle.journal_tables.proofs.KindLemmas.{is_kind-refl, kind_is_not}
 
 abbrev of_kind : Kind → Resident → Bool

@@ -18,7 +18,7 @@ use Rattle.residents.specs.run_journal.proofs.Others.{locked_keeps}
 use Rattle.residents.specs.run_journal.proofs.Whole.{IsWhole, whole_after}
 use Rattle.journal_rules.specs.journal_laws.specs.Leaving.{AreApart}
 use Rattle.journal_tables.specs.Whole.{AreWhole}
-use Rattle.journal_tables.proofs.Counting.{apart_behind, apart_first}
+use Rattle.group_laws.proofs.Counting.{apart_behind, apart_first}
 
 -- ---- no identifier stands twice
 

@@ -110,8 +110,8 @@ pub caps_ends : (caps : Caps) (rest : List ℕ) → EndsNumber (caps_text caps +
 unfolding caps_text field
 caps_ends caps rest = refl
 
-caps_regrouped : (a b c d rest : List ℕ) → (a ++ b ++ c ++ d) ++ rest ≡ a ++ (b ++ (c ++ (d ++ rest)))
-caps_regrouped a b c d rest = simp append_assoc
+pub four_parts : (a b c d rest : List ℕ) → (a ++ b ++ c ++ d) ++ rest ≡ a ++ (b ++ (c ++ (d ++ rest)))
+four_parts a b c d rest = simp append_assoc
 
 pub caps_again : (caps : Caps) (rest : List ℕ) → AreCapsInRange caps → EndsNumber rest → caps_at (caps_text caps ++ rest) ≡ Some (caps, rest)
 unfolding caps_at caps_text
@@ -119,7 +119,7 @@ caps_again caps rest small ends =
     let m = field caps.mappings ++ rest in
     let t = field caps.threads ++ m in
     let s = field caps.spaces ++ t in
-    ap caps_at (caps_regrouped (field caps.kernels) (field caps.spaces) (field caps.threads) (field caps.mappings) rest)
+    ap caps_at (four_parts (field caps.kernels) (field caps.spaces) (field caps.threads) (field caps.mappings) rest)
     ∙ rw (field_again caps.kernels s small.0 (field_ends caps.spaces t), field_again caps.spaces t small.1 (field_ends caps.threads m), field_again caps.threads m small.2 (field_ends caps.mappings rest), field_again caps.mappings rest small.3 ends) refl
 
 -- a number begins with a digit
@@ -218,15 +218,12 @@ kind_again kinds.Space rest = refl
 kind_again kinds.Thread rest = refl
 kind_again kinds.Mapping rest = refl
 
-ident_regrouped : (a b c d rest : List ℕ) → (a ++ b ++ c ++ d) ++ rest ≡ a ++ (b ++ (c ++ (d ++ rest)))
-ident_regrouped a b c d rest = simp append_assoc
-
 pub ident_again : (ident : Ident) (rest : List ℕ) → IsIdentInRange ident → EndsNumber rest → ident_at (ident_text ident ++ rest) ≡ Some (ident, rest)
 unfolding ident_at
 ident_again ident rest small ends =
     let serial = decimal ident.serial ++ rest in
     let slot = decimal ident.slot ++ (codes "." ++ serial) in
-    ap ident_at (ident_regrouped (letter_of ident.kind ∷ []) (decimal ident.slot) (codes ".") (decimal ident.serial) rest)
+    ap ident_at (four_parts (letter_of ident.kind ∷ []) (decimal ident.slot) (codes ".") (decimal ident.serial) rest)
     ∙ rw (kind_again ident.kind slot, small_again ident.slot (codes "." ++ serial) small.0 refl, after_again (codes ".") serial, number_again ident.serial rest small.1 ends) refl
 
 mapping_again : (space vpn : ℕ) (rest : List ℕ) → IsSmall space → IsSmall vpn → EndsNumber rest → mapping_at (field space ++ (field vpn ++ rest)) ≡ Some (names.Mapping (record { 0 = space }) (record { 0 = vpn }), rest)

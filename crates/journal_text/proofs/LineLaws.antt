@@ -36,7 +36,7 @@ six_fields w a b c d e f rest = simp (append_assoc, append-nil)
 map_fields : (w a b c d e f rest : List ℕ) → (w ++ (a ++ (b ++ (c ++ []))) ++ d ++ e ++ f) ++ rest ≡ w ++ (a ++ (b ++ (c ++ (d ++ (e ++ (f ++ rest))))))
 map_fields w a b c d e f rest = simp (append_assoc, append-nil)
 
-five_parts : (a b c d e rest : List ℕ) → (a ++ b ++ c ++ d ++ e) ++ rest ≡ a ++ (b ++ (c ++ (d ++ (e ++ rest))))
+pub five_parts : (a b c d e rest : List ℕ) → (a ++ b ++ c ++ d ++ e) ++ rest ≡ a ++ (b ++ (c ++ (d ++ (e ++ rest))))
 five_parts a b c d e rest = simp append_assoc
 
 three_parts : (a b c rest : List ℕ) → (a ++ b ++ c) ++ rest ≡ a ++ (b ++ (c ++ rest))

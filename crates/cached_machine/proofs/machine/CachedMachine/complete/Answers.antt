@@ -7,10 +7,11 @@ use Rattle.flat_state.specs.Call.{answered}
 use Rattle.flat_state.specs.Declaration.{declared}
 use Rattle.flat_state.specs.State.{FlatState, with_thread}
 use Rattle.phys_groups.specs.Translation.{without}
+use Rattle.flat_machine.specs.flat_events.proofs.CallParts.{thread_stays}
 use Rattle.board_laws.specs.run_journal.specs.Legal.{AreGood}
 use Rattle.board_laws.specs.desc_stores.specs.Contents.{residents_of}
 use Rattle.cached_machine.specs.Cached.{state_of}
-use Rattle.cached_machine.proofs.CompleteLaws.{beside_aside, found_at, row_gone, thread_stays}
+use Rattle.cached_machine.proofs.CompleteLaws.{beside_aside, found_at, row_gone}
 use Rattle.cached_machine.proofs.GoodLaws.{good_unanswered, not_good}
 use Rattle.cached_machine.proofs.MadeLaws.{beside_onward}
 use Rattle.cached_machine.proofs.machine.CachedMachine.complete.Goals as goal
