@@ -3,7 +3,7 @@
 ghost use Rattle.std.specs.Prelude.{◌≡◌, replicate};
 ghost use Rattle.processors.specs.Lengths.{first_length, length_after, length_for, lengths_after, runner_of};
 
-use alone_run::turns::Found;
+use alone_run::turns::{Found, Quantum};
 use cache_ident::ThreadNo;
 
 // How many steps a quantum has at most to begin with, and after one that was refused.
@@ -32,11 +32,33 @@ const FIRST: Length = Length {
     wary: false,
 };
 
-/// What a quantum came to: how many steps it took, and whether it stored anything.
+/// What a quantum came to: how many steps it took, whether it stored anything, and whether it changed neither memory nor a register, as a
+/// loop does in which a thread waits for what another one stores.
 #[derive(Clone, Copy)]
 pub(crate) struct Ran {
     pub(crate) steps: u32,
     pub(crate) stored: bool,
+    pub(crate) waited: bool,
+}
+
+impl Ran {
+    pub(crate) fn nothing() -> Ran {
+        Ran {
+            steps: 0,
+            stored: false,
+            waited: false,
+        }
+    }
+
+    // What this quantum came to, before its steps happen.
+    pub(crate) fn of(quantum: &Quantum) -> Ran {
+        let stored = quantum.views().iter().any(|view| !view.is_as_copied());
+        Ran {
+            steps: quantum.steps(),
+            stored,
+            waited: !stored && quantum.first().regs == quantum.context().regs,
+        }
+    }
 }
 
 // The length of a thread's next quantum, once one of that length came to this and was committed or refused.

@@ -15,6 +15,7 @@ use crate::lengths::{Ran, runner};
 use crate::sharing::Sharing;
 use alone_run::turns::{Board, Found, Owners, Processor, Quantum, turn};
 use std::sync::Wait;
+use std::thread;
 use turn_lock::{Pass, Turn};
 
 /// Why a processor stopped.
@@ -61,7 +62,12 @@ fn take_turns<R: Wait, P: Processor + RanLast>(
             return Stop::NoMemory;
         };
         let brought = before < port.brought();
-        course.go_on(runner, pace, port.last(), brought);
+        let ran = port.last();
+        course.go_on(runner, pace, ran, brought);
+        // Whose thread would store what this one waits for may have none of the system's processors just now.
+        if ran.waited {
+            thread::yield_now();
+        }
     }
     unreachable!()
 }

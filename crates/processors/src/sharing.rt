@@ -78,10 +78,7 @@ impl<'a, R, G> Sharing<'a, R, G> {
             pass: Some(pass),
             heard: Heard::nothing(),
             brought: 0,
-            last: Ran {
-                steps: 0,
-                stored: false,
-            },
+            last: Ran::nothing(),
         }
     }
 
@@ -271,8 +268,7 @@ impl<R: Wait, G: Gate> Processor for Sharing<'_, R, G> {
         next: &mut Found,
     ) -> Result<Committed, NoMemory> {
         let steps = quantum.steps();
-        let stored = quantum.views().iter().any(|view| !view.is_as_copied());
-        self.last = Ran { steps, stored };
+        self.last = Ran::of(quantum);
         let mut held = hold(self.rt, self.lock, &mut self.pass);
         let answer = commit(held.value_mut(), ticket, self.limit, look, quantum, next);
         self.pass = Some(held.release());
