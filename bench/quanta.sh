@@ -81,6 +81,9 @@ const TURNS: u32 = 65;
 
 const FRAMES: usize = 128;
 
+// What stores change is told by lines of so many bytes.
+const LINE: usize = 64;
+
 #[derive(Clone, Copy)]
 struct Row {
     vpn: u32,
@@ -197,7 +200,13 @@ impl Frames {
         let Part { from, to } = view.changed();
         if frame < FRAMES && from < to && to <= PAGE_LENGTH {
             let start = frame * PAGE_LENGTH;
-            self.bytes[start + from..start + to].copy_from_slice(&view.present()[from..to]);
+            let bytes = &mut self.bytes[start..start + PAGE_LENGTH];
+            // One line is a few moves, and no call.
+            if to - from == LINE {
+                bytes[from..from + LINE].copy_from_slice(&view.present()[from..from + LINE]);
+            } else {
+                bytes[from..to].copy_from_slice(&view.present()[from..to]);
+            }
             self.stamps[frame] = self.now;
         }
     }

@@ -15,7 +15,7 @@ use Rattle.phys_groups.specs.Memory.{page_at}
 use Rattle.thread_cache.specs.rv32_exec.specs.declared.contexts.Context.{Context}
 use Rattle.board_threads.specs.flat_laws.proofs.Members.{Contains-behind, Contains-from_map, Contains-cases, Contains-map, contains_nothing}
 use Rattle.flat_rules.specs.flat_state.specs.Events.{flat}
-use Rattle.board_threads.specs.page_views.specs.Views.{all_dated, as_happened, dated, filled, AreKept, Dated, View}
+use Rattle.board_threads.specs.page_views.specs.Views.{all_dated, as_happened, dated, filled, slots_for, AreKept, Dated, View}
 use Rattle.board_threads.specs.run_journal.specs.declared.entries.Entry.{Entry}
 use Rattle.board_threads.specs.run_journal.specs.Entries.{erase}
 use Rattle.board_threads.specs.quantum.specs.Ahead.{begun, happened, more_with, unbegun, Ahead, HasRefilled, HasReordered}
@@ -155,7 +155,7 @@ none_kept j (suc n) o there = elim (Contains-cases None (replicate n None) o the
 ]
 
 pub kept_unbegun : (j : List Entry) (most : ℕ) → AreAllAsOf j (unbegun most)
-kept_unbegun j most o there = none_kept j most o there
+kept_unbegun j most o there = none_kept j (slots_for most) o there
 
 -- ---- a comparison
 

@@ -16,7 +16,7 @@ use Rattle.cache_ident.specs.declared.names.Frame.{Frame}
 use Rattle.cache_ident.specs.declared.names.Vpn.{Vpn}
 use Rattle.phys_groups.specs.declared.rows.Flags.{Flags}
 use Rattle.page_views.specs.Origins.{viewed}
-use Rattle.page_views.specs.Views.{all_dated, as_happened, dated, filled, is_since, is_touched_of, nothing_kept, present_in, table_of, with_filled, AreKept, Dated, IsExchanged, IsKeptSince, IsRefilled, IsReordered, IsSlotSince, HaveOneViewAPage, IsTable, Table, View}
+use Rattle.page_views.specs.Views.{all_dated, as_happened, dated, filled, is_since, is_touched_of, nothing_kept, present_in, slots_for, table_of, with_filled, AreKept, Dated, IsExchanged, IsKeptSince, IsRefilled, IsReordered, IsSlotSince, HaveOneViewAPage, IsTable, Table, View}
 use Rattle.flat_rules.specs.flat_state.proofs.Finding.{find-passes}
 use Rattle.page_views.specs.Lines.{seen_at}
 use Rattle.page_views.proofs.Indexing.{position_seen, view_there}
@@ -47,7 +47,7 @@ none_kept slots i v below none before =
     ∙ sym (replicate_next i None)
 
 -- where no slot keeps anything, nothing is kept
-pub none_of : (most : ℕ) (slots : List View) → map dated slots ≡ replicate (length slots) None → length slots ≡ most → map dated slots ≡ nothing_kept most
+pub none_of : (most : ℕ) (slots : List View) → map dated slots ≡ replicate (length slots) None → length slots ≡ slots_for most → map dated slots ≡ nothing_kept most
 none_of most slots none all = none ∙ ap (λ (n : ℕ). replicate n None) all
 
 -- ---- a slot that becomes a view again
@@ -122,6 +122,7 @@ module _ (count slot : ℕ) (slots mid : List View) (ex : IsExchanged count slot
       record {
         bounded = table.bounded;
         all = size ∙ table.all;
+        few = table.few;
         within = omega (arith, size, within);
         one_a_page = subst HaveOneViewAPage (sym ex.views) table.one_a_page;
       }

@@ -128,6 +128,7 @@ table_changed f same most count xs ys table became =
     record {
       bounded = table.bounded;
       all = omega (arith, size, table.all);
+      few = table.few;
       within = omega (arith, size, table.within);
       one_a_page = subst HaveOneViewAPage (sym (ap (take count) became ∙ first_mapped f count xs table.within)) (one_mapped f same (take count xs) table.one_a_page);
     }
@@ -284,6 +285,7 @@ table_filled most n count xs ys v whole below table room became =
     rw (written_over n xs ys whole size) (record {
       bounded = table.bounded;
       all = omega (arith, size, table.all);
+      few = omega (arith, free_place most count xs v.vpn table room);
       within = omega (arith, size, below);
       one_a_page = subst HaveOneViewAPage (sym (ap (take (count + 1)) became ∙ take_more_set xs count v below))
           (one_filled most (take count xs) v room table.one_a_page);

@@ -1,5 +1,5 @@
 -- Copied pages: what one is, and the pages that a step sees in them.
-use Rattle.std.specs.Prelude.{◌≡◌, ◌≢◌, ℕ, ◌/◌, ◌≤◌, Bool, true, false, ◌&&◌, ◌||◌, ◌==◌, if◌then◌else◌, List, [], ◌∷◌, ◌++◌, map, find, length, take, drop, replicate, slice_get, Contains, Option, Some, None, is_some, nat_le, nat_lt, not}
+use Rattle.std.specs.Prelude.{◌≡◌, ◌≢◌, ℕ, ◌+◌, ◌/◌, ◌≤◌, Bool, true, false, ◌&&◌, ◌||◌, ◌==◌, if◌then◌else◌, List, [], ◌∷◌, ◌++◌, map, find, length, take, drop, replicate, slice_get, Contains, Option, Some, None, is_some, nat_le, nat_lt, not}
 use Rattle.std.specs.Option.{option_map}
 use Rattle.std.specs.List.{AllPairs}
 use Rattle.std.specs.List.Sorted.{IsPermutation}
@@ -129,9 +129,13 @@ rest_of t = (t.most, copies_of t.views, t.kept)
 abbrev pub all_dated : List View → List (Option Dated) → List (Option Dated)
 all_dated vs kept = map dated vs ++ kept
 
--- what is kept in so many places before the first view
+-- how many slots there are for so many views: two more, so that what is gone over again and again may be a little more than the views
+abbrev pub slots_for : ℕ → ℕ
+slots_for most = most + 2
+
+-- what is kept before the first view, where there may be so many
 abbrev pub nothing_kept : ℕ → List (Option Dated)
-nothing_kept most = replicate most None
+nothing_kept most = replicate (slots_for most) None
 
 -- with a view more, in the place behind the others. What was kept there is gone
 abbrev pub with_filled : Table → View → Table
@@ -200,10 +204,11 @@ has_message (v ∷ vs) = v.flags.m || has_message vs
 abbrev pub HaveOneViewAFrame : List View → Type 0
 HaveOneViewAFrame vs = AllPairs (λ a b. a.frame.0 ≢ b.frame.0) vs
 
--- as many slots as there may be views, of which the first so many are these
+-- the slots for as many views as there may be, of which the first so many are these
 pub record IsTable (most : ℕ) (slots : List View) (count : ℕ) : Type 0 where
   pub bounded : most ≤ 64
-  pub all : length slots ≡ most
+  pub all : length slots ≡ slots_for most
+  pub few : count ≤ most
   pub within : count ≤ length slots
   pub one_a_page : HaveOneViewAPage (take count slots)
 

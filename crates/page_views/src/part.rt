@@ -61,9 +61,8 @@ impl Part {
         }
     }
 
-    // The same, by whole lines. It stays a call, so that a store is short.
-    #[cold]
-    #[inline(never)]
+    // The same, by whole lines.
+    #[inline]
     fn widen(&mut self, at: usize, end: usize)
         requires page { end ≤ 4096 }
         requires within { IsWithinPage self.old }

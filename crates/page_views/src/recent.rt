@@ -7,8 +7,8 @@ use cache_ident::Vpn;
 // For so many threads pages are noted. Of threads whose numbers are the same modulo this it is the one that ran last.
 const THREADS: usize = 8;
 
-/// So many pages are noted of a thread. They leave half of the most views to its other pages.
-pub const MOST_RECENT: usize = 32;
+/// So many pages are noted of a thread. They leave three of eight views to its other pages, where there are the most.
+pub const MOST_RECENT: usize = 40;
 
 // The first pages that were touched.
 #[derive(Clone, Copy)]

@@ -9,7 +9,7 @@ ghost use Rattle.rv32_exec.specs.Pages.{size_of};
 ghost use Rattle.page_views.specs.Lines.{seen_at};
 ghost use Rattle.page_views.specs.Origins.{viewed, viewed_beside};
 ghost use Rattle.page_views.specs.Spots.{noted_if};
-ghost use Rattle.page_views.specs.Views.{all_dated, as_happened, can_fill as can_fill_def, can_refill, dated, filled, has_message as has_message_def, is_of_frame, is_of_page, is_since as is_since_def, is_touched_of, mark_view_of, nothing_kept, put_in_view, view_through, where_flagged, with_filled, HaveOneViewAPage, IsExchanged, IsRefilled, IsReordered, IsSlotSince, View};
+ghost use Rattle.page_views.specs.Views.{all_dated, as_happened, can_fill as can_fill_def, can_refill, dated, filled, has_message as has_message_def, is_of_frame, is_of_page, is_since as is_since_def, is_touched_of, mark_view_of, nothing_kept, put_in_view, slots_for, view_through, where_flagged, with_filled, HaveOneViewAPage, IsExchanged, IsRefilled, IsReordered, IsSlotSince, View};
 
 use crate::index::Index;
 use crate::page::{Origin, PageView};
@@ -26,7 +26,11 @@ use std::marker::Model;
 /// How many views there can be.
 pub const MOST_VIEWS: usize = 64;
 
-// A page that wasn't a view while so many were filled isn't gone over any more: four times as many as there are slots.
+// So many slots are there beside those of the views, so that a loop over as many pages as there may be views, its code and its stack are
+// all kept.
+const SPARE_SLOTS: usize = 2;
+
+// A page that wasn't a view while so many were filled isn't gone over any more: some four times as many as there are slots.
 const LONG: u32 = 256;
 
 /// Copied pages, as many as it was made for, no two of one page. A contract sees that number, the list of the views in the order of
@@ -38,7 +42,7 @@ const LONG: u32 = 256;
 /// number modulo 128: then each view may be looked at. So it is at a store once two views are of one frame.
 #[derive(Drop)]
 pub struct PageViews {
-    // As many slots as there may be views, of which the first ones are views. The others keep what they were copied from.
+    // Slots, of which the first ones are views. The others keep what they were copied from.
     views: Vec<PageView>,
     most: usize,
     index: Index,
@@ -74,7 +78,7 @@ impl PageViews {
         ensures { IfOk result (λ table. table ≡ record { most = most; views = []; kept = nothing_kept most }) }
     {
         Ok(PageViews {
-            views: empty_slots(alloc, most)?,
+            views: empty_slots(alloc, most + SPARE_SLOTS)?,
             most,
             slots: LastSlots::none(),
             recent: Recent::none(),
@@ -457,12 +461,12 @@ fn find_of(views: &[PageView], frame: Frame) -> Option<&PageView>
 }
 
 // So many slots that keep nothing.
-fn empty_slots(alloc: Global, most: usize) -> Result<Vec<PageView>, NoMemory>
-    requires { most ≤ MOST_VIEWS }
-    ensures { IfOk result (λ slots. map dated slots.items ≡ replicate most None) }
+fn empty_slots(alloc: Global, count: usize) -> Result<Vec<PageView>, NoMemory>
+    requires { count ≤ slots_for MOST_VIEWS }
+    ensures { IfOk result (λ slots. map dated slots.items ≡ replicate count None) }
 {
-    let mut slots = Vec::with_capacity(alloc, most)?;
-    for _i in 0..most {
+    let mut slots = Vec::with_capacity(alloc, count)?;
+    for _i in 0..count {
         slots.push(PageView::empty(alloc)?)?;
     }
     Ok(slots)

@@ -280,8 +280,9 @@ fn go(context: &mut Context, views: &mut PageViews, from: u32, limit: u32) -> We
     }
 }
 
-// What steps come to, `before` of them and a last one. A step that is missed isn't taken. It is a call, to keep the loop small.
-#[inline(never)]
+// What steps come to, `before` of them and a last one. A step that is missed isn't taken. It is no call, so that what a step that goes on
+// answers is nowhere in memory.
+#[inline(always)]
 fn went_by(before: u32, stepped: Stepped) -> Went
     requires last { stepped ≢ Next }
     requires room { before + 1 < 2 ^ 32 }
