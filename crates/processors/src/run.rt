@@ -64,7 +64,7 @@ fn take_turns<R: Wait, P: Processor + RanLast>(
         let brought = before < port.brought();
         let ran = port.last();
         course.go_on(runner, pace, ran, brought);
-        // Whose thread would store what this one waits for may have none of the system's processors just now.
+        // The processor whose thread stores what this one waits for may have none of the system's own just now.
         if ran.waited {
             thread::yield_now();
         }
