@@ -1,7 +1,7 @@
 -- Identifiers of what is loaded pass the tests of a call, and stand for what they name.
 use Rattle.std.proofs.Common.{◌≡◌, Bool, Option, Some, None, IsSome, refl, sym, ap, ◌∙◌, subst, true}
 use Rattle.std.specs.Prelude.{if◌then◌else◌}
-use Rattle.std.specs.Option.{is_some, option_and_then, option_map, option_or}
+use Rattle.std.specs.Option.{option_and_then, option_map, option_or}
 use Rattle.std.proofs.lemmas.Bool.{eq-eqb}
 use Rattle.cache_ident.specs.declared.idents.Ident.{Ident}
 use Rattle.cache_ident.specs.declared.idents.Kind.{Kind}
@@ -17,11 +17,11 @@ use Rattle.cache_ident.specs.Residents.{Resident, IsResident}
 use Rattle.board_loads.specs.flat_state.specs.Dependence.{owner}
 use Rattle.board_loads.specs.flat_state.specs.Names.{stands}
 use Rattle.board_threads.specs.run_journal.specs.Legal.{is_kind}
+use Rattle.board_threads.specs.run_journal.proofs.KindLemmas.{is_kind-refl}
 use Rattle.board_loads.specs.kernel_cache.specs.Kernels as kernel_rec
 use Rattle.board_loads.specs.kernel_cache.specs.declared.KernelRec.{KernelRec}
 use Rattle.board_loads.specs.space_cache.specs.Spaces as space_rec
 use Rattle.board_loads.specs.space_cache.specs.declared.SpaceRec.{SpaceRec}
-use Rattle.board_loads.specs.thread_cache.specs.declared.ThreadRec.{ThreadRec}
 use Rattle.board_loads.specs.kind_store.specs.Kept as stored
 use Rattle.board_threads.specs.desc_stores.specs.declared.items.Item.{Item}
 use Rattle.board_threads.specs.desc_stores.specs.declared.items.Item.TheVariants as item
@@ -33,7 +33,7 @@ use Rattle.board_threads.specs.store_residents.proofs.ContentLemmas.{resident_co
 use Rattle.board_threads.specs.store_residents.proofs.ResidentLemmas.{live_iff, one_each, resident_kind}
 use Rattle.board_threads.specs.board_ops.specs.declared.refusals.Refused.{Refused}
 use Rattle.board_threads.specs.board_ops.specs.declared.refusals.Refused.TheVariants as why
-use Rattle.board_threads.specs.board_checks.specs.Identifiers.{gone_by, name_as, not_a, not_live, space_as, wrong_kind}
+use Rattle.board_threads.specs.board_checks.specs.Identifiers.{gone_by, not_a, not_live, space_as, wrong_kind}
 use Rattle.board_threads.specs.board_checks.specs.Refusals.{not_declared, not_owned, not_owned_as, not_owner, refusal_of_thread}
 use Rattle.board_threads.specs.board_checks.proofs.IdentifierLemmas.{item_resident, name_is, space_is}
 use Rattle.board_threads.specs.board_checks.proofs.OwnerLemmas.{owner_tested}
@@ -54,12 +54,6 @@ second a b d is = ap (λ (o : Option Refused). option_or a o) is
 pub owns_itself : (kernel : KernelNo) → not_owner kernel kernel ≡ None
 owns_itself kernel = ap (λ (b : Bool). if b then None else Some (why.NotOwner kernel kernel)) (eq-eqb kernel.0 kernel.0 refl)
 
-same_kind : (k : Kind) → is_kind k k ≡ true
-same_kind kind.Kernel = refl
-same_kind kind.Space = refl
-same_kind kind.Thread = refl
-same_kind kind.Mapping = refl
-
 module _ (c : Contents) (one : IsExactlyOne c) where
   -- what is loaded with an identifier has the name under which it is resident
   pub item_named : (ident : Ident) (n : Name) → IsResident (residents_of c) ident n → (it : Item) → item_as c ident ≡ Some it → name_of it ≡ n
@@ -76,7 +70,7 @@ module _ (c : Contents) (one : IsExactlyOne c) where
       let own : ident.kind ≡ of = ap (λ (i : Ident). i.kind) (sym r.2) ∙ resident_kind c one.sound r.0 r.1 ∙ ap kind_of r.3 ∙ its in
       ap (λ (s : Standing). option_or (gone_by ident s) (if is_kind ident.kind of then None else Some (why.WrongKind ident))) live
       ∙ ap (λ (k : Kind). if is_kind k of then None else Some (why.WrongKind ident)) own
-      ∙ ap (λ (b : Bool). if b then None else Some (why.WrongKind ident)) (same_kind of)
+      ∙ ap (λ (b : Bool). if b then None else Some (why.WrongKind ident)) (is_kind-refl of)
 
   -- ---- a kernel and a space
 

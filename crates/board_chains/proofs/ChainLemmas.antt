@@ -19,7 +19,7 @@ use Rattle.cached_machine.specs.flat_laws.proofs.ShortChains.{AreFew}
 use Rattle.cached_machine.specs.flat_laws.proofs.StepChains.{chain_is_few}
 use Rattle.cached_machine.specs.flat_laws.proofs.WholeChains.{chain_is_whole}
 use Rattle.cached_machine.specs.run_journal.specs.Legal.{is_kind}
-use Rattle.cached_machine.specs.store_residents.proofs.SlotLemmas.{kind_is}
+use Rattle.cached_machine.specs.run_journal.proofs.KindLemmas.{kind_is}
 use Rattle.cached_machine.specs.desc_tables.specs.May.{wanted_of}
 use Rattle.board_chains.specs.Chains.{chain_at, chain_found, HasParents, HoldsAllParents, IsFewByKind, IsPart, StartsWith}
 use Rattle.board_chains.specs.Lists.{has, with_also, AreAllOnce}

@@ -24,6 +24,7 @@ use Rattle.board_ops.specs.flat_laws.specs.Counts.{AtMost}
 use Rattle.board_ops.specs.flat_laws.proofs.FarParents.{far_is_there, name_is_few}
 use Rattle.board_ops.specs.flat_laws.proofs.ShortChains.{AreFew}
 use Rattle.desc_tables.specs.run_journal.specs.Legal.{is_kind}
+use Rattle.desc_tables.specs.run_journal.proofs.KindLemmas.{kind_is}
 use Rattle.desc_tables.specs.resident_pairs.specs.Among.{AreParents}
 use Rattle.desc_tables.specs.desc_stores.specs.declared.items.Item.{Item}
 use Rattle.desc_tables.specs.desc_stores.specs.Contents.{item_as, residents_of, Contents}
@@ -34,7 +35,6 @@ use Rattle.desc_tables.specs.shown_state.proofs.DependenceLemmas.{same_parents}
 use Rattle.desc_tables.specs.shown_state.proofs.ContentLemmas.{item_has_name}
 use Rattle.desc_tables.specs.store_residents.proofs.ContentLemmas.{loaded_item, resident_item, shelved_iff}
 use Rattle.desc_tables.specs.store_residents.proofs.ResidentLemmas.{one_each, resident_kind, resident_loaded}
-use Rattle.desc_tables.specs.store_residents.proofs.SlotLemmas.{kind_is}
 use Rattle.desc_tables.specs.desc_parents.specs.Idents.{ident_of, idents_of}
 use Rattle.desc_tables.specs.desc_parents.specs.Seen.{seen}
 use Rattle.desc_tables.specs.desc_parents.proofs.IdentLemmas.{ident_found, ident_none}

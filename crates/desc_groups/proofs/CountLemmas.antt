@@ -12,8 +12,8 @@ use Rattle.cache_ident.specs.Residents.{Resident}
 use Rattle.desc_parents.specs.flat_state.specs.State.{FlatState}
 use Rattle.desc_parents.specs.flat_state.specs.Dependence.{owner}
 use Rattle.desc_parents.specs.run_journal.specs.Legal.{is_kernel, is_kind, locked_by}
+use Rattle.desc_parents.specs.run_journal.proofs.KindLemmas.{is_kind-refl, kind_is}
 use Rattle.desc_parents.specs.kernel_cache.specs.declared.KernelRec.{KernelRec}
-use Rattle.desc_parents.specs.store_residents.proofs.SlotLemmas.{is_kind-refl, kind_is}
 use Rattle.desc_parents.specs.group_laws.specs.Leaving.{lock_of}
 use Rattle.desc_parents.specs.desc_stores.specs.declared.items.Item.TheVariants as item
 use Rattle.desc_parents.specs.desc_stores.specs.Changes.{KeepsContents}

@@ -1,5 +1,5 @@
 -- Who owns what contents show, and to which class it belongs.
-use Rattle.std.proofs.Common.{◌≡◌, ℕ, Bool, true, false, length, List, [], ◌++◌, map, Contains, Option, Some, None, is_some, IsSome, nat_lt, slice_get, refl, sym, ◌∙◌, ap, subst, arith}
+use Rattle.std.proofs.Common.{◌≡◌, ℕ, Bool, true, length, List, [], ◌++◌, map, Contains, Option, Some, None, is_some, IsSome, nat_lt, slice_get, refl, sym, ◌∙◌, ap, subst, arith}
 use Rattle.std.specs.Prelude.{if◌then◌else◌, option_to_list}
 use Rattle.std.proofs.lemmas.Option.{slice_get-get_or, slice_get_within}
 use Rattle.std.proofs.lemmas.Bool.{lt-ltb}

@@ -20,6 +20,7 @@ use Rattle.desc_groups.specs.flat_state.specs.State.{FlatState}
 use Rattle.desc_groups.specs.flat_state.specs.Dependence.{owner}
 use Rattle.desc_groups.specs.flat_state.specs.Declaration.{locks_granted}
 use Rattle.desc_groups.specs.run_journal.specs.Legal.{is_kernel, is_kind, limit_of, limits_in, locked_by}
+use Rattle.desc_groups.specs.run_journal.proofs.KindLemmas.{kind_is}
 use Rattle.desc_groups.specs.desc_stores.specs.declared.items.Item.{Item}
 use Rattle.desc_groups.specs.desc_stores.specs.declared.items.Item.TheVariants as item
 use Rattle.desc_groups.specs.desc_stores.specs.Contents.{content_of, resident_as, residents_of, Contents}
@@ -29,7 +30,6 @@ use Rattle.desc_groups.specs.shown_state.proofs.LookupLemmas.{found_kernel}
 use Rattle.desc_groups.specs.shown_state.proofs.ContentLemmas.{item_has_name}
 use Rattle.desc_groups.specs.store_residents.proofs.ResidentLemmas.{live_iff, one_each, resident_loaded, serials_rise}
 use Rattle.desc_groups.specs.store_residents.proofs.SlotLaws.{are_few}
-use Rattle.desc_groups.specs.store_residents.proofs.SlotLemmas.{kind_is}
 use Rattle.desc_groups.specs.journal_laws.specs.Leaving.{AreApart, HaveOneEach}
 use Rattle.desc_groups.specs.group_laws.specs.Leaving.{lock_of, without_all}
 use Rattle.desc_groups.specs.group_laws.proofs.LockCounts.{lock_is_there, locks_loaded, locks_locked, locks_unlocked}

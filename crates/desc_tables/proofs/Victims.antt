@@ -16,13 +16,13 @@ use Rattle.desc_groups.specs.flat_state.specs.Names.{is_fit_name, stands}
 use Rattle.desc_groups.specs.flat_laws.proofs.ParentLaws.{there_is}
 use Rattle.desc_groups.specs.run_journal.specs.Groups.{HasParents, IsGroup}
 use Rattle.desc_groups.specs.run_journal.specs.Legal.{count_of, is_kind}
+use Rattle.desc_groups.specs.run_journal.proofs.KindLemmas.{is_kind-refl, kind_is}
 use Rattle.desc_groups.specs.desc_stores.specs.Contents.{content_of, residents_of, Contents, IsFullOf, IsLowestFreeOf, NoneMayGoOf}
 use Rattle.desc_groups.specs.shown_state.proofs.LookupLemmas.{name_stands}
 use Rattle.desc_groups.specs.store_residents.specs.Slots.{resident_at}
 use Rattle.desc_groups.specs.store_residents.specs.Victims.{IsOldest}
 use Rattle.desc_groups.specs.store_residents.proofs.ContentLemmas.{shelved_iff}
 use Rattle.desc_groups.specs.store_residents.proofs.SlotLaws.{few, full_at, full_iff, lowest_at, what_is_there}
-use Rattle.desc_groups.specs.store_residents.proofs.SlotLemmas.{is_kind-refl, kind_is}
 use Rattle.desc_groups.specs.store_residents.proofs.VictimLemmas.{locked_or_kept}
 use Rattle.desc_groups.specs.group_laws.specs.Leaving.{without_all}
 use Rattle.desc_groups.specs.group_laws.proofs.Remaining.{without_all_cases}

@@ -1,9 +1,8 @@
 -- Kinds, and kernels with kinds, that compare as equal are one.
-use Rattle.std.proofs.Common.{◌≡◌, ◌≢◌, true, false, refl, ap, ◌∙◌, ◌⊎◌, inl, inr, arith}
+use Rattle.std.proofs.Common.{◌≡◌, ◌≢◌, false, refl, ap, ◌∙◌, ◌⊎◌, inl, inr, arith}
 use Rattle.std.specs.declared.cmp.Ordering.{Ordering}
 use Rattle.std.specs.declared.cmp.Ordering.TheVariants.{Equal}
 use Rattle.std.specs.BTreeMap.{is_at}
-use Rattle.std.proofs.lemmas.Bool.{cases_Bool}
 use Rattle.std.proofs.lemmas.Bool.Decides.{nat_tests}
 use Rattle.std.proofs.lemmas.Cmp.{tied_itself}
 use Rattle.cache_ident.specs.declared.idents.Kind.{Kind}
@@ -13,7 +12,6 @@ use Rattle.cache_ident.specs.contracts.idents.KindOrd.TheImpl as kind_order
 use Rattle.cache_ident.specs.contracts.idents.KindOrd.TheImpl.Laws as kind_laws
 use Rattle.cache_ident.specs.contracts.names.KernelNoOrd.TheImpl as kernel_order
 use Rattle.cache_ident.specs.contracts.names.KernelNoOrd.TheImpl.Laws as kernel_laws
-use Rattle.residents.specs.run_journal.specs.Legal.{is_kind}
 use Rattle.residents.proofs.NameLemmas.{one_or_other, at_other, then_equal}
 use Rattle.journal_tables.specs.Locks.{owned_cmp}
 
@@ -43,37 +41,6 @@ kind_itself a = tied_itself kind_laws.total-law a
 
 pub kind_or : (a b : Kind) → (a ≡ b) ⊎ (a ≢ b)
 kind_or = one_or_other kind_cmp same_kind kind_itself
-
--- what the test of two kinds says
-pub is_kind-refl : (a : Kind) → is_kind a a ≡ true
-is_kind-refl kinds.Kernel = refl
-is_kind-refl kinds.Space = refl
-is_kind-refl kinds.Thread = refl
-is_kind-refl kinds.Mapping = refl
-
-pub kind_is : (a b : Kind) → is_kind a b ≡ true → a ≡ b
-kind_is kinds.Kernel kinds.Kernel is = refl
-kind_is kinds.Kernel kinds.Space is = absurd (cc)
-kind_is kinds.Kernel kinds.Thread is = absurd (cc)
-kind_is kinds.Kernel kinds.Mapping is = absurd (cc)
-kind_is kinds.Space kinds.Kernel is = absurd (cc)
-kind_is kinds.Space kinds.Space is = refl
-kind_is kinds.Space kinds.Thread is = absurd (cc)
-kind_is kinds.Space kinds.Mapping is = absurd (cc)
-kind_is kinds.Thread kinds.Kernel is = absurd (cc)
-kind_is kinds.Thread kinds.Space is = absurd (cc)
-kind_is kinds.Thread kinds.Thread is = refl
-kind_is kinds.Thread kinds.Mapping is = absurd (cc)
-kind_is kinds.Mapping kinds.Kernel is = absurd (cc)
-kind_is kinds.Mapping kinds.Space is = absurd (cc)
-kind_is kinds.Mapping kinds.Thread is = absurd (cc)
-kind_is kinds.Mapping kinds.Mapping is = refl
-
-pub kind_is_not : (a b : Kind) → a ≢ b → is_kind a b ≡ false
-kind_is_not a b other = elim (cases_Bool (is_kind a b)) [
-  | inl is ↦ absurd (other (kind_is a b is))
-  | inr off ↦ off
-]
 
 -- a kernel with a kind
 abbrev Owned : Type 0

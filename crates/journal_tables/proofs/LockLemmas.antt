@@ -11,11 +11,12 @@ use Rattle.cache_ident.specs.Residents.{Resident, with_loaded, without, with_loc
 use Rattle.residents.specs.flat_state.specs.State.{FlatState}
 use Rattle.residents.specs.flat_state.specs.Dependence.{owner}
 use Rattle.residents.specs.run_journal.specs.Legal.{is_kind, is_kernel, locked_by}
+use Rattle.residents.specs.run_journal.proofs.KindLemmas.{is_kind-refl, kind_is}
 use Rattle.journal_tables.specs.declared.locks.Locks.{Locks}
 use Rattle.journal_tables.specs.Locks.{lock_count, Recounts, RecountsFor, RecountsIf}
 use Rattle.journal_rules.specs.journal_laws.specs.Leaving.{AreApart}
 use Rattle.group_laws.proofs.Counting.{one, count-loaded, count-without, count-locked, count-same}
-use Rattle.journal_tables.proofs.KindLemmas.{owned_or, is_kind-refl, kind_is}
+use Rattle.journal_tables.proofs.KindLemmas.{owned_or}
 
 -- the locks are those of what is resident
 abbrev pub AreLocksOf : Locks → FlatState → List Resident → Type 0

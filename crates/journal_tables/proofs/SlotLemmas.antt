@@ -7,13 +7,13 @@ use Rattle.cache_ident.specs.declared.names.Name.{Name}
 use Rattle.cache_ident.specs.Residents.{Resident, with_loaded, without, locked_if, with_lock}
 use Rattle.residents.specs.flat_laws.proofs.Members.{Contains-map, Contains-from_map, contains_nothing}
 use Rattle.residents.specs.run_journal.specs.Legal.{IsTaken, count_of, is_kind}
+use Rattle.residents.specs.run_journal.proofs.KindLemmas.{is_kind-refl, kind_is_not}
 use Rattle.residents.specs.run_journal.proofs.Others.{without_cases, stays_without, locked_keeps}
 use Rattle.residents.specs.declared.slots.Slots.{Slots}
 use Rattle.residents.specs.Slots.{IsCount, IsTakenIn}
 use Rattle.journal_tables.specs.Tables.{AreSlotsOf}
 use Rattle.journal_rules.specs.journal_laws.specs.Leaving.{AreApart}
 use Rattle.group_laws.proofs.Counting.{count-loaded, count-without, count-locked}
-use Rattle.journal_tables.proofs.KindLemmas.{is_kind-refl, kind_is_not}
 
 abbrev of_kind : Kind → Resident → Bool
 of_kind kind r = is_kind r.ident.kind kind

@@ -1,11 +1,10 @@
 -- Why there is room for the pairs of one more.
-use Rattle.std.proofs.Common.{◌≡◌, Bool, true, false, List, [], ◌∷◌, map, filter, Contains, refl, ap, sym, ◌∙◌, subst, inl, inr, arith}
+use Rattle.std.proofs.Common.{◌≡◌, Bool, true, false, List, [], ◌∷◌, map, filter, Contains, ap, sym, ◌∙◌, subst, inl, inr, arith}
 use Rattle.std.proofs.lemmas.List.{length-map}
 use Rattle.std.proofs.lemmas.List.Sums.{length-filter}
 use Rattle.std.proofs.lemmas.List.Elements.{Contains-append_left, Contains-push}
 use Rattle.cache_ident.specs.declared.idents.Ident.{Ident}
 use Rattle.cache_ident.specs.declared.idents.Kind.{Kind}
-use Rattle.cache_ident.specs.declared.idents.Kind.TheVariants as kind
 use Rattle.cache_ident.specs.declared.names.Caps.{Caps}
 use Rattle.cache_ident.specs.declared.names.Name.{Name}
 use Rattle.cache_ident.specs.Residents.{Resident, with_loaded}
@@ -15,14 +14,9 @@ use Rattle.journal_laws.specs.flat_state.specs.State.{FlatState}
 use Rattle.journal_laws.specs.flat_laws.proofs.Members.{Contains-cases, Contains-map}
 use Rattle.journal_laws.specs.run_journal.specs.Groups.{ArePairsOf}
 use Rattle.journal_laws.specs.run_journal.specs.Legal.{is_kind}
+use Rattle.journal_laws.specs.run_journal.proofs.KindLemmas.{is_kind-refl}
 use Rattle.journal_laws.specs.run_journal.proofs.Others.{Contains-from_filter}
 use Rattle.resident_pairs.specs.Among.{AreFew, HasRoomFor, HasNoIdent}
-
-kind_itself : (k : Kind) → is_kind k k ≡ true
-kind_itself kind.Kernel = refl
-kind_itself kind.Space = refl
-kind_itself kind.Thread = refl
-kind_itself kind.Mapping = refl
 
 -- a child of a pair is resident
 child_resident : (s : FlatState) (rs : List Resident) (pairs : List (Ident × Node)) → ArePairsOf s rs pairs → (pair : Ident × Node) → Contains pairs pair → (r : Resident) × Contains rs r × (pair.1.ident ≡ r.ident)
@@ -52,7 +46,7 @@ module _ (caps : Caps) (s : FlatState) (rs : List Resident) (pairs : List (Ident
     idents = map ident_of (filter is_of all)
 
     listed : (r : Resident) → Contains all r → r.ident.kind ≡ of → Contains idents r.ident
-    listed r there same = Contains-map ident_of (filter is_of all) r (Contains-from_filter is_of all r there (ap (λ (k : Kind). is_kind k of) same ∙ kind_itself of))
+    listed r there same = Contains-map ident_of (filter is_of all) r (Contains-from_filter is_of all r there (ap (λ (k : Kind). is_kind k of) same ∙ is_kind-refl of))
 
     each : (pair : Ident × Node) → Contains ((parent, child) ∷ pairs) pair → pair.1.ident.kind ≡ of → Contains idents pair.1.ident
     each pair there same = elim (Contains-cases (parent, child) pairs pair there) [

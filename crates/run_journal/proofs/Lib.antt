@@ -1,4 +1,5 @@
 pub mod Growth
+pub mod KindLemmas
 pub mod Others
 pub mod Standings
 pub mod Sound

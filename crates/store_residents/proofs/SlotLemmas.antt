@@ -1,5 +1,5 @@
 -- How many residents of a kind there are, by their slots.
-use Rattle.std.proofs.Common.{◌≡◌, ◌≢◌, ℕ, ◌<◌, ◌≤◌, Bool, true, eqb, List, ◌∷◌, length, get_or, map, filter, AllPairs, Contains, Decides, sym, ◌∙◌, ap, subst, refl, arith, rules, inl, inr}
+use Rattle.std.proofs.Common.{◌≡◌, ◌≢◌, ℕ, ◌<◌, ◌≤◌, Bool, true, eqb, List, ◌∷◌, length, get_or, map, filter, AllPairs, Contains, Decides, sym, ◌∙◌, ap, subst, arith, inl, inr}
 use Rattle.std.specs.List.{list_any}
 use Rattle.std.proofs.lemmas.Bool.Decides.{Decides-eqb}
 use Rattle.std.proofs.lemmas.List.{get_or-map, length-map}
@@ -10,21 +10,10 @@ use Rattle.std.proofs.lemmas.Map.Made.{is_member-Decides, IsDistinct-from_AllPai
 use Rattle.std.proofs.lemmas.Map.Steps.{le-length_from_below, length-le_from_distinct_below}
 use Rattle.sorted_list.proofs.ListLemmas.{some_item, Contains-cons_cases, Contains-filter, Contains-from_filter, Contains-from_map, Contains-map}
 use Rattle.cache_ident.specs.declared.idents.Kind.{Kind}
-use Rattle.cache_ident.specs.declared.idents.Kind.TheVariants as kinds
-use Rattle.cache_ident.specs.contracts.idents.Kind.{the_type}
 use Rattle.cache_ident.specs.Residents.{Resident}
 use Rattle.resident_pairs.specs.run_journal.specs.Legal.{count_of, is_kind, IsTaken}
+use Rattle.resident_pairs.specs.run_journal.proofs.KindLemmas.{is_kind-refl, kind_is}
 use Rattle.store_residents.proofs.RollLemmas.{IsRising}
-use denote.Enum.Bare.{same_true}
-
-pub is_kind-refl : (a : Kind) → is_kind a a ≡ true
-is_kind-refl kinds.Kernel = refl
-is_kind-refl kinds.Space = refl
-is_kind-refl kinds.Thread = refl
-is_kind-refl kinds.Mapping = refl
-
-pub kind_is : (a b : Kind) → is_kind a b ≡ true → a ≡ b
-kind_is a b is = same_true the_type (search rules) a b is
 
 -- numbers of which no two are equal
 abbrev AreApart : List ℕ → Type 0

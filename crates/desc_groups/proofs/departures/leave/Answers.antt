@@ -1,4 +1,4 @@
-use Rattle.std.proofs.Common.{vec_capacity, vec_len, ◌≡◌, ◌<◌, Bool, true, cond, List, [], ◌∷◌, ◌++◌, length, Some, is_ok, slice_get, refl, sym, ◌∙◌, ap, subst, arith}
+use Rattle.std.proofs.Common.{◌≡◌, Bool, true, cond, List, [], ◌∷◌, ◌++◌, length, Some, slice_get, refl, sym, ◌∙◌, ap, subst, arith}
 use Rattle.cache_ident.specs.declared.idents.Cause.{Cause}
 use Rattle.cache_ident.specs.declared.idents.Cause.TheVariants.{Dependent}
 use Rattle.cache_ident.specs.declared.idents.Ident.{Ident}

@@ -1,4 +1,4 @@
-use Rattle.std.proofs.Common.{◌≡◌, ◌≢◌, List, AllPairs, sym, ap, subst}
+use Rattle.std.proofs.Common.{◌≢◌, List, AllPairs, sym, ap, subst}
 use Rattle.cache_ident.specs.declared.idents.Ident.{Ident}
 use Rattle.cache_ident.specs.declared.names.Caps.{Caps}
 use Rattle.cache_ident.specs.Residents.{with_loaded, Resident}

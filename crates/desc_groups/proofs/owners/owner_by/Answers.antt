@@ -1,4 +1,4 @@
-use Rattle.std.proofs.Common.{◌≡◌, ◌∙◌, ap, sym, Option, Some, None, IsSome, subst}
+use Rattle.std.proofs.Common.{◌≡◌, ◌∙◌, ap, sym, Option, None, IsSome, subst}
 use Rattle.cache_ident.specs.declared.names.KernelNo.{KernelNo}
 use Rattle.desc_parents.specs.flat_state.specs.Dependence.{owner}
 use Rattle.desc_parents.specs.desc_stores.specs.Contents.{residents_of}

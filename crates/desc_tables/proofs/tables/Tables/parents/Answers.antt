@@ -1,8 +1,7 @@
-use Rattle.std.proofs.Common.{◌≡◌, List, Some, None, sym, ◌∙◌, subst}
-use Rattle.cache_ident.specs.declared.idents.Ident.{Ident}
+use Rattle.std.proofs.Common.{◌≡◌, Some, sym, subst}
 use Rattle.cache_ident.specs.declared.names.Name.{Name}
 use Rattle.desc_groups.specs.desc_stores.specs.Contents.{content_of, residents_of}
-use Rattle.desc_groups.specs.desc_stores.specs.Items.{name_of, shown}
+use Rattle.desc_groups.specs.desc_stores.specs.Items.{shown}
 use Rattle.desc_groups.specs.desc_parents.specs.Seen.{seen}
 use Rattle.desc_groups.specs.desc_parents.proofs.ParentLemmas.{are_of_none}
 use Rattle.desc_groups.specs.resident_pairs.specs.Among.{AreParents}

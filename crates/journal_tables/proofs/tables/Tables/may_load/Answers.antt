@@ -2,7 +2,7 @@ use Rattle.std.proofs.Common.{◌≡◌, false, refl, sym, ◌∙◌, arith}
 use Rattle.std.proofs.lemmas.Bool.{false≢true, not-false}
 use Rattle.cache_ident.specs.Names.{kind_of}
 use Rattle.residents.specs.run_journal.specs.Legal.{is_kind}
-use Rattle.journal_tables.proofs.KindLemmas.{kind_is}
+use Rattle.residents.specs.run_journal.proofs.KindLemmas.{kind_is}
 use Rattle.journal_tables.proofs.TableLemmas.{good_of, lowest_of, may_load_of}
 use Rattle.journal_tables.proofs.tables.Tables.may_load.Goals as goal
 
