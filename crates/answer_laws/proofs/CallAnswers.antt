@@ -1,6 +1,6 @@
 -- What a completion and a confirmed fault are answered whose identifiers are live and of their kinds.
-use Rattle.std.proofs.Common.{◌≡◌, ◌<◌, ◌-◌, ℕ, Bool, true, false, not, List, [], Option, Some, None, slice_get, refl, sym, ap, ◌∙◌, subst, arith}
-use Rattle.std.specs.Prelude.{if◌then◌else◌, ◌&&◌, nat_lt}
+use Rattle.std.proofs.Common.{◌≡◌, ◌<◌, ◌-◌, ℕ, Bool, true, false, not, List, [], Option, Some, None, slice_get, refl, sym, ap, ◌∙◌, arith}
+use Rattle.std.specs.Prelude.{if◌then◌else◌, ◌&&◌}
 use Rattle.std.specs.Option.{option_and_then, option_map, option_or}
 use Rattle.std.proofs.lemmas.Bool.{le-ltb}
 use Rattle.std.proofs.lemmas.Option.{same_Some}
@@ -18,7 +18,7 @@ use Rattle.board_loads.specs.flat_state.specs.declared.records.NextStep.{NextSte
 use Rattle.board_loads.specs.flat_state.specs.Call.{has_nothing_to_take, is_completable}
 use Rattle.board_loads.specs.flat_state.specs.Dependence.{owner, owner_of_thread}
 use Rattle.board_loads.specs.flat_state.specs.NextSteps.{data_row, faults, fetch_row, next_step_if, next_step_of}
-use Rattle.board_loads.specs.flat_state.specs.State.{FlatState, is_ready, is_trapped}
+use Rattle.board_loads.specs.flat_state.specs.State.{is_ready, is_trapped}
 use Rattle.board_threads.specs.run_journal.specs.Legal.{IsRowResident}
 use Rattle.board_loads.specs.thread_cache.specs.declared.ThreadRec.{ThreadRec}
 use Rattle.board_threads.specs.desc_stores.specs.declared.items.Item.TheVariants as item
@@ -29,16 +29,16 @@ use Rattle.board_threads.specs.shown_state.specs.Shown.{flat_thread, shown, thre
 use Rattle.board_threads.specs.shown_state.proofs.LookupLemmas.{found_thread}
 use Rattle.board_threads.specs.board_ops.specs.declared.refusals.Refused.{Refused}
 use Rattle.board_threads.specs.board_ops.specs.declared.refusals.Refused.TheVariants as why
-use Rattle.board_threads.specs.cached_machine.specs.Cached.{is_loaded, state_of}
+use Rattle.board_threads.specs.cached_machine.specs.Cached.{state_of}
 use Rattle.board_threads.specs.cached_machine.specs.Posts.{mark_of}
 use Rattle.board_threads.specs.board_core.specs.Core.{contents_of, Recorded}
-use Rattle.board_threads.specs.board_core.specs.Refusals.{not_ready, not_waiting, over}
+use Rattle.board_threads.specs.board_core.specs.Refusals.{not_waiting, over}
 use Rattle.board_threads.specs.board_checks.specs.Identifiers.{not_a, thread_as}
-use Rattle.board_threads.specs.board_checks.specs.Refusals.{not_completable, not_owned_as, not_owner, not_trapped, refusal_of_complete, refusal_of_thread, wait_empty}
-use Rattle.board_threads.specs.board_checks.proofs.IdentifierLemmas.{call_tested, name_is, thread_is}
-use Rattle.board_threads.specs.Refusals.{mapped_by, not_faulting, refusal_of_ending, refusal_of_fault, refusal_of_next, row_absent}
+use Rattle.board_threads.specs.board_checks.specs.Refusals.{not_completable, not_owned_as, not_owner, not_trapped, refusal_of_complete, wait_empty}
+use Rattle.board_threads.specs.board_checks.proofs.IdentifierLemmas.{call_tested, thread_is}
+use Rattle.board_threads.specs.Refusals.{mapped_by, refusal_of_ending, refusal_of_fault, refusal_of_next, row_absent}
 use Rattle.board_threads.proofs.IdentLemmas.{content_named, loaded_if, record_named}
-use Rattle.answer_laws.proofs.Passing.{first, item_named, owned, owns_itself, passes, second, skip, thread_tested}
+use Rattle.answer_laws.proofs.Passing.{first, item_named, owns_itself, second, skip, thread_tested}
 
 or_or : (a b d e : Option Refused) → option_or (option_or a (option_or b d)) e ≡ option_or a (option_or b (option_or d e))
 or_or None None d e = refl

@@ -1,7 +1,7 @@
 -- What a load is answered whose identifiers are live and of their kinds.
 use Rattle.std.proofs.Common.{◌≡◌, ◌/◌, Bool, true, false, List, [], length, Contains, Option, Some, None, is_some, slice_get, refl, sym, ap, ◌∙◌, subst}
 use Rattle.std.specs.Prelude.{if◌then◌else◌, ◌==◌, ◌&&◌, find, filter, is_none}
-use Rattle.std.specs.Option.{option_and_then, option_eq, option_map, option_or}
+use Rattle.std.specs.Option.{option_and_then, option_map, option_or}
 use Rattle.std.proofs.lemmas.Bool.{and_parts, eq-eqb, eqb-true, lt-ltb}
 use Rattle.std.proofs.lemmas.Option.{same_Some, slice_get_within}
 use Rattle.cache_ident.specs.declared.idents.Ident.{Ident}

@@ -1,5 +1,5 @@
 -- Whom a turn finds while a board is running.
-use Rattle.std.proofs.Common.{◌≡◌, ◌≢◌, ◌<◌, ◌≤◌, ℕ, Bool, true, false, not, List, Option, Some, None, slice_get, refl, ap, sym, ◌∙◌, subst, inl, inr, arith}
+use Rattle.std.proofs.Common.{◌≡◌, ◌≢◌, ◌<◌, ◌≤◌, ℕ, Bool, true, false, not, List, Some, None, slice_get, refl, ap, ◌∙◌, inl, inr, arith}
 use Rattle.std.proofs.lemmas.Bool.{cases_Bool}
 use Rattle.std.specs.Prelude.{◌&&◌}
 use Rattle.std.specs.List.{list_all, list_any}
@@ -8,7 +8,6 @@ use Rattle.std.proofs.lemmas.Option.{slice_get-get_or}
 use Rattle.cache_ident.specs.declared.names.Name.TheVariants as name
 use Rattle.cache_ident.specs.declared.names.ThreadNo.{ThreadNo}
 use Rattle.board_loads.specs.flat_state.specs.declared.records.FlatThread.{FlatThread}
-use Rattle.board_loads.specs.flat_state.specs.declared.records.Settled.{Settled}
 use Rattle.board_loads.specs.flat_state.specs.declared.records.Settled.TheVariants.{Done, Stalled, Spent, Running}
 use Rattle.board_loads.specs.flat_state.specs.Call.{is_completable}
 use Rattle.board_loads.specs.flat_state.specs.Settling.{settled_of}
@@ -20,7 +19,7 @@ use Rattle.board_threads.specs.desc_stores.specs.Contents.{residents_of}
 use Rattle.board_threads.specs.cached_machine.specs.Cached.{is_loaded, state_of}
 use Rattle.board_threads.specs.cached_machine.specs.Posts.{last_of, mark_of}
 use Rattle.board_threads.specs.cached_machine.proofs.LoadedLaws.{loaded_by}
-use Rattle.board_threads.specs.Tests.{completes, goes_on, passes, wants_load, IsWanted}
+use Rattle.board_threads.specs.Tests.{completes, goes_on, passes, IsWanted}
 use Rattle.board_threads.specs.Waiting.{IsWaiting}
 use Rattle.board_threads.proofs.SettleLemmas.{all_done, all_stalled, runnable_spent}
 

@@ -11,7 +11,6 @@ use Rattle.cache_ident.specs.declared.names.SpaceNo.{SpaceNo}
 use Rattle.cache_ident.specs.declared.names.ThreadNo.{ThreadNo}
 use Rattle.cache_ident.specs.declared.names.Vpn.{Vpn}
 use Rattle.cache_ident.specs.Residents.{IsResident}
-use Rattle.phys_groups.specs.declared.rows.Row.{Row}
 use Rattle.phys_groups.specs.Translation.{row_of}
 use Rattle.owners.specs.flat_state.specs.State.{FlatState}
 use Rattle.page_laws.specs.board_ops.specs.declared.refusals.Refused.{Refused}
@@ -22,12 +21,12 @@ use Rattle.page_laws.specs.board_core.specs.Core.{contents_of, Recorded}
 use Rattle.page_laws.specs.board_core.specs.Growth.{IsRoomMade}
 use Rattle.page_laws.specs.board_checks.specs.Refusals.{refusal_of_load_mapping}
 use Rattle.page_laws.specs.board_loads.specs.Loads.{IsLoadedAs}
-use Rattle.owners.specs.Known.{ident_of, receiver_of, IsNoted, Known}
-use Rattle.owner_ports.specs.Boards.{IsRoomyCall, OnTold}
+use Rattle.owners.specs.Known.{ident_of, receiver_of, Known}
+use Rattle.owner_ports.specs.Boards.{OnTold}
 use Rattle.page_laws.proofs.Kept.{keeps_further, keeps_room}
 use Rattle.page_laws.proofs.Filled.{nothing_noted, reached_after_row}
 use Rattle.page_laws.specs.answer_laws.specs.Given.{IsGiven}
-use Rattle.page_laws.specs.reach_laws.specs.Filling.{IsElse, IsFillable, IsNothingToLoad, IsUnfillable}
+use Rattle.page_laws.specs.reach_laws.specs.Filling.{IsFillable, IsNothingToLoad, IsUnfillable}
 use Rattle.page_laws.specs.reach_laws.specs.Reaching.{kernel_ident, loaded_as, IsGot, IsLoadAnswer, IsOwned, IsReached}
 use Rattle.page_laws.specs.reach_laws.proofs.Filling.{another_told, noted_loads, noted_waits, nothing_told, right_or_told, row_filled, IsAnother, IsRight}
 use Rattle.page_laws.specs.reach_laws.proofs.Keeping.{live_still}
@@ -35,7 +34,7 @@ use Rattle.page_laws.specs.reach_laws.proofs.Owning.{reached_noted, receiver_kno
 use Rattle.page_laws.specs.reach_laws.proofs.Telling.{space_noted, told_loaded}
 use Rattle.app_kernel.specs.declared.walk.Trust.{Trust}
 use Rattle.app_kernel.specs.declared.walk.Trust.TheVariants.{Nothing}
-use Rattle.app_kernel.specs.Pages.{AreGentle, AskFills, AskIsVain, IsAnotherTold, IsAnswered, IsAskedInVain, IsAskedToFill, IsBelieved, IsFilling, IsGentle, IsReceiverGot, IsRefusedSo}
+use Rattle.app_kernel.specs.Pages.{AreGentle, AskFills, AskIsVain, IsAnotherTold, IsAnswered, IsBelieved, IsFilling, IsGentle, IsReceiverGot, IsRefusedSo}
 use Rattle.app_kernel.specs.Walks.{AreWalked, IsHad, IsNotedSo, IsThreadGot, IsTurnedAway, IsWalked, ThreadReaches}
 use Rattle.app_kernel.proofs.Changes.{told_both, told_from, told_here, told_once, told_twice}
 use Rattle.app_kernel.proofs.GentleLaws.{fillable_gentle, gentle_further, gentle_on, unfillable_gentle}

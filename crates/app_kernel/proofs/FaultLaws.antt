@@ -1,6 +1,6 @@
 -- What comes of faults: a row is loaded, or the fault is confirmed.
-use Rattle.std.proofs.Common.{◌≡◌, ◌⊎◌, ℕ, ◌+◌, List, [], ◌∷◌, ◌++◌, Option, Some, None, true, false, slice_get, refl, sym, ap, ◌∙◌, subst, inl, inr}
-use Rattle.std.specs.Prelude.{Result, Ok, Err, IfOk, IsSome}
+use Rattle.std.proofs.Common.{◌≡◌, ℕ, ◌+◌, List, [], ◌∷◌, ◌++◌, Option, Some, None, true, false, slice_get, refl, sym, ap, ◌∙◌, subst, inl, inr}
+use Rattle.std.specs.Prelude.{Result, Ok, Err, IsSome}
 use Rattle.std.specs.Option.{option_map}
 use Rattle.std.proofs.lemmas.Option.{same_Some}
 use Rattle.cache_ident.specs.declared.idents.Ident.{Ident}
@@ -41,7 +41,7 @@ use Rattle.app_kernel.specs.declared.serving.Served.{Served}
 use Rattle.app_kernel.specs.declared.serving.Served.TheVariants as served
 use Rattle.app_kernel.specs.declared.walk.Trust.{Trust}
 use Rattle.app_kernel.specs.declared.walk.Trust.TheVariants.{Nothing}
-use Rattle.app_kernel.specs.Pages.{AreGentle, Confirms, Fills, IsConfirmed, IsConfirmedOr, IsConfirmedUnless, IsFaulted, IsFaultTaken, IsFilledBy, IsFilledOr, IsFilledUnless, IsGentle, IsWanting, RowFills, RowIsVain, TryConfirms, TryFills, WalkConfirms, WalkFills}
+use Rattle.app_kernel.specs.Pages.{AreGentle, Confirms, Fills, IsConfirmedOr, IsConfirmedUnless, IsFaulted, IsFaultTaken, IsFilledOr, IsFilledUnless, IsGentle, IsWanting, RowFills, RowIsVain, TryConfirms, TryFills, WalkConfirms, WalkFills}
 use Rattle.app_kernel.specs.Walks.{AreWalked, Finds, IsFound, IsHad, IsThreadGot, IsThreadReached, IsWalked, ThreadReaches}
 use Rattle.app_kernel.proofs.AskLaws.{Asked}
 use Rattle.app_kernel.proofs.Changes.{told_both, told_from, told_once, told_twice}

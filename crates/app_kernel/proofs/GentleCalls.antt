@@ -9,7 +9,6 @@ use Rattle.cache_ident.specs.declared.names.SpaceNo.{SpaceNo}
 use Rattle.cache_ident.specs.declared.names.ThreadNo.{ThreadNo}
 use Rattle.owners.specs.run_journal.specs.Legal.{first_ident}
 use Rattle.page_laws.specs.board_ops.specs.declared.refusals.Refused.{Refused}
-use Rattle.page_laws.specs.board_ops.specs.declared.refusals.Refused.TheVariants as why
 use Rattle.page_laws.specs.cached_machine.specs.Cached.{state_of}
 use Rattle.page_laws.specs.cached_machine.specs.Posts.{mark_of}
 use Rattle.page_laws.specs.board_core.specs.Core.{contents_of, Recorded}

@@ -1,13 +1,12 @@
 -- What gentle walks leave, one behind another.
 use Rattle.std.proofs.Common.{◌≡◌, ℕ, ◌<◌, Option, Some, None, slice_get, refl, sym, ap, ◌∙◌, subst}
-use Rattle.std.specs.Prelude.{Err, Result}
+use Rattle.std.specs.Prelude.{Err}
 use Rattle.cache_ident.specs.declared.names.SpaceNo.{SpaceNo}
 use Rattle.cache_ident.specs.declared.names.ThreadNo.{ThreadNo}
 use Rattle.cache_ident.specs.declared.names.Vpn.{Vpn}
 use Rattle.owners.specs.flat_state.specs.NextSteps.{faults, fetch_row}
 use Rattle.owners.specs.flat_state.specs.State.{FlatState}
 use Rattle.page_laws.specs.board_ops.specs.declared.refusals.Refused.{Refused}
-use Rattle.page_laws.specs.cached_machine.specs.Cached.{state_of}
 use Rattle.page_laws.specs.cached_machine.specs.Posts.{mark_of}
 use Rattle.page_laws.specs.board_core.specs.Core.{contents_of, Recorded}
 use Rattle.owner_ports.specs.Boards.{IsCall}

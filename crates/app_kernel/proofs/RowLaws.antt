@@ -1,6 +1,6 @@
 -- What comes of asking for a row, once more with the receiver that was told, and where no signal row was missing.
 use Rattle.std.proofs.Common.{◌≡◌, ◌⊎◌, Option, Some, None, refl, sym, ap, ◌∙◌, subst, inl, inr}
-use Rattle.std.specs.Prelude.{Result, Ok, Err, IfOk}
+use Rattle.std.specs.Prelude.{Result, Ok, Err}
 use Rattle.std.specs.Option.{option_map}
 use Rattle.std.proofs.lemmas.Option.{same_Some}
 use Rattle.cache_ident.specs.declared.idents.Ident.{Ident}
@@ -10,16 +10,14 @@ use Rattle.cache_ident.specs.declared.names.SpaceNo.{SpaceNo}
 use Rattle.cache_ident.specs.declared.names.ThreadNo.{ThreadNo}
 use Rattle.cache_ident.specs.declared.names.Vpn.{Vpn}
 use Rattle.phys_groups.specs.declared.rows.Row.{Row}
-use Rattle.phys_groups.specs.Translation.{row_of}
 use Rattle.page_laws.specs.board_ops.specs.declared.refusals.Refused.{Refused}
 use Rattle.page_laws.specs.board_ops.specs.declared.refusals.Refused.TheVariants as why
-use Rattle.page_laws.specs.cached_machine.specs.Cached.{state_of}
 use Rattle.page_laws.specs.board_core.specs.Core.{Recorded}
 use Rattle.owner_ports.specs.Boards.{OnTold}
-use Rattle.owners.specs.Known.{receiver_of, IsReceiverLearnt, Known}
+use Rattle.owners.specs.Known.{IsReceiverLearnt, Known}
 use Rattle.page_laws.specs.owner_laws.specs.Passing.{thread_named}
 use Rattle.page_laws.specs.reach_laws.specs.Filling.{IsNothingToLoad}
-use Rattle.page_laws.specs.reach_laws.specs.Reaching.{IsOwned, IsReached}
+use Rattle.page_laws.specs.reach_laws.specs.Reaching.{IsReached}
 use Rattle.page_laws.specs.reach_laws.proofs.Owning.{reached_learnt}
 use Rattle.app_kernel.specs.declared.walk.Trust.{Trust}
 use Rattle.app_kernel.specs.Pages.{AskFills, AskIsVain, IsAnotherTold, IsAnswered, IsBelieved, IsFilledIn, IsFilling, IsNoneMissing, IsPassedOn, IsRefusedSo, IsVain, RowFills, RowIsVain}

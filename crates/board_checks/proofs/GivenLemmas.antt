@@ -5,7 +5,6 @@ use Rattle.std.specs.Option.{option_and_then, option_map}
 use Rattle.std.proofs.lemmas.Option.{same_Some}
 use Rattle.board_ops.specs.flat_laws.proofs.Members.{contains_nothing, Contains-cases, Contains-here, Contains-behind, Contains-option_map, Contains-some}
 use Rattle.cache_ident.specs.declared.idents.Ident.{Ident}
-use Rattle.cache_ident.specs.declared.idents.Kind.{Kind}
 use Rattle.cache_ident.specs.declared.idents.Kind.TheVariants as kind
 use Rattle.cache_ident.specs.declared.names.KernelNo.{KernelNo}
 use Rattle.cache_ident.specs.declared.names.SpaceNo.{SpaceNo}
@@ -42,7 +41,7 @@ use Rattle.desc_tables.specs.desc_groups.proofs.OwnerLemmas.{owner_as_item}
 use Rattle.desc_tables.specs.Keeps.{KeepsParentsAs, KeepsParentsOf}
 use Rattle.board_ops.specs.declared.refusals.Refused.TheVariants as why
 use Rattle.board_checks.specs.Facts.{IsFormed, IsLoadable}
-use Rattle.board_checks.specs.Keeps.{IsAbove, IsKept, IsLoadableBeside}
+use Rattle.board_checks.specs.Keeps.{IsAbove, IsLoadableBeside}
 use Rattle.board_checks.specs.Refusals.{beyond_rights, not_declared, not_owned, not_owner}
 use Rattle.board_checks.proofs.FitLemmas.{rights_tested}
 use Rattle.board_checks.proofs.IdentifierLemmas.{item_kind, item_resident}

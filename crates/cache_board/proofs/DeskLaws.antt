@@ -4,7 +4,6 @@ use Rattle.std.proofs.lemmas.Option.{same_Some, slice_get_read}
 use Rattle.cache_ident.specs.declared.names.Vpn.{Vpn}
 use Rattle.flat_state.proofs.Places.{push_cases, set_cases}
 use Rattle.run_journal.specs.declared.entries.Entry.{Entry}
-use Rattle.board_core.specs.page_views.specs.Views.{copies_of}
 use Rattle.board_core.specs.quantum.specs.Ahead.{begun, unbegun, Ahead}
 use Rattle.board_core.specs.board_ops.specs.declared.answers.Answer.{Answer}
 use Rattle.board_core.specs.board_ops.specs.declared.answers.Answer.TheVariants as answers

@@ -15,7 +15,6 @@ use Rattle.flat_state.specs.declared.events.Decl.{Decl}
 use Rattle.flat_state.specs.State.{FlatState}
 use Rattle.run_journal.specs.declared.entries.Entry.{Entry}
 use Rattle.run_journal.specs.declared.entries.Entry.TheVariants.{Completed, Declared, Ended, Loaded, Locked, Sealed}
-use Rattle.run_journal.specs.Entries.{maker_of}
 use Rattle.run_journal.specs.Legal.{first_ident}
 use Rattle.turn_lock.specs.Lists.{AllMadeBy, IsContinuedBy}
 use Rattle.turn_lock.proofs.Lists.{all_append}
@@ -26,10 +25,10 @@ use Rattle.board_core.specs.desc_groups.specs.Moves.{gone_as}
 use Rattle.board_core.specs.desc_tables.specs.Tables.{Held}
 use Rattle.board_core.specs.quantum.specs.Ahead.{Ahead}
 use Rattle.board_core.specs.board_laws.specs.Moves.{written_back}
-use Rattle.board_core.specs.cached_machine.specs.Cached.{state_of, Cached}
+use Rattle.board_core.specs.cached_machine.specs.Cached.{Cached}
 use Rattle.board_core.specs.cached_machine.specs.Posts.{OnlyPosts}
 use Rattle.board_core.specs.Answers.{IsRefused}
-use Rattle.board_core.specs.Core.{contents_of, IsSound, Recorded}
+use Rattle.board_core.specs.Core.{IsSound, Recorded}
 use Rattle.board_core.specs.Going.{AreMadeBy, GoesOn, Grew, IsOneEvent}
 use Rattle.board_core.specs.Growth.{entries_of_run, entry_of_step, GrowsBy, IsRoomMade}
 use Rattle.board_core.proofs.AheadLaws.{same_posted}

@@ -1,6 +1,6 @@
 -- What a pass that has seen a board's past knows of the board.
 use Rattle.std.proofs.Common.{◌≡◌, ◌<◌, ◌≤◌, ◌||◌, ℕ, Bool, true, false, List, [], ◌∷◌, ◌++◌, map, Contains, append_assoc, append-nil, refl, ap, sym, ◌∙◌, subst, arith}
-use Rattle.std.specs.List.{list_any, AllByRecursion}
+use Rattle.std.specs.List.{list_any}
 use Rattle.std.proofs.lemmas.List.{map-append}
 use Rattle.std.proofs.lemmas.List.Elements.{Contains-append_left}
 use Rattle.std.proofs.lemmas.List.Folds.{list_any-append}
@@ -11,7 +11,7 @@ use Rattle.run_journal.specs.flat_laws.proofs.Members.{Contains-from_map, Contai
 use Rattle.run_journal.specs.declared.entries.Entry.{Entry}
 use Rattle.run_journal.specs.Entries.{erase}
 use Rattle.run_journal.specs.Legal.{AreLegal}
-use Rattle.run_journal.specs.Told.{is_seal, nothing_told, residents, told, told_after, Anything, Due, Opening, Told}
+use Rattle.run_journal.specs.Told.{is_seal, nothing_told, residents, told, told_after, Anything, Opening, Told}
 use Rattle.run_journal.proofs.Growth.{residents_told_from, sealed_from}
 use Rattle.run_journal.proofs.LegalGrowth.{state_told}
 use Rattle.turn_lock.specs.Lists.{numbers, AllMadeBelow, IsContinuedBy}

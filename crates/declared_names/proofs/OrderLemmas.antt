@@ -1,5 +1,5 @@
 -- What a name leaves that comes or goes.
-use Rattle.std.proofs.Common.{◌≡◌, ◌≢◌, ◌↔◌, ℕ, zero, suc, ◌+◌, ◌-◌, ◌<◌, ◌≤◌, ◌^◌, Bool, true, false, not, cond, List, [], ◌∷◌, ◌++◌, length, get_or, map, filter, All, AllPairs, Contains, Option, Some, None, sym, ◌∙◌, ap, subst, inl, inr, refl, arith, lit<}
+use Rattle.std.proofs.Common.{◌≡◌, ◌≢◌, ℕ, zero, suc, ◌+◌, ◌-◌, ◌<◌, ◌≤◌, ◌^◌, true, false, not, List, [], ◌∷◌, ◌++◌, length, get_or, map, All, AllPairs, Contains, None, sym, ◌∙◌, ap, inl, inr, refl, arith, lit<}
 use Rattle.std.specs.declared.cmp.Ordering.{Ordering}
 use Rattle.std.specs.declared.cmp.Ordering.TheVariants.{Less, Equal}
 use Rattle.std.specs.List.{remove}
@@ -22,7 +22,7 @@ use Rattle.sorted_list.proofs.RisingLemmas.{by_parts_total, filter_all}
 use Rattle.sorted_list.proofs.UnderLemmas.{after_added, after_taken}
 use Rattle.growing_list.specs.Index.{IsIndex}
 use Rattle.growing_list.proofs.EndLemmas.{added_last}
-use Rattle.owner_shelf.proofs.NameLemmas.{entry_absent, eq_apart, eq_same, found_name, names_added, names_taken, no_name}
+use Rattle.owner_shelf.proofs.NameLemmas.{entry_absent, eq_apart, eq_same, names_added, names_taken, no_name}
 use Rattle.declared_names.specs.Order.{entries_without, is_of, AreInOrder}
 use Rattle.declared_names.specs.Layout.{IsSound}
 

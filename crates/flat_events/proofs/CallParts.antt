@@ -1,21 +1,17 @@
 -- What a declaration leaves of a thread that makes it, and which rules it may break.
-use Rattle.std.proofs.Common.{◌≡◌, ℕ, ◌<◌, Bool, true, false, not, List, [], ◌∷◌, filter, length, Option, Some, None, slice_get, refl, ap, subst, ◌∙◌, arith}
-use Rattle.std.specs.Prelude.{◌&&◌, ◌||◌, ◌==◌, nat_lt, is_some, find, if◌then◌else◌}
+use Rattle.std.proofs.Common.{◌≡◌, ℕ, ◌<◌, Bool, true, false, [], length, Option, Some, None, slice_get, refl, subst, arith}
+use Rattle.std.specs.Prelude.{◌&&◌, nat_lt, if◌then◌else◌}
 use Rattle.std.proofs.lemmas.Bool.{and_parts, ltb-true}
 use Rattle.std.proofs.lemmas.List.{length_push}
 use Rattle.std.proofs.lemmas.Option.{same_Some}
-use Rattle.cache_ident.specs.declared.names.SpaceNo.{SpaceNo}
-use Rattle.phys_groups.specs.declared.rows.Row.{Row}
-use Rattle.phys_groups.specs.Translation.{is_row_of, row_of, without}
 use Rattle.flat_state.specs.declared.events.Decl.{Decl}
 use Rattle.flat_state.specs.declared.events.Decl.TheVariants as decls
 use Rattle.flat_state.specs.declared.events.Machine.{Machine}
 use Rattle.flat_state.specs.declared.records.FlatThread.{FlatThread}
-use Rattle.flat_state.specs.State.{FlatState, with_thread}
+use Rattle.flat_state.specs.State.{FlatState}
 use Rattle.flat_state.specs.Declaration.{breaks, broken_rule, declared, has_no_flag, new_thread, rule_by_machine, rule_of_first, rule_of_other}
-use Rattle.flat_state.specs.Call.{answered, made, mapped, mapping, refusal, unmapped}
 use Rattle.flat_state.proofs.Places.{get-append}
-use Rattle.flat_events.specs.Readings.{IsRule, rule_if_formed}
+use Rattle.flat_events.specs.Readings.{IsRule}
 
 -- a declaration leaves each thread in its place
 pub thread_stays : (s : FlatState) (d : Decl) (n : ℕ) (t : FlatThread) → slice_get s.threads n ≡ Some t → slice_get (declared s d).threads n ≡ Some t

@@ -41,7 +41,7 @@ plain_row true false true receives agrees is = absurd (cc)
 plain_row true true true receives agrees is = absurd (cc)
 
 -- a row with a receiver has no m
-received_row : (m w x receives : Bool) → ((not m || (w && (not x && not receives))) && (not receives || not x)) ≡ true → receives ≡ true → m ≡ false
+pub received_row : (m w x receives : Bool) → ((not m || (w && (not x && not receives))) && (not receives || not x)) ≡ true → receives ≡ true → m ≡ false
 received_row m w x false agrees is = absurd (cc)
 received_row false w x true agrees is = refl
 received_row true false x true agrees is = absurd (cc)

@@ -1,6 +1,6 @@
 -- What depends on something leaves before it, where the rows are as a declaration asks.
-use Rattle.std.proofs.Common.{◌≡◌, ℕ, ◌<◌, ◌≤◌, Bool, true, false, not, List, [], map, Option, Some, None, is_some, slice_get, Contains, filter, refl, ap, sym, ◌∙◌, subst, inl, inr, arith}
-use Rattle.std.specs.Prelude.{if◌then◌else◌, ◌==◌, ◌&&◌, ◌||◌, option_to_list}
+use Rattle.std.proofs.Common.{◌≡◌, ℕ, ◌<◌, ◌≤◌, Bool, true, false, List, [], map, Option, Some, None, is_some, slice_get, Contains, filter, refl, ap, sym, ◌∙◌, subst, inl, inr, arith}
+use Rattle.std.specs.Prelude.{if◌then◌else◌, ◌==◌, ◌&&◌, option_to_list}
 use Rattle.std.specs.Option.{option_map}
 use Rattle.std.proofs.lemmas.Bool.{and_parts, and_from, eq-eqb, false≢true}
 use Rattle.std.proofs.lemmas.List.Elements.{Contains-append_cases}
@@ -18,15 +18,8 @@ use Rattle.journal_laws.specs.flat_state.specs.Dependence.{signal_rows_of, paren
 use Rattle.journal_laws.specs.flat_state.specs.Names.{class_by, class_of_row, class_of}
 use Rattle.journal_laws.specs.flat_state.proofs.Places.{get_from_Contains, fails_if_not_found}
 use Rattle.journal_laws.specs.flat_laws.proofs.Members.{Contains-cases, contains_nothing, Contains-filter, Contains-from_map, Contains-option_map, found_place}
+use Rattle.journal_laws.specs.flat_laws.proofs.ShortChains.{received_row}
 use Rattle.group_laws.specs.Leaving.{AreAgreed}
-
--- a row with a receiver has no m
-received_row : (m w x receives : Bool) → ((not m || (w && (not x && not receives))) && (not receives || not x)) ≡ true → receives ≡ true → m ≡ false
-received_row m w x false agrees is = absurd (cc)
-received_row false w x true agrees is = refl
-received_row true false x true agrees is = absurd (cc)
-received_row true true false true agrees is = absurd (cc)
-received_row true true true true agrees is = absurd (cc)
 
 -- a row leaves before threads
 row_rank : (m receives : Bool) → rank_of (class_by m receives) ≤ 2

@@ -1,5 +1,5 @@
 -- What a list finds in which each key stands once, and what an edit leaves of it.
-use Rattle.std.proofs.Common.{◌≡◌, ◌≢◌, Bool, get_or, All, AllPairs, Contains, List, Option, None, Some, sym, subst, ap}
+use Rattle.std.proofs.Common.{◌≡◌, ◌≢◌, Bool, get_or, All, AllPairs, Contains, List, Option, None, Some, sym, subst}
 use Rattle.std.specs.declared.cmp.Ordering.{Ordering}
 use Rattle.std.specs.declared.cmp.Ordering.TheVariants.{Less, Equal}
 use Rattle.std.specs.Cmp.{IsTotalOrder}

@@ -1,5 +1,5 @@
 -- Lists in which each key stands once.
-use Rattle.std.specs.Prelude.{ℕ, ◌<◌, ◌≤◌, ◌^◌, length}
+use Rattle.std.specs.Prelude.{◌<◌, ◌≤◌, ◌^◌, length}
 use Rattle.std.specs.declared.cmp.Ordering.{Ordering}
 use Rattle.sorted_list.specs.Sorted.{Sorted}
 use Rattle.slot_cache.specs.Index.{IsRising}

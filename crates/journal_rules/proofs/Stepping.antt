@@ -1,11 +1,11 @@
 -- Steps one after another.
-use Rattle.std.proofs.Common.{◌≡◌, ℕ, zero, suc, ◌+◌, ◌<◌, false, List, replicate, refl, ap, sym, ◌∙◌, subst, inl, inr, arith}
+use Rattle.std.proofs.Common.{◌≡◌, ℕ, zero, suc, ◌+◌, false, List, refl, ap, ◌∙◌, subst, inl, inr, arith}
 use Rattle.std.proofs.lemmas.Bool.{cases_lt}
 use Rattle.cache_ident.specs.declared.names.ThreadNo.{ThreadNo}
 use Rattle.cache_ident.specs.Residents.{Resident}
 use Rattle.flat_state.specs.declared.events.Event.TheVariants.{Step}
 use Rattle.flat_state.specs.State.{FlatState}
-use Rattle.flat_state.specs.Events.{after_events, applied}
+use Rattle.flat_state.specs.Events.{applied}
 use Rattle.run_journal.specs.Legal.{MayStep, after_steps}
 use Rattle.journal_rules.specs.Running.{MayStepOn}
 

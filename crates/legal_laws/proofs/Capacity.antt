@@ -17,7 +17,7 @@ use Rattle.cache_ident.specs.declared.names.Name.{Name}
 use Rattle.cache_ident.specs.declared.names.ThreadNo.{ThreadNo}
 use Rattle.cache_ident.specs.Names.{amount_of}
 use Rattle.cache_ident.specs.Residents.{Resident, with_loaded, without, locked_if, with_lock}
-use Rattle.group_laws.specs.flat_state.specs.declared.events.Event.TheVariants.{Step, Complete}
+use Rattle.group_laws.specs.flat_state.specs.declared.events.Event.TheVariants.{Step}
 use Rattle.group_laws.specs.flat_state.specs.declared.events.Machine.{Machine}
 use Rattle.group_laws.specs.flat_state.specs.State.{FlatState}
 use Rattle.group_laws.specs.flat_state.specs.Declaration.{caps_of}

@@ -1,17 +1,15 @@
 -- What has to come, and what is leaving, is what the last entries say.
-use Rattle.std.proofs.Common.{◌≡◌, ◌↔◌, ℕ, ◌+◌, Bool, true, false, cond, eqb, List, [], ◌∷◌, ◌++◌, map, length, refl, ap, sym, ◌∙◌, subst, inl, inr, ◌⊎◌, append_assoc, arith}
-use Rattle.std.specs.Prelude.{count_by}
-use Rattle.std.proofs.lemmas.Bool.{cases_Bool, eqb-true}
+use Rattle.std.proofs.Common.{◌≡◌, ◌↔◌, ℕ, ◌+◌, Bool, true, false, cond, eqb, List, [], ◌∷◌, ◌++◌, length, refl, ap, sym, ◌∙◌, subst, inl, inr, ◌⊎◌, append_assoc, arith}
+use Rattle.std.proofs.lemmas.Bool.{eqb-true}
 use Rattle.std.proofs.lemmas.List.{append-nil, length-append, map-append, same_from_push}
 use Rattle.cache_ident.specs.declared.idents.Cause.{Cause}
 use Rattle.cache_ident.specs.declared.idents.Cause.TheVariants as causes
 use Rattle.cache_ident.specs.declared.idents.Ident.{Ident}
 use Rattle.cache_ident.specs.declared.idents.Kind.{Kind}
 use Rattle.cache_ident.specs.declared.names.Name.{Name}
-use Rattle.cache_ident.specs.Residents.{Resident}
 use Rattle.group_laws.specs.run_journal.specs.declared.entries.Entry.{Entry}
 use Rattle.group_laws.specs.run_journal.specs.declared.entries.Entry.TheVariants.{Declared, Sealed, Loaded, WrittenBack, Locked, Unlocked, Ran, Ended, Completed}
-use Rattle.group_laws.specs.run_journal.specs.Told.{due_after_load, is_load, nothing_told, residents, told, told_after, told_from, Due, Opening, Anything, FirstLoad, FirstLock, Departure, Load, Told}
+use Rattle.group_laws.specs.run_journal.specs.Told.{due_after_load, nothing_told, residents, told, told_after, Due, Opening, Anything, FirstLoad, FirstLock, Departure, Load, Told}
 use Rattle.group_laws.specs.run_journal.proofs.Growth.{residents_told_from, told_from-append}
 use Rattle.group_laws.specs.run_journal.proofs.LegalGrowth.{loads_told}
 use Rattle.legal_laws.specs.Last.{dependents, AreLeaving, EndsWith, IsNext, Wants}

@@ -1,12 +1,9 @@
 -- What is locked was locked at a place, and neither was the lock ended nor has it left since.
-use Rattle.std.proofs.Common.{◌≡◌, ◌≢◌, ◌↔◌, ℕ, ◌<◌, Bool, true, false, cond, List, [], ◌∷◌, ◌++◌, length, Some, slice_get, Contains, refl, ap, sym, ◌∙◌, subst, inl, inr, ◌⊎◌}
+use Rattle.std.proofs.Common.{◌≡◌, ◌≢◌, ◌↔◌, ℕ, Bool, true, false, cond, List, [], ◌∷◌, ◌++◌, length, Some, Contains, refl, ap, sym, ◌∙◌, subst, inl, inr, ◌⊎◌}
 use Rattle.std.proofs.lemmas.Bool.{cases_Bool, false≢true}
 use Rattle.std.proofs.lemmas.List.Elements.{Contains-append_left, Contains-push_cases}
 use Rattle.std.proofs.lemmas.Option.{slice_get_within}
-use Rattle.cache_ident.specs.declared.idents.Cause.{Cause}
-use Rattle.cache_ident.specs.declared.idents.Cause.TheVariants as causes
 use Rattle.cache_ident.specs.declared.idents.Ident.{Ident}
-use Rattle.cache_ident.specs.declared.names.Name.{Name}
 use Rattle.cache_ident.specs.Residents.{Resident, IsIdentResident, locked_if, with_lock}
 use Rattle.cache_ident.specs.Rolls.{is_same}
 use Rattle.cache_ident.proofs.RollLemmas.{is_same-refl, same_ident}
@@ -15,10 +12,10 @@ use Rattle.group_laws.specs.flat_laws.proofs.Members.{contains_nothing, Contains
 use Rattle.group_laws.specs.run_journal.specs.declared.entries.Entry.{Entry}
 use Rattle.group_laws.specs.run_journal.specs.declared.entries.Entry.TheVariants.{Declared, Sealed, Loaded, WrittenBack, Locked, Unlocked, Ran, Ended, Completed}
 use Rattle.group_laws.specs.run_journal.specs.Legal.{AreLegal, IsLegal, MayCome}
-use Rattle.group_laws.specs.run_journal.specs.Told.{nothing_told, residents, residents_after, told, told_from, Told}
+use Rattle.group_laws.specs.run_journal.specs.Told.{nothing_told, residents, residents_after, told, Told}
 use Rattle.group_laws.specs.run_journal.proofs.Growth.{legal-split, residents_from-append, residents_told_from}
 use Rattle.group_laws.specs.run_journal.proofs.Others.{differ, locked_keeps, stays_without, without_cases}
-use Rattle.legal_laws.specs.Places.{IsDepartureAt, IsIdentLocked, IsUnlockAt, StaysLocked}
+use Rattle.legal_laws.specs.Places.{IsIdentLocked, IsUnlockAt, StaysLocked}
 use Rattle.legal_laws.proofs.AtPlaces.{by_last, get_last}
 use Rattle.legal_laws.proofs.Residence.{departs_before, departs_last, departs_later, none_behind, Departs}
 

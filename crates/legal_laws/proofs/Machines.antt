@@ -9,7 +9,6 @@ use Rattle.group_laws.specs.fault_forward.specs.declared.effects.Effect.{Effect}
 use Rattle.group_laws.specs.fault_forward.specs.declared.effects.Effect.TheVariants as effects
 use Rattle.group_laws.specs.fault_forward.specs.Calls.{Completion, completion_of}
 use Rattle.group_laws.specs.flat_state.specs.declared.events.Event.TheVariants.{Step, Complete}
-use Rattle.group_laws.specs.flat_state.specs.declared.events.Machine.{Machine}
 use Rattle.group_laws.specs.flat_state.specs.declared.events.Decl.{Decl}
 use Rattle.group_laws.specs.flat_state.specs.declared.records.FlatThread.{FlatThread}
 use Rattle.group_laws.specs.flat_state.specs.State.{FlatState, with_thread}
@@ -17,7 +16,7 @@ use Rattle.phys_groups.specs.Translation.{row_of, without}
 use Rattle.group_laws.specs.flat_state.specs.Declaration.{broken_rule, declared}
 use Rattle.group_laws.specs.flat_state.specs.Signals.{is_runnable}
 use Rattle.group_laws.specs.flat_state.specs.Step.{outcome, stepped_so, step_if, step_of, after_step}
-use Rattle.group_laws.specs.flat_state.specs.Call.{answered, complete_if, completed_so, completion_for, granted, granting, is_completable, is_first, made, mapped, mapping, refusal, rule_of_granting, rule_of_mapping, spawned, spawning, unmapped, after_completion}
+use Rattle.group_laws.specs.flat_state.specs.Call.{answered, complete_if, completed_so, completion_for, granting, is_completable, is_first, made, mapping, refusal, rule_of_granting, rule_of_mapping, spawning, after_completion}
 use Rattle.group_laws.specs.flat_state.specs.Events.{applied}
 
 -- which machine it is

@@ -1,5 +1,5 @@
 -- What is resident was loaded at a place, and has not left since.
-use Rattle.std.proofs.Common.{◌≡◌, ◌≢◌, ◌↔◌, ℕ, ◌<◌, Bool, true, false, cond, List, [], ◌∷◌, ◌++◌, length, Some, slice_get, Contains, refl, ap, sym, ◌∙◌, subst, inl, inr, ◌⊎◌, arith}
+use Rattle.std.proofs.Common.{◌≡◌, ◌↔◌, ℕ, ◌<◌, Bool, true, false, List, [], ◌∷◌, ◌++◌, length, Some, slice_get, refl, ap, sym, ◌∙◌, subst, inl, inr, ◌⊎◌, arith}
 use Rattle.std.proofs.lemmas.List.{length-append}
 use Rattle.std.proofs.lemmas.List.Elements.{Contains-append_left, Contains-push, Contains-push_cases}
 use Rattle.std.proofs.lemmas.Option.{slice_get_within}
@@ -14,7 +14,7 @@ use Rattle.group_laws.specs.run_journal.specs.declared.entries.Entry.TheVariants
 use Rattle.group_laws.specs.run_journal.specs.Told.{residents, residents_after}
 use Rattle.group_laws.specs.run_journal.proofs.Growth.{residents_from-append}
 use Rattle.group_laws.specs.run_journal.proofs.Others.{locked_keeps, stays_without, without_cases}
-use Rattle.legal_laws.specs.Places.{IsDepartureAt, IsLoadAt, StaysLoaded}
+use Rattle.legal_laws.specs.Places.{IsDepartureAt, StaysLoaded}
 use Rattle.legal_laws.proofs.AtPlaces.{by_last, get_last}
 
 -- what an entry does

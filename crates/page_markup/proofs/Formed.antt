@@ -1,11 +1,11 @@
 -- Why the texts of elements are well-formed.
-use Rattle.std.proofs.Common.{ℕ, Bool, true, false, List, [], ◌∷◌, ◌++◌, length}
+use Rattle.std.proofs.Common.{ℕ, Bool, true, false, List, [], ◌∷◌, length}
 use Rattle.std.specs.Prelude.{◌==◌, if◌then◌else◌, codes}
 use Rattle.page_markup.specs.declared.attributes.Tag.TheVariants as tags
 use Rattle.page_markup.specs.declared.elements.Element.{Element}
 use Rattle.page_markup.specs.declared.elements.Group.{Group}
 use Rattle.page_markup.specs.Elements.{element_text, elements_text, group_text, title_text}
-use Rattle.page_markup.specs.Markup.{closing_text, escaped, opening_text, IsContent, Nothing, Escaped, Within, Behind}
+use Rattle.page_markup.specs.Markup.{escaped, IsContent, Nothing, Escaped, Within, Behind}
 
 unless : (b : Bool) (text : List ℕ) → IsContent text → IsContent (if b then [] else text)
 unless true text is = Nothing

@@ -1,5 +1,5 @@
 -- How the machine of a run with few frames goes on, from turn to turn.
-use Rattle.std.proofs.Common.{ℕ, ◌+◌, ◌-◌, List, Option, sym, ap₂, ◌∙◌, subst, arith}
+use Rattle.std.proofs.Common.{ℕ, ◌+◌, List, Option, sym, ap₂, ◌∙◌, subst, arith}
 use Rattle.flat_rules.specs.flat_state.specs.declared.records.Settled.{Settled}
 use Rattle.flat_rules.specs.flat_state.specs.State.{FlatState}
 use Rattle.flat_rules.specs.flat_state.specs.Settling.{settled_of}

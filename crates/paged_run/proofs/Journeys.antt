@@ -7,7 +7,6 @@ use Rattle.cache_ident.specs.declared.names.ThreadNo.{ThreadNo}
 use Rattle.flat_rules.specs.flat_state.specs.declared.events.Event.{Event}
 use Rattle.flat_rules.specs.flat_state.specs.declared.events.Event.TheVariants.{Step}
 use Rattle.flat_rules.specs.flat_state.specs.State.{FlatState}
-use Rattle.flat_rules.specs.flat_state.specs.Declaration.{declared}
 use Rattle.flat_rules.specs.flat_state.specs.Events.{after_event, applied, after_events}
 use Rattle.flat_rules.specs.flat_state.proofs.Places.{count_by-cons}
 use Rattle.run_journal.specs.declared.entries.Entry.{Entry}

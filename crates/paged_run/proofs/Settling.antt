@@ -8,7 +8,6 @@ use Rattle.std.proofs.lemmas.Option.{get_or_from_slice_get, slice_get_cases}
 use Rattle.flat_machine.specs.rv32_exec.specs.declared.statuses.Status.{Status}
 use Rattle.flat_machine.specs.rv32_exec.specs.declared.statuses.Status.TheVariants.{Ready, Trapped, Ended}
 use Rattle.flat_rules.specs.flat_state.specs.declared.records.FlatThread.{FlatThread}
-use Rattle.flat_rules.specs.flat_state.specs.declared.records.Settled.{Settled}
 use Rattle.flat_rules.specs.flat_state.specs.declared.records.Settled.TheVariants.{Done, Stalled, Spent, Running}
 use Rattle.flat_rules.specs.flat_state.specs.State.{FlatState, is_ready, is_ended, is_trapped}
 use Rattle.flat_rules.specs.flat_state.specs.Signals.{ended_by, full_receiver, is_held, is_runnable}

@@ -1,7 +1,6 @@
 -- Why a run that was opened and went on to its end is one of the machine with unlimited tables.
 use Rattle.std.proofs.Common.{◌≡◌, ◌≢◌, ℕ, ◌+◌, List, [], ◌∷◌, ◌++◌, Option, Some, refl, sym, ap, ap₂, ◌∙◌, subst, arith}
 use Rattle.flat_rules.specs.flat_state.specs.declared.events.Decl.{Decl}
-use Rattle.flat_rules.specs.flat_state.specs.declared.events.Event.{Event}
 use Rattle.flat_rules.specs.flat_state.specs.declared.events.Event.TheVariants.{Declare}
 use Rattle.flat_rules.specs.flat_state.specs.declared.records.Settled.{Settled}
 use Rattle.flat_rules.specs.flat_state.specs.declared.records.Settled.TheVariants.{Running}

@@ -9,7 +9,6 @@ use Rattle.flat_rules.specs.flat_state.specs.State.{nothing_declared, FlatState}
 use Rattle.paged_steps.specs.memory_laws.specs.Apart.{over}
 use Rattle.page_store.specs.Kept.{nothing_kept, Kept, Means}
 use Rattle.paged_steps.specs.Pages.{HasFrames}
-use Rattle.run_journal.specs.declared.entries.Entry.{Entry}
 use Rattle.run_journal.specs.declared.entries.Entry.TheVariants.{Declared}
 use Rattle.run_journal.specs.Points.{opening}
 use Rattle.paged_run.specs.declared.pager.Pager.{Pager}

@@ -4,7 +4,6 @@ use Rattle.std.specs.Option.{option_map}
 use Rattle.std.proofs.lemmas.Option.{same_Some}
 use Rattle.rv32_exec.specs.declared.contexts.Context.{Context}
 use Rattle.rv32_exec.specs.declared.statuses.Access.{Access}
-use Rattle.rv32_exec.specs.declared.statuses.Status.{Status}
 use Rattle.rv32_exec.specs.declared.statuses.Status.TheVariants.{Ready}
 use Rattle.rv32_exec.specs.declared.steps.Stepped.TheVariants as steps
 use Rattle.rv32_exec.specs.Steps.{after_step as after_instruction}
@@ -14,7 +13,7 @@ use Rattle.flat_state.specs.declared.records.Signal.{Signal}
 use Rattle.flat_state.specs.State.{FlatState, is_ready}
 use Rattle.flat_state.specs.NextSteps.{next_step, next_step_if}
 use Rattle.flat_state.specs.Signals.{full_among, full_receiver, is_held, is_runnable, receivers_for, receivers_of}
-use Rattle.flat_state.specs.Step.{after_step, faulted, outcome, step_if, step_of}
+use Rattle.flat_state.specs.Step.{after_step, faulted, step_if, step_of}
 use Rattle.flat_state.specs.Translation.{reached, row_through}
 use Rattle.flat_state.specs.WellFormed.{IsWellFormed}
 use Rattle.memory_laws.specs.Apart.{over}

@@ -1,5 +1,5 @@
 -- Who is known to be held stays so while steps happen that leave what tells it.
-use Rattle.std.proofs.Common.{◌≡◌, ◌≢◌, ℕ, ◌+◌, ◌*◌, ◌<◌, Bool, true, false, List, [], ◌∷◌, map, length, Contains, Option, Some, None, is_some, slice_get, refl, ap, ap₂, sym, ◌∙◌, subst, ◌⊎◌, inl, inr, arith}
+use Rattle.std.proofs.Common.{◌≡◌, ◌≢◌, ℕ, ◌+◌, Bool, true, false, List, [], ◌∷◌, map, length, Contains, Option, Some, None, is_some, slice_get, refl, ap, ap₂, sym, ◌∙◌, subst, inl, inr, arith}
 use Rattle.std.specs.Prelude.{slice_set, if◌then◌else◌, find, ◌==◌, ◌++◌, option_to_list}
 use Rattle.std.specs.Bool.{OnTrue}
 use Rattle.std.specs.Option.{option_map}
@@ -10,10 +10,9 @@ use Rattle.cache_ident.specs.declared.names.ThreadNo.{ThreadNo}
 use Rattle.cache_ident.specs.declared.names.Vpn.{Vpn}
 use Rattle.phys_groups.specs.declared.rows.Row.{Row}
 use Rattle.phys_groups.specs.Memory.{page_at, with_page, HasFrame}
-use Rattle.phys_groups.specs.Translation.{is_row_of, row_of, through}
+use Rattle.phys_groups.specs.Translation.{is_row_of, row_of}
 use Rattle.phys_groups.proofs.Pages.{length-with_page, page_at-with_page, page_at-with_page_other}
 use Rattle.signal_pages.specs.Signals.{receiver_of, receivers_in, room_in}
-use Rattle.rv32_exec.specs.declared.statuses.Status.{Status}
 use Rattle.rv32_exec.specs.declared.statuses.Status.TheVariants.{Ready}
 use Rattle.rv32_exec.specs.declared.statuses.Access.TheVariants.{Write}
 use Rattle.flat_state.specs.declared.records.FlatThread.{FlatThread}
@@ -22,7 +21,6 @@ use Rattle.flat_state.specs.Pages.{is_in}
 use Rattle.flat_state.specs.Signals.{full_among, has_ended, is_held, queued, queued_by, ended_by, receivers_of}
 use Rattle.flat_state.specs.State.{FlatState, is_ended}
 use Rattle.flat_state.specs.Translation.{is_fit_row}
-use Rattle.flat_state.specs.WellFormed.{IsWellFormed}
 use Rattle.flat_state.proofs.FormedParts.{KeepsRow}
 use Rattle.flat_state.proofs.Places.{get-set_other, get-set_same}
 use Rattle.memory_laws.specs.Apart.{over}
@@ -30,13 +28,13 @@ use Rattle.quantum.specs.flat_laws.proofs.Members.{find-map, Contains-behind, Co
 use Rattle.quantum.specs.page_views.specs.Views.{View, AreCopies}
 use Rattle.quantum.specs.declared.paused.Paused.{Paused}
 use Rattle.quantum.specs.declared.paused.SignalStore.{SignalStore}
-use Rattle.quantum.specs.Ahead.{signal_store, Ahead}
+use Rattle.quantum.specs.Ahead.{Ahead}
 use Rattle.quantum.specs.LocalRun.{committed, status_by, touched_views, with_marks_of, with_view_marks, with_views}
-use Rattle.paged_steps.specs.Aheads.{IsAheadOf, IsFresh, IsOfRow, IsSentBy}
-use Rattle.paged_steps.specs.Knowing.{AreKept, AreSpared, IsHeldAhead, IsKnownHeld, Knows, KnowsNobody, KnowsNoMore}
+use Rattle.paged_steps.specs.Aheads.{IsAheadOf}
+use Rattle.paged_steps.specs.Knowing.{AreSpared, IsHeldAhead, IsKnownHeld, Knows, KnowsNobody, KnowsNoMore}
 use Rattle.paged_steps.specs.declared.order.Order.{Order}
 use Rattle.paged_steps.proofs.Aheads.{reached_row}
-use Rattle.paged_steps.proofs.Sending.{has_row, held_so, sent_by}
+use Rattle.paged_steps.proofs.Sending.{held_so, sent_by}
 use Rattle.paged_steps.proofs.Taking.{in_views}
 
 -- who is known to be held is

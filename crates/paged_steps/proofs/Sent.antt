@@ -10,7 +10,6 @@ use Rattle.phys_groups.specs.Translation.{is_row_of, place_in}
 use Rattle.signal_pages.specs.Signals.{is_signalling}
 use Rattle.rv32_exec.specs.Pages.{put_bytes}
 use Rattle.rv32_exec.specs.Registers.{next_of}
-use Rattle.rv32_exec.specs.declared.statuses.Status.{Status}
 use Rattle.rv32_exec.specs.declared.statuses.Status.TheVariants.{Ready}
 use Rattle.flat_state.specs.declared.records.FlatThread.{FlatThread}
 use Rattle.flat_state.specs.declared.records.Signal.{Signal}

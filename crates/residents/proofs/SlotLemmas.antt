@@ -1,5 +1,5 @@
 -- How many slots were freed.
-use Rattle.std.proofs.Common.{◌≡◌, ℕ, ◌+◌, ◌<◌, ◌≤◌, true, List, get_or}
+use Rattle.std.proofs.Common.{ℕ, ◌≤◌, get_or}
 use Rattle.std.specs.Ordering.{nat_cmp}
 use Rattle.std.specs.BTreeSet.{BTreeSet, IsOrdered, btree_set_len}
 use Rattle.std.proofs.lemmas.Cmp.{nat_cmp_total}

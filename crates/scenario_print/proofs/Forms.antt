@@ -13,7 +13,6 @@ use Rattle.cache_ident.specs.declared.names.Frame.{Frame}
 use Rattle.phys_groups.specs.declared.rows.Flags.{Flags}
 use Rattle.flat_state.specs.declared.events.Decl.TheVariants as decls
 use Rattle.flat_state.specs.Declaration.{has_no_flag}
-use Rattle.text_fields.specs.Lines.{fields}
 use Rattle.text_fields.specs.Lines as lines
 use Rattle.text_fields.specs.Numbers.{word_text}
 use Rattle.journal_text.specs.Lines.{rights_text, flags_text}

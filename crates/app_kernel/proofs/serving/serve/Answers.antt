@@ -1,7 +1,7 @@
 use Rattle.std.proofs.Common.{arith, rules}
 use Rattle.std.proofs.lemmas.Grind.{common_steps}
 use Rattle.app_kernel.proofs.ServeLaws.{served_again, served_helped, served_wanting, tried_then}
-use Rattle.app_kernel.proofs.StillLaws.{again_confirmed, again_filled, ended_confirmed, ended_filled, served_confirmed, served_filled, since_confirmed, since_filled, still_begun, still_to_confirm, still_to_fill, wanting_confirmed, wanting_filled}
+use Rattle.app_kernel.proofs.StillLaws.{again_confirmed, again_filled, ended_confirmed, ended_filled, served_confirmed, served_filled, since_confirmed, since_filled, still_to_confirm, still_to_fill, wanting_confirmed, wanting_filled}
 use Rattle.app_kernel.proofs.WalkLaws.{walked_on}
 use Rattle.app_kernel.proofs.serving.serve.Goals as goal
 

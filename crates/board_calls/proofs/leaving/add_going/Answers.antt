@@ -1,6 +1,5 @@
-use Rattle.std.proofs.Common.{◌≡◌, ◌↔◌, Bool, true, false, OnOk, sym, ◌∙◌, subst}
+use Rattle.std.proofs.Common.{Bool, true, false, OnOk, sym, ◌∙◌, subst}
 use Rattle.std.proofs.lemmas.Bool.{false≢true}
-use Rattle.cache_ident.specs.declared.idents.Ident.{Ident}
 use Rattle.board_core.specs.cached_machine.specs.Cached.{state_of}
 use Rattle.board_calls.specs.Leaving.{after_grant, goes_so, is_message, AddsThose, IsRowAs, IsRowGoing}
 use Rattle.board_calls.proofs.BadLaws.{goes_as_message, message_goes}

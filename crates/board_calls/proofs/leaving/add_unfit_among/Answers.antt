@@ -1,4 +1,4 @@
-use Rattle.std.proofs.Common.{Contains, List, [], ◌∷◌, ◌++◌, sym, ◌∙◌, subst}
+use Rattle.std.proofs.Common.{List, [], ◌∷◌, ◌++◌, sym, ◌∙◌, subst}
 use Rattle.cache_ident.specs.declared.idents.Ident.{Ident}
 use Rattle.board_checks.specs.desc_stores.specs.Contents.{item_as}
 use Rattle.board_core.specs.cached_machine.specs.Cached.{state_of}

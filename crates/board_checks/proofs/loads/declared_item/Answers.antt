@@ -1,4 +1,4 @@
-use Rattle.std.proofs.Common.{Some, None, sym, ◌∙◌, ap}
+use Rattle.std.proofs.Common.{Some, None}
 use Rattle.board_checks.proofs.OwnerLemmas.{declared_tested}
 use Rattle.board_checks.proofs.loads.declared_item.Goals as goal
 

@@ -1,4 +1,4 @@
-use Rattle.std.proofs.Common.{Some, sym, ◌∙◌, ap}
+use Rattle.std.proofs.Common.{Some, ◌∙◌, ap}
 use Rattle.cache_ident.specs.declared.names.Name.TheVariants as name
 use Rattle.desc_tables.specs.desc_stores.specs.Items.{shown}
 use Rattle.desc_tables.specs.shown_state.specs.Shown.{row_of_item}

@@ -1,4 +1,4 @@
-use Rattle.std.proofs.Common.{Some, sym, ◌∙◌, ap}
+use Rattle.std.proofs.Common.{Some, ◌∙◌, ap}
 use Rattle.desc_tables.specs.desc_stores.specs.Items.{shown}
 use Rattle.board_checks.proofs.GivenLemmas.{only_thread}
 use Rattle.board_checks.proofs.loads.declared_thread.Goals as goal

@@ -1,7 +1,6 @@
-use Rattle.std.proofs.Common.{List, Result, sym, subst}
+use Rattle.std.proofs.Common.{Result, sym, subst}
 use Rattle.std.specs.Prelude.{IfOk}
 use Rattle.std.proofs.lemmas.Result.{IfOk-at_ok}
-use Rattle.cache_ident.specs.declared.idents.Ident.{Ident}
 use Rattle.board_checks.specs.desc_tables.specs.May.{MayBeLoaded}
 use Rattle.board_checks.specs.board_ops.specs.declared.refusals.Refused.{Refused}
 use Rattle.board_checks.specs.declared.loads.Loadable.{Loadable}

@@ -1,6 +1,5 @@
-use Rattle.std.proofs.Common.{◌≡◌, [], ◌∷◌, Option, Some, ◌∙◌, sym, ap, subst}
+use Rattle.std.proofs.Common.{◌≡◌, [], ◌∷◌, Some, ap, subst}
 use Rattle.cache_ident.specs.declared.names.Name.TheVariants as name
-use Rattle.store_residents.specs.desc_stores.specs.declared.items.Item.{Item}
 use Rattle.store_residents.specs.desc_stores.specs.declared.items.Item.TheVariants as item
 use Rattle.store_residents.specs.desc_stores.specs.declared.items.ItemRef.{ItemRef}
 use Rattle.store_residents.specs.desc_stores.specs.Contents.{content_of, residents_of}

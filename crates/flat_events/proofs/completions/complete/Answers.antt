@@ -1,6 +1,5 @@
 use Rattle.std.proofs.Common.{◌≡◌, ℕ, Some, slice_get, sym, ap, ◌∙◌, refl, arith}
 use Rattle.std.proofs.lemmas.Option.{same_Some, slice_get_past}
-use Rattle.cache_ident.specs.declared.names.SpaceNo.{SpaceNo}
 use Rattle.flat_state.specs.State.{FlatState, with_thread}
 use Rattle.flat_state.specs.Call.{after_completion, answered, is_completable}
 use Rattle.flat_events.specs.declared.asked.Asked.TheVariants.{Nothing, Refused, Declares, Unmaps}

@@ -1,4 +1,4 @@
-use Rattle.std.proofs.Common.{◌≡◌, ◌<◌, length, ap, sym, ◌∙◌, arith}
+use Rattle.std.proofs.Common.{◌<◌, length, ap, sym, ◌∙◌, arith}
 use Rattle.cache_ident.proofs.RollLemmas.{same_ident}
 use Rattle.journal_picture.specs.declared.lives.Life.{Life}
 use Rattle.journal_picture.proofs.LifeLaws.{ends_so, one_reading, same_loads}

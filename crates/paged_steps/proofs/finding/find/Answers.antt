@@ -8,9 +8,8 @@ use Rattle.flat_state.specs.declared.records.FlatThread.{FlatThread}
 use Rattle.flat_state.proofs.Places.{get-set_other}
 use Rattle.memory_laws.specs.Apart.{over}
 use Rattle.quantum.specs.page_views.specs.Views.{View}
-use Rattle.paged_steps.specs.declared.looking.Next.{Next}
 use Rattle.paged_steps.specs.declared.looking.Next.TheVariants.{Held}
-use Rattle.paged_steps.specs.Knowing.{AreWatched, IsHeldAhead, IsKnownHeld}
+use Rattle.paged_steps.specs.Knowing.{AreWatched}
 use Rattle.paged_steps.specs.Nexts.{DoesSo}
 use Rattle.paged_steps.proofs.Knowing.{held_is, held_over}
 use Rattle.paged_steps.proofs.Orders.{fewer_left, none_run, ready_is}

@@ -1,4 +1,4 @@
-use Rattle.std.proofs.Common.{◌≡◌, ◌+◌, sym, ◌∙◌, subst}
+use Rattle.std.proofs.Common.{◌+◌, sym, ◌∙◌, subst}
 use Rattle.std.proofs.lemmas.Option.{slice_get_within}
 use Rattle.sorted_list.specs.Trees.{fork, Joins, Keeps}
 use Rattle.sorted_list.proofs.TreeLemmas.{put_keeps, some_same}

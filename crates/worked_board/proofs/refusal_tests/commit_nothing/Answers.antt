@@ -1,6 +1,6 @@
-use Rattle.std.proofs.Common.{◌≡◌, ◌<◌, List, [], Contains, ap, sym, subst, ◌∙◌, arith}
+use Rattle.std.proofs.Common.{◌≡◌, ◌<◌, List, [], Contains, ap, sym, subst, arith}
 use Rattle.cache_board.specs.page_views.specs.Views.{View}
-use Rattle.cache_board.specs.quantum.specs.Ahead.{begun, Ahead}
+use Rattle.cache_board.specs.quantum.specs.Ahead.{Ahead}
 use Rattle.cache_board.specs.board_commits.specs.Tickets.{AreAllAsOf}
 use Rattle.cache_board.specs.board_commits.proofs.KeptLaws.{kept_begun, kept_unbegun}
 use Rattle.worked_board.proofs.refusal_tests.commit_nothing.Goals as goal

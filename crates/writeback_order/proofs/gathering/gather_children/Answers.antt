@@ -1,4 +1,4 @@
-use Rattle.std.proofs.Common.{◌<◌, ◌++◌, ◌∷◌, [], length, vec_len, vec_capacity, inl, inr, subst, arith}
+use Rattle.std.proofs.Common.{◌<◌, ◌++◌, ◌∷◌, [], length, inl, inr, subst, arith}
 use Rattle.std.proofs.lemmas.List.{length_push}
 use Rattle.writeback_order.proofs.DistinctLemmas.{apart_from_ne, same_from_ne}
 use Rattle.writeback_order.proofs.GatherLemmas.{all_came, come_new, come_past, comes_listed, few_gathered, gathered_before, has_children_all, listed_child, listed_depends, AreThere}

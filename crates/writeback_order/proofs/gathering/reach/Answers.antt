@@ -1,4 +1,4 @@
-use Rattle.std.proofs.Common.{vec_len, vec_capacity, ◌<◌, arith}
+use Rattle.std.proofs.Common.{arith}
 use Rattle.writeback_order.proofs.MarkLemmas.{clear_more}
 use Rattle.writeback_order.proofs.gathering.reach.Goals as goal
 

@@ -1,6 +1,5 @@
 use Rattle.std.proofs.Common.{false, ap, refl}
 use Rattle.phys_groups.specs.declared.rows.Row.{Row}
-use Rattle.slot_cache.specs.Cells.{cell_at, just_loaded, IsLoaded}
 use Rattle.slot_cache.specs.Cells as cells
 use Rattle.kernel_cache.specs.declared.KernelRec.{KernelRec}
 use Rattle.kernel_cache.specs.Kernels as kernel_rec

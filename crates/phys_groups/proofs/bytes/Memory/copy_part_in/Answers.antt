@@ -1,5 +1,5 @@
 -- The part of the frame becomes that of the page, and the rest is as there already.
-use Rattle.std.proofs.Common.{◌≡◌, ℕ, List, ◌+◌, ◌-◌, ◌*◌, ◌<◌, ◌≤◌, ◌++◌, length, take, drop, ap, ◌∙◌, arith, sym}
+use Rattle.std.proofs.Common.{◌≡◌, ℕ, List, ◌+◌, ◌-◌, ◌*◌, ◌<◌, length, take, drop, ap, ◌∙◌, arith, sym}
 use Rattle.std.specs.Vec.{with_items}
 use Rattle.std.proofs.lemmas.List.{drop-drop, with_items_is}
 use borrow.Rule.Slice.PartMut.{put_mid}
