@@ -71,7 +71,7 @@ impl Model for PageViews {
 }
 
 impl PageViews {
-    /// No view, with room for so many, and nothing kept. The one call that takes memory: some 8 KiB for each of them and 32 KiB
+    /// No view, with room for so many, and nothing kept. The one call that takes memory: some 8 KiB for each of them and 24 KiB
     /// for words.
     pub fn new(alloc: Global, most: usize) -> Result<PageViews, NoMemory>
         requires { most ≤ MOST_VIEWS }

@@ -52,7 +52,7 @@ struct Went {
 
 impl Quantum {
     /// Begun with registers and pc of 0, with room for so many views, without views and steps, and nothing kept. The one call that
-    /// takes memory: some 8 KiB for each view and 32 KiB for words.
+    /// takes memory: some 8 KiB for each view and 24 KiB for words.
     pub fn new(alloc: Global, most: usize) -> Result<Quantum, NoMemory>
         requires { most ≤ MOST_VIEWS }
         ensures { IfOk result (λ quantum. quantum ≡ unbegun most) }

@@ -1,6 +1,7 @@
 // Instructions that were decoded before.
 
-ghost use Rattle.std.specs.Prelude.{◌≡◌, ◌<◌, length, IfSome};
+ghost use Rattle.std.specs.Prelude.{◌≡◌, ◌<◌, length, None, IfSome};
+ghost use Rattle.std.specs.Bool.{OnFalse, OnTrue};
 ghost use Rattle.rv32_isa.specs.Table.{IsValid, instruction_of};
 ghost use Rattle.rv32_exec.specs.Decoded.{HasWord};
 
@@ -21,7 +22,7 @@ pub struct DecodedWords {
 }
 
 impl DecodedWords {
-    /// Remembers no word that was met yet. The one call that takes memory, some 28 KiB.
+    /// Remembers no word that was met yet. The one call that takes memory, some 24 KiB.
     pub fn new(alloc: Global) -> Result<DecodedWords, NoMemory> {
         let lines = vec![in alloc; Line::first(); LINES]?;
         Ok(DecodedWords { lines })
@@ -35,32 +36,41 @@ impl DecodedWords {
         ensures valid { IfSome result IsValid }
     {
         let place = place(va);
-        self.know(place, word);
-        self.lines[place].instr
+        if self.knows(place, word) {
+            Some(self.lines[place].instr)
+        } else {
+            None
+        }
     }
 
-    // Has the line at a place remember a word.
+    // Has the line at a place remember a word, where it is an instruction, and answers whether it is one.
     #[inline]
-    fn know(&mut self, place: usize, word: u32)
+    fn knows(&mut self, place: usize, word: u32) -> bool
         requires { place < 1024 }
-        ensures { HasWord self.new.lines.items place word }
+        ensures known { OnTrue result (HasWord self.new.lines.items place word) }
+        ensures none { OnFalse result (instruction_of word ≡ None) }
     {
-        if self.lines[place].word != word {
-            self.meet(place, word);
+        if self.lines[place].word == word {
+            return true;
         }
+        self.meet(place, word)
     }
 
     // The same where it doesn't yet. It stays a call, and answers nothing through memory, so that its caller is short.
     #[cold]
     #[inline(never)]
-    fn meet(&mut self, place: usize, word: u32)
+    fn meet(&mut self, place: usize, word: u32) -> bool
         requires { place < 1024 }
-        ensures { HasWord self.new.lines.items place word }
+        ensures known { OnTrue result (HasWord self.new.lines.items place word) }
+        ensures none { OnFalse result (instruction_of word ≡ None) }
     {
-        self.lines[place] = Line {
-            word,
-            instr: decode(word),
-        };
+        match decode(word) {
+            Some(instr) => {
+                self.lines[place] = Line { word, instr };
+                true
+            }
+            None => false,
+        }
     }
 }
 

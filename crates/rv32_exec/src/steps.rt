@@ -137,10 +137,34 @@ fn jump<S: Space>(context: &mut Context, space: &mut S, rd: u32, target: u32) ->
     Stepped::Next
 }
 
-/// Loads into a register.
+/// Loads into a register. Each width has a path of its own, on which nothing asks for it.
+#[inline(always)]
+fn load<S: Space>(
+    context: &mut Context,
+    space: &mut S,
+    rd: u32,
+    va: u32,
+    width: Width,
+    signed: bool,
+) -> Stepped
+    requires aligned { context.old.pc % 4 ≡ 0 }
+    requires register { rd < 32 }
+    requires fetched { IsTrue (translates (S.pages space.old) context.old.pc Access.Fetch) }
+    ensures aligned { context.new.pc % 4 ≡ 0 }
+    ensures after { IsAfter context.new (S.pages space.new) result (after_load context.old (S.pages space.old) rd va width signed) }
+    ensures kept { S.kept space.new ≡ S.kept space.old }
+{
+    match width {
+        Width::Word => load_of(context, space, rd, va, Width::Word, signed),
+        Width::Half => load_of(context, space, rd, va, Width::Half, signed),
+        Width::Byte => load_of(context, space, rd, va, Width::Byte, signed),
+    }
+}
+
+/// The same of one width.
 #[inline(always)]
 #[tactic(auto, using(crate::proofs::Translations::translations))]
-fn load<S: Space>(
+fn load_of<S: Space>(
     context: &mut Context,
     space: &mut S,
     rd: u32,
@@ -172,10 +196,32 @@ fn load<S: Space>(
     Stepped::Next
 }
 
-/// Stores the low bytes of a value.
+/// Stores the low bytes of a value. Each width has a path of its own, on which nothing asks for it.
+#[inline(always)]
+fn store<S: Space>(
+    context: &mut Context,
+    space: &mut S,
+    va: u32,
+    width: Width,
+    value: u32,
+) -> Stepped
+    requires aligned { context.old.pc % 4 ≡ 0 }
+    requires fetched { IsTrue (translates (S.pages space.old) context.old.pc Access.Fetch) }
+    ensures aligned { context.new.pc % 4 ≡ 0 }
+    ensures after { IsAfter context.new (S.pages space.new) result (after_store context.old (S.pages space.old) va width value) }
+    ensures kept { S.kept space.new ≡ S.kept space.old }
+{
+    match width {
+        Width::Word => store_of(context, space, va, Width::Word, value),
+        Width::Half => store_of(context, space, va, Width::Half, value),
+        Width::Byte => store_of(context, space, va, Width::Byte, value),
+    }
+}
+
+/// The same of one width.
 #[inline(always)]
 #[tactic(auto, using(crate::proofs::Translations::translations))]
-fn store<S: Space>(
+fn store_of<S: Space>(
     context: &mut Context,
     space: &mut S,
     va: u32,
