@@ -34,8 +34,14 @@ impl Course {
     }
 
     /// A turn was taken for this thread, or for none, that left the processor at `pace`. Where it ran a quantum, that came to `ran`; and it
-    /// brought something, or nothing.
-    pub(crate) fn go_on(&mut self, runner: Option<ThreadNo>, pace: Pace, ran: Ran, brought: bool)
+    /// brought something, or nothing. Answers whether it ran one whose thread waits.
+    pub(crate) fn go_on(
+        &mut self,
+        runner: Option<ThreadNo>,
+        pace: Pace,
+        ran: Ran,
+        brought: bool,
+    ) -> bool
         ensures lengths { self.new.lengths.of_threads ≡ lengths_after self.old.lengths.of_threads (ran_by (beat_of self.old.pace) runner) ran brought }
         ensures pace { (beat_of self.new.pace ≡ beat_of pace) ⊎ (beat_of self.new.pace ≡ paced true (beat_of self.old.pace)) }
     {
@@ -53,5 +59,6 @@ impl Course {
         } else {
             pace
         };
+        runner.is_some() && ran.waited
     }
 }

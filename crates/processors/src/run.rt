@@ -62,10 +62,8 @@ fn take_turns<R: Wait, P: Processor + RanLast>(
             return Stop::NoMemory;
         };
         let brought = before < port.brought();
-        let ran = port.last();
-        course.go_on(runner, pace, ran, brought);
         // The processor whose thread stores what this one waits for may have none of the system's own just now.
-        if ran.waited {
+        if course.go_on(runner, pace, port.last(), brought) {
             thread::yield_now();
         }
     }

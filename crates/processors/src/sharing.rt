@@ -267,13 +267,13 @@ impl<R: Wait, G: Gate> Processor for Sharing<'_, R, G> {
         look: Option<bool>,
         next: &mut Found,
     ) -> Result<Committed, NoMemory> {
-        let steps = quantum.steps();
-        self.last = Ran::of(quantum);
+        let ran = Ran::of(quantum);
+        self.last = ran;
         let mut held = hold(self.rt, self.lock, &mut self.pass);
         let answer = commit(held.value_mut(), ticket, self.limit, look, quantum, next);
         self.pass = Some(held.release());
         let committed = answer?;
-        self.brought = brought_by(committed, steps, self.brought);
+        self.brought = brought_by(committed, ran.steps, self.brought);
         Ok(committed)
     }
 
