@@ -7,7 +7,7 @@ top,name=sys.argv[1:3]
 os.chdir(f'{top}/crates/{name}')
 here=os.getcwd()
 crate=rtlib.Crate(here, rtlib.root_above(here), {}, name=None)
-copies=["/work/ci2","/work/z"]
+copies=["/tmp/L2","/tmp/L"]
 n=m=0
 for it in crate.below():
     for c in copies:

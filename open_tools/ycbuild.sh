@@ -1,0 +1,3 @@
+# ycbuild.sh OUT: OUT.p.ll -> OUT.yc instrumented
+cd /tmp/hS; python3 ycins.py $1.p.ll $1.yc.ll; K=/opt/rattle; F="-march=x86-64 -mllvm -no-trap-after-noreturn -ffunction-sections -fdata-sections -mllvm -trap-unreachable -mllvm -no-x86-call-frame-opt -mllvm -disable-machine-licm -mllvm -disable-postra-machine-licm -mllvm -sink-common-insts=false -no-canonical-prefixes -fintegrated-cc1 -x ir -fPIE -O3 -Xclang -fmerge-functions -mllvm -mergefunc-use-aliases"
+C="$K/toolchain/bin/clang --target=x86_64-unknown-linux-gnu --sysroot=$K/toolchain --no-default-config"; $C $F -c $1.yc.ll -o $1.yc.o && gcc -O2 -fPIE -c yc.c -o yc.o && $K/bin/rattle-link --target x86_64-unknown-linux-gnu --toolchain $K/toolchain -o $1.yc $1.yc.o yc.o $K/c/libos_c.a $K/c/liblibc_c.a >/dev/null
