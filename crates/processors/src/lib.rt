@@ -9,6 +9,7 @@ mod parts;
 mod run;
 mod sharing;
 mod side_by_side;
+mod waiting;
 
 pub use alone_run::run_alone;
 pub use alone_run::turns::{Board, Owners, Point, Quantum, views_for};

@@ -15,7 +15,6 @@ use crate::lengths::{Ran, runner};
 use crate::sharing::Sharing;
 use alone_run::turns::{Board, Found, Owners, Processor, Quantum, turn};
 use std::sync::Wait;
-use std::thread;
 use turn_lock::{Pass, Turn};
 
 /// Why a processor stopped.
@@ -62,10 +61,7 @@ fn take_turns<R: Wait, P: Processor + RanLast>(
             return Stop::NoMemory;
         };
         let brought = before < port.brought();
-        // The processor whose thread stores what this one waits for may have none of the system's own just now.
-        if course.go_on(runner, pace, port.last(), brought) {
-            thread::yield_now();
-        }
+        course.go_on(runner, pace, port.last(), brought);
     }
     unreachable!()
 }
