@@ -47,7 +47,10 @@ groups={}
 inchecks=False
 def group(a):
     return groups.setdefault(a,100+len(groups))
+spin=False
 for l in open(src):
+    if 'core::hint::spin_loop' in l and l.startswith('define '): spin=True
+    if spin and l.strip()=='ret void': o.write('  call void asm sideeffect "pause", "~{dirflag},~{fpsr},~{flags}"()\n'); spin=False
     if 'i8 -86, i64' in l and 'memset' in l: continue
     if 'call void @"rattle-llvm-checks::' in l or 'call void @llvm.trap()' in l: continue
     if l.startswith('define '):

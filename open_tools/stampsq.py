@@ -1,13 +1,13 @@
 # stamps.py CLONE CRATE: gives the crates below CRATE the libraries that a running rt ci has built
 import sys,os,glob,shutil,importlib.util,importlib.machinery
-sys.path.insert(0,'/opt/rattle/bin')
-spec=importlib.util.spec_from_loader('rtlib',importlib.machinery.SourceFileLoader('rtlib','/opt/rattle/bin/rtlib.py'))
+sys.path.insert(0,'/tmp/hS/kit/bin')
+spec=importlib.util.spec_from_loader('rtlib',importlib.machinery.SourceFileLoader('rtlib','/tmp/hS/kit/bin/rtlib.py'))
 rtlib=importlib.util.module_from_spec(spec); sys.modules['rtlib']=rtlib; spec.loader.exec_module(rtlib)
 top,name=sys.argv[1:3]
 os.chdir(f'{top}/crates/{name}')
 here=os.getcwd()
 crate=rtlib.Crate(here, rtlib.root_above(here), {}, name=None)
-copies=["/tmp/L2","/tmp/L"]
+copies=["/tmp/g4","/tmp/g"]
 n=m=0
 for it in crate.below():
     for c in copies:
