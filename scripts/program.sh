@@ -1,5 +1,5 @@
 # shellcheck shell=bash disable=SC2154
-# Read by run, drive, build, .ci/run and tests/run: which programs are proved and built from the sources as they are, and how to
+# Read by run, drive, show, build, .ci/run, tests/run and scripts of bench: which programs are proved and built from the sources as they are, and how to
 # run one. Who reads it has set `top` to the repository's folder, and `script` to its own name.
 #
 # A proved program stands in out/proved/SUM/, where SUM is a sum of all that it was made from: the bytes of the sources,
@@ -11,7 +11,7 @@ source "$top/scripts/usage.sh"
 
 programs=(v_run v_drive v_show)
 about_trying='a minute or two each time'
-about_proving='about 40 minutes on four processors from nothing'
+about_proving='an hour to an hour and a half on four processors from nothing'
 proved_folder="$top/out/proved"
 
 # The statuses of these scripts that are no program's.
