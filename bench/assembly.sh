@@ -6,7 +6,7 @@
 # Makes a program in a temporary folder, and lets rt prove and build it there.
 set -euo pipefail
 source "$(dirname "$0")/program.sh"
-begin_program assembly_times 'rv32_isa rv32_asm'
+begin_program assembly_times "$(crates_below rv32_asm)"
 cat > "$program/src/main.rt" <<'MAIN'
 #![tactic(auto)]
 

@@ -11,7 +11,7 @@
 # Makes a program in a temporary folder, and lets rt prove and build it there.
 set -euo pipefail
 source "$(dirname "$0")/program.sh"
-begin_program displacement_times 'cache_ident phys_groups sorted_list slot_cache growing_list owner_shelf kind_store depend_lists' anyhow
+begin_program displacement_times "$(crates_below kind_store depend_lists)" anyhow
 mkdir -p "$program"/proofs/{depend,lock_oldest,with_room,displace_often,filled,best_of,measured}
 cat > "$program/src/main.rt" <<'MAIN'
 #![tactic(auto)]

@@ -5,7 +5,7 @@
 # Makes a program in a temporary folder, and lets rt prove and build it there.
 set -euo pipefail
 source "$(dirname "$0")/program.sh"
-begin_program journal_times 'cache_ident phys_groups sorted_list depend_lists writeback_order rv32_ma rv32_isa rv32_exec fault_forward signal_pages flat_state flat_laws run_journal journal_text'
+begin_program journal_times "$(crates_below journal_text)"
 cat > "$program/src/main.rt" <<'MAIN'
 #![tactic(auto)]
 

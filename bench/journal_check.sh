@@ -6,9 +6,7 @@
 # Makes a program in a temporary folder, and lets rt prove and build it there.
 set -euo pipefail
 source "$(dirname "$0")/program.sh"
-crates=$(sed -n '/^byte_ports/,/^journal_check/s/^\([a-z_0-9]*\)[ a-z_=+A-Z0-9]*:.*/\1/p' "$top/crates.txt" |
-    grep -vE '^(byte_ports|ready_queue|kernel_cache|space_cache|thread_cache|slot_cache|owner_shelf|kind_store|turn_lock|page_views|quantum|scenario_gen|seed_scenarios|scenario_print|flat_report|report_text)$')
-begin_program check_times "$(echo $crates)"
+begin_program check_times "$(crates_below journal_check)"
 cat > "$program/src/main.rt" <<'MAIN'
 #![tactic(auto)]
 

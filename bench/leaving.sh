@@ -18,7 +18,7 @@
 # Makes a program in a temporary folder, and lets rt prove and build it there.
 set -euo pipefail
 source "$(dirname "$0")/program.sh"
-begin_program leaving_times 'cache_ident sorted_list depend_lists writeback_order' anyhow
+begin_program leaving_times "$(crates_below writeback_order)" anyhow
 mkdir -p "$program"/proofs/{depend,load,timed,of_rows}
 cat > "$program/src/main.rt" <<'MAIN'
 #![tactic(auto)]

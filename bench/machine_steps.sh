@@ -5,7 +5,7 @@
 # Makes a program in a temporary folder, and lets rt prove and build it there.
 set -euo pipefail
 source "$(dirname "$0")/program.sh"
-begin_program step_times 'cache_ident phys_groups rv32_ma rv32_isa rv32_exec fault_forward signal_pages flat_state flat_thread flat_rules flat_mmu flat_events row_table flat_machine'
+begin_program step_times "$(crates_below flat_machine)"
 cat > "$program/src/main.rt" <<'MAIN'
 #![tactic(auto)]
 

@@ -6,7 +6,7 @@
 # Makes a program in a temporary folder, and lets rt prove and build it there.
 set -euo pipefail
 source "$(dirname "$0")/program.sh"
-begin_program row_times 'cache_ident phys_groups signal_pages row_table'
+begin_program row_times "$(crates_below row_table)"
 cat > "$program/src/main.rt" <<'MAIN'
 #![tactic(auto)]
 
