@@ -6,13 +6,16 @@
 # - a completed call that grants rights on a group (9), and calls that make a signal row and take it out again (6 and 7),
 #   where 1,024 and where 65,536 rows are loaded and nothing leaves. Of these the same steps with a call that does nothing
 #   are taken off;
-# - a row that displaces another in a full cache of 32,100 rows, where none is locked and where 32,000 are.
-# Counted are the operations alone, without the reading of their lines and the writing of answers. A call's count is the
-# difference between a long list and a shorter one. PROGRAM is a v_drive to count instead of the one that is built, as an older
+# - a row that displaces another in a full cache of 32,100 rows, where none is locked and where 32,000 are;
+# - the declaration of a row that takes most, beside the middle one, of 10,000 on a new board and of 1,500 behind 130,500 others. Room doubles
+#   about each power of two, as 131,072: what is moved then as it stands, by memcpy or memmove, isn't counted.
+# Counted are the operations alone, without the reading of their lines and the writing of answers. A declaration is counted by itself; the
+# count of any other call is the difference between a long list and a shorter one. PROGRAM is a v_drive to count instead of the one that is built, as an older
 # one.
 #
-# The bars: 30,000 for the row, 18,000 for the thread, 20,000 for the displacing row; 3 for the ratios, and 2 for that of locked
-# rows. The program that was built on 2026-11-30 takes 12,600, 7,600 and 5,500, with ratios of 1.0 and 1.5, and 1.1 for locked rows.
+# The bars: 30,000 for the row, 18,000 for the thread, 20,000 for the displacing row; 3 for the ratios, 2 for that of locked
+# rows, and 20 for that of a declaration. The program that was built on 2026-11-30 takes 12,600, 7,600 and 5,500, with ratios of 1.0
+# and 1.5, and 1.1 for locked rows; one that was built without proofs on 2026-12-02 has 1.9 and 1.7 for a declaration.
 set -euo pipefail
 script=bench/calls.sh
 top="$(cd "$(dirname "$0")/.." && pwd)"
@@ -144,6 +147,51 @@ called() {
     }'
 }
 
+# declared ROWS MORE: so many rows are declared in the scenario, and then so many more, each by an operation.
+declared() {
+    machine
+    awk -v rows="$1" -v more="$2" 'BEGIN {
+        for (i = 0; i < rows; i++) print "map 0", i, i % 2048, "r"
+        print "end"
+        for (; i < rows + more; i++) print "declare map 0", i, i % 2048, "r -"
+    }'
+}
+
+# declarations ROWS MORE: what the declarations of such a list take that are operations, from the one that takes least on. The profile
+# has a part for each, in which a function is named where it first stands, and a line behind `calls=` counts what was called once more.
+declarations() {
+    declared "$1" "$2" > "$place/list"
+    valgrind --tool=callgrind --toggle-collect='cache_board::driving::perform' --dump-after='cache_board::driving::perform' \
+        --combine-dumps=yes --callgrind-out-file="$place/profile" "$counted_program" < "$place/list" 2> "$place/said" > "$place/answers"
+    [[ $(grep -c '^did$' "$place/answers") == "$2" ]] || { echo "$script: a declaration is refused" >&2; exit 1; }
+    awk '
+        /^part:/ { split("", known); moves = moved = 0 }
+        /^c?fn=/ {
+            name = $0
+            sub(/^c?fn=/, "", name)
+            number = name
+            sub(/ .*/, "", number)
+            if (name != number) known[number] = name
+            if (/^fn=/) moves = known[number] ~ /mem(cpy|move)/
+        }
+        /^calls=/ { getline; next }
+        /^[-+*0-9]/ && moves { moved += $2 }
+        /^totals:/ && $2 > 0 { print $2 - moved }' "$place/profile" | sort -n
+    rm "$place/profile"
+}
+
+# dearest ROWS MORE: the middle one and the last of these.
+dearest() {
+    declarations "$1" "$2" | awk -v rows="$1" -v more="$2" '
+        { took[NR] = $1 }
+        END {
+            if (NR != more) { print NR " declarations were counted, and not " more; exit 1 }
+            middle = took[int((NR + 1) / 2)]
+            printf "declaration: of %d behind %d rows the middle one takes %d instructions, the dearest %d\n", NR, rows, middle, took[NR]
+            printf "ratio %.2f, at most 20\n", took[NR] / middle
+        }'
+}
+
 # What a cycle takes whose calls do nothing, by the number of rows.
 declare -A steps=()
 
@@ -167,3 +215,5 @@ free_to_go=$(per_cycle locked 1000 0)
 kept=$(per_cycle locked 1000 32000)
 echo "displacing row of 32100: $free_to_go instructions to load it, and $kept where 32000 are locked"
 awk -v free="$free_to_go" -v kept="$kept" 'BEGIN { print "ratio", kept / free }'
+dearest 0 10000
+dearest 130500 1500

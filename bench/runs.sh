@@ -11,8 +11,9 @@
 # greeting, which takes at most 3 times the peer's whole time.
 #
 # What is timed is the processor's time for the whole program, the shortest of nine runs. Where valgrind is on the path, instructions are
-# counted too, which no other work on the machine changes: those that make the owners of 262,144 rows, at most as many as those that
-# declare the rows; and, where PEERS is given, from one thread call to the next, with the nine steps between them, at most 10,000.
+# counted too, which no other work on the machine changes: those that make the owners of 262,144 rows, at most as many as those with
+# which the board's tables declare the rows; these beside half as many rows, at most 2.2 times; and, where PEERS is given, from one thread
+# call to the next, with the nine steps between them, at most 10,000.
 # PROGRAM is a v_run to time instead of the one that ./build leaves, as an older one. Fails where a bar isn't met.
 set -u
 unset CDPATH
@@ -147,14 +148,18 @@ taken_by() {
 }
 
 if hash valgrind 2> /dev/null; then
-    rows 262144 > "$place/text"
-    valgrind --tool=callgrind --callgrind-out-file="$place/profile" "$proved" < "$place/text" > "$place/answer" 2> /dev/null
-    begins 'done'
-    declared=$(taken_by desc_tables::tables::Tables::declare)
-    owned=$(taken_by owners::owners::Owners::new)
-    echo "262,144 rows: ${declared:-no} instructions to declare them, ${owned:-no} to make their owners"
-    if [ -n "$declared" ] && [ -n "$owned" ]; then
+    for number in 131072 262144; do
+        rows "$number" > "$place/text"
+        valgrind --tool=callgrind --callgrind-out-file="$place/profile" "$proved" < "$place/text" > "$place/answer" 2> /dev/null
+        begins 'done'
+        fewer=${declared-}
+        declared=$(taken_by desc_tables::tables::Tables::declare)
+        owned=$(taken_by owners::owners::Owners::new)
+        echo "$number rows: ${declared:-no} instructions to declare them, ${owned:-no} to make their owners"
+    done
+    if [ -n "$declared" ] && [ -n "$owned" ] && [ -n "$fewer" ]; then
         judge 'owners beside declarations' "$owned" "$declared" 100
+        judge 'twice the declarations' "$declared" "$fewer" 220
     else
         failed=1
     fi
