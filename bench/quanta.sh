@@ -6,36 +6,36 @@
 #   kept over a quantum, and copied anew where their frame was changed since, which is told by a stamp for each frame; and of what a
 #   quantum stored to, the part that changed is copied back;
 # - few: the same with 8 views.
-# Quanta of a loop of few pages should be no slower with 64 views than with 8.
-# PEERS is a folder with a plain interpreter in C and loops that it reads. Where it is given, its loop mix is taken, or its loop LOOP, and the
-# interpreter runs in turn with the program; the ratios are of the best times of each. Its loop stride goes over 64 pages, five
-# steps on each, and quanta of it should reach 0.5 of the peer. Else there are no ratios, and the loop is one that adds the words of
-# a page and stores the sum. No board is asked: what its calls take, bench/runs.sh times with the whole program.
+# Quanta of a loop of few pages should be no slower with 64 views than with 8. A loop over 64 pages shows what the views beyond 8 are for.
+# PEERS is a folder with a plain interpreter in C and loops that it reads. Where it is given, its loops mix and stride are taken, or its loop
+# LOOP alone, and the interpreter runs in turn with the program; the ratios are of the best times of each. Its loop stride goes over 64
+# pages, five steps on each, and quanta of it should reach 0.5 of the peer. Else there are no ratios to a peer, and the loops are two of
+# bench/loops: adding adds the words of a page and stores the sum, and striding adds to a word of each of 64 pages in turn. No board is
+# asked: what its calls take, bench/runs.sh times with the whole program.
 #
-# Makes a program in a temporary folder, and lets rt prove and build it there. It wants that nobody else uses the machine.
+# Makes a program in a temporary folder, and lets rt prove and build it there for each loop. It wants that nobody else uses the machine.
 set -euo pipefail
 source "$(dirname "$0")/../scripts/usage.sh"
 take_help "$@"
 peers="${1:-}"
-loop="${2:-mix}"
 if [ -n "$peers" ]; then peers="$(cd "$peers" && pwd)"; fi
 source "$(dirname "$0")/program.sh"
+if [ -n "$peers" ]; then
+    folder="$peers/loops"
+    read -r -a loops <<< "${2:-mix stride}"
+else
+    # adding: x1 = 0x11000; again: x2 = x1, x3 = x1 + 2044; word: x4 = [x2], x5 += x4, [x2] = x5, x2 += 4, to word while
+    # x2 < x3; to again
+    # striding: x1 = 0x11000, x5 = 0x1000, x4 = 0x51000; again: x2 = x1; page: x3 = [x2], x3 += 1, [x2] = x3, x2 += x5, to page
+    # while x2 isn't x4; to again
+    folder="$top/bench/loops"
+    loops=(adding striding)
+fi
 begin_program quantum_times "$(crates_below quantum)"
 
 turns=40
 
-# The scenario of the loop: its rows and its words.
-scenario() {
-    if [ -n "$peers" ]; then
-        cat "$peers/loops/$loop.scn"
-        return
-    fi
-    # x1 = 0x11000; again: x2 = x1, x3 = x1 + 2044; word: x4 = [x2], x5 += x4, [x2] = x5, x2 += 4, to word while
-    # x2 < x3; to again
-    cat "$top/bench/loops/adding.scn"
-}
-
-# The rows and the words as constants.
+# The rows and the words of a scenario as constants.
 constants() {
     awk '
         function flag(c) { return index($5, c) ? "true" : "false" }
@@ -55,7 +55,8 @@ constants() {
         }'
 }
 
-{
+# main_of LOOP: the program that times that loop.
+main_of() {
     cat <<'HEAD'
 #![tactic(auto)]
 
@@ -98,7 +99,7 @@ struct Line {
 }
 
 HEAD
-    scenario | constants
+    constants < "$folder/$1.scn"
     cat <<'MAIN'
 // The frames as bytes, when each was changed last, and how many quanta there were.
 #[derive(Drop)]
@@ -304,35 +305,51 @@ fn main(rt: HostRuntime) -> io::Result<()> {
     timed(&rt, rt.alloc(), FEW_VIEWS, "few")
 }
 MAIN
-} > "$program/src/main.rt"
+}
 
-# Proves, builds and runs the program once. The turns run what was built.
-run_program ' thousand steps a second' > /dev/null
-if [ -n "$peers" ]; then make -s -C "$peers" B="$place/peers"; fi
-for ((turn = 0; turn < turns; turn++)); do
-    "$program/out/quantum_times"
-    if [ -n "$peers" ]; then
-        # It ends with 2, since all steps are taken.
-        "$place/peers/rvi_paged" --time --steps 20000000 < "$peers/loops/$loop.scn" 2>&1 > /dev/null |
-            awk '{ printf "peer %d thousand steps a second (%d steps)\n", $NF / 1000, $2 }' || true
-    fi
-done | awk -v loop="$loop" '
-    # One long run ends early where there is no room for all pages of a loop, and tells nothing then.
-    $1 == "alone" && $0 !~ /[(]20000000 steps[)]/ { next }
-    !($1 in best) || $2 > best[$1] { best[$1] = $2; line[$1] = $0 }
-    function said(value, bar) { return value < bar ? sprintf(", below %.2f", bar) : "" }
-    END {
-        if ("alone" in best) print line["alone"]
-        print line["quanta"]
-        print line["few"]
-        if (loop != "stride") {
+# times LOOP: the times of all turns.
+times() {
+    local turn
+    for ((turn = 0; turn < turns; turn++)); do
+        "$place/$1"
+        if [ -n "$peers" ]; then
+            # It ends with 2, since all steps are taken.
+            "$place/peers/rvi_paged" --time --steps 20000000 < "$folder/$1.scn" 2>&1 > /dev/null |
+                awk '{ printf "peer %d thousand steps a second (%d steps)\n", $NF / 1000, $2 }' || true
+        fi
+    done
+}
+
+# best LOOP: the best of these, and their ratios.
+best() {
+    awk -v loop="$1" '
+        # One long run ends early where there is no room for all pages of a loop, and tells nothing then.
+        $1 == "alone" && $0 !~ /[(]20000000 steps[)]/ { next }
+        !($1 in best) || $2 > best[$1] { best[$1] = $2; line[$1] = $0 }
+        function said(value, bar) { return value < bar ? sprintf(", below %.2f", bar) : "" }
+        END {
+            print loop
+            if ("alone" in best) print "  " line["alone"]
+            print "  " line["quanta"]
+            print "  " line["few"]
             ratio = best["quanta"] / best["few"]
-            printf "quanta with 64 views beside 8: %.2f times as fast%s\n", ratio, said(ratio, 1)
-        }
-        if ("peer" in best) {
-            print line["peer"]
-            if ("alone" in best) printf "ratio of steps alone to the peer: %.2f\n", best["alone"] / best["peer"]
-            ratio = best["quanta"] / best["peer"]
-            printf "ratio of quanta to the peer: %.2f%s\n", ratio, loop == "stride" ? said(ratio, 0.5) : ""
-        }
-    }'
+            printf "  quanta with 64 views beside 8: %.2f times as fast%s\n", ratio, loop ~ /^strid/ ? "" : said(ratio, 1)
+            if ("peer" in best) {
+                print "  " line["peer"]
+                if ("alone" in best) printf "  ratio of steps alone to the peer: %.2f\n", best["alone"] / best["peer"]
+                ratio = best["quanta"] / best["peer"]
+                printf "  ratio of quanta to the peer: %.2f%s\n", ratio, loop == "stride" ? said(ratio, 0.5) : ""
+            }
+        }'
+}
+
+# Proves, builds and runs the program of each loop once. The turns run what was built.
+for loop in "${loops[@]}"; do
+    main_of "$loop" > "$program/src/main.rt"
+    run_program ' thousand steps a second' > /dev/null
+    cp "$program/out/quantum_times" "$place/$loop"
+done
+if [ -n "$peers" ]; then make -s -C "$peers" B="$place/peers"; fi
+for loop in "${loops[@]}"; do
+    times "$loop" | best "$loop"
+done
