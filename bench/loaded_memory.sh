@@ -1,15 +1,16 @@
 #!/usr/bin/env bash
 # Usage: bench/loaded_memory.sh [PROGRAM]
-# Prints how many bytes of memory a row and a thread take once they are declared, and how many more while they are loaded. Each is a
-# difference of two lists of operations that have the program write as many entries into its journal:
-# - 16,000 rows or threads are declared, and beside that as many words;
+# Prints how many bytes of memory a row and a thread take once they are declared, and how many more while they are loaded. Each is the
+# difference of what two lists of operations take:
+# - 16,000 rows or threads are declared, and beside that as many words, which make as many entries of the journal;
 # - 60,000 declared rows are loaded, and beside that the first is loaded, and refused as often as there are others. The entry of the
 #   journal that a load makes, 40 bytes, is taken off;
 # - 256 declared threads, which are all that can be loaded at once, are loaded behind many rows, and beside that each is refused. They fill
 #   few pages, so that is done behind sixteen numbers of rows, and all are added up. It is exact to some 20 bytes.
 # Counted are the pages that the system gave the program, less the bytes of the two texts. So that no page counts for two things, the
-# allocator is told to give back what is freed at once. What a load makes room for counts once it is written to. docs/DECISIONS.md says where
-# the bytes go. PROGRAM is a v_drive to measure instead of the one that is built, as an older one. It wants Debian's package time.
+# allocator is told to give back what is freed at once, and setarch has addresses be the same in all runs. What a load makes room for counts
+# once it is written to. docs/DECISIONS.md says where the bytes go. PROGRAM is a v_drive to measure instead of the one that is built, as an
+# older one. It wants Debian's package time.
 set -euo pipefail
 script=bench/loaded_memory.sh
 top="$(cd "$(dirname "$0")/.." && pwd)"
