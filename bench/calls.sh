@@ -10,8 +10,8 @@
 # - the declaration of a row that takes most, beside the middle one, of 10,000 on a new board and of 1,500 behind 130,500 others. Room doubles
 #   about each power of two, as 131,072: what is moved then as it stands, by memcpy or memmove, isn't counted.
 # Counted are the operations alone, without the reading of their lines and the writing of answers. A declaration is counted by itself; the
-# count of any other call is the difference between a long list and a shorter one. PROGRAM is a v_drive to count instead of the one that is built, as an older
-# one.
+# count of any other call is the difference between a long list and a shorter one. PROGRAM is a v_drive to count instead of the one that is
+# built, as an older one.
 #
 # The bars: 30,000 for the row, 18,000 for the thread, 20,000 for the displacing row; 3 for the ratios, 2 for that of locked
 # rows, and 20 for that of a declaration. The program that was built on 2026-11-30 takes 12,600, 7,600 and 5,500, with ratios of 1.0
