@@ -52,7 +52,7 @@ rows() {
     awk -v rows="$1" -v each="$2" 'BEGIN {
         for (i = 0; i < rows; i++) print "map 0", i, i % 128, "r"
         print "end\nseal\nload space 0 K0.0 0"
-        for (i = 0; i < rows; i++) print "load row 0 K0.0 S0.1", each * i, "-"
+        for (i = 0; i < rows; i++) print "load row", 0, "K0.0 S0.1", each * i, "-"
     }'
 }
 
@@ -63,7 +63,7 @@ threads() {
         for (i = 0; i < threads; i++) print "thread", i, 0, 0
         for (i = 0; i < rows; i++) print "map 0", i, i % 128, "r"
         print "end\nseal\nload space 0 K0.0 0"
-        for (i = 0; i < rows; i++) print "load row 0 K0.0 S0.1", i, "-"
+        for (i = 0; i < rows; i++) print "load row", 0, "K0.0 S0.1", i, "-"
         for (i = 0; i < threads; i++) print "load thread 0", kernel, "S0.1", i
     }'
 }
