@@ -4,7 +4,6 @@ use Rattle.std.specs.List.{list_any}
 use Rattle.std.specs.Option.{option_map}
 use Rattle.std.specs.Prelude.{if◌then◌else◌}
 use Rattle.std.proofs.lemmas.Option.{slice_get_cases}
-use Rattle.cache_ident.specs.declared.idents.Ident.{Ident}
 use Rattle.cache_ident.specs.declared.names.Caps.{Caps}
 use Rattle.cache_ident.specs.declared.names.Name.{Name}
 use Rattle.cache_ident.specs.declared.names.Name.TheVariants as name
@@ -24,8 +23,7 @@ use Rattle.board_laws.specs.shown_state.specs.Shown.{shown}
 use Rattle.thread_sets.specs.Sets.{SameButRoom, Sets}
 use Rattle.thread_sets.specs.SetsOf.{AreSetsOf}
 use Rattle.cached_machine.specs.Cached.{is_loaded, Cached, IsSoundMachine}
-use Rattle.cached_machine.specs.Posts.{last_in, mark_in, mark_of, HasLoadedMarks, HasPosts, HasSameMarks, OnlyLoadedAreOut}
-use Rattle.cached_machine.proofs.LoadedLaws.{ComesFrom}
+use Rattle.cached_machine.specs.Posts.{last_in, mark_in, mark_of, HasLoadedMarks, HasSameMarks, OnlyLoadedAreOut}
 
 pub itself_but_room : (sets : Sets) → SameButRoom sets sets
 itself_but_room sets = record { completable = refl; ready = refl }
@@ -48,16 +46,6 @@ module _ (machine : Machine) (memory : List ℕ) (h h' : Held) (sets sets' : Set
     caps = caps ∙ sound.caps;
     sums = sound.sums ∙ ap (λ (s : FlatState). locks_granted s.kernels) (sym state);
   }
-
--- the slots are known still where nothing was loaded
-pub posts_stay : (h h' : Held) (seats : List ThreadNo) → h'.caps ≡ h.caps → ComesFrom (residents_of h.contents) (residents_of h'.contents) → OnlyLoadedAreOut h'.contents → HasPosts h seats → HasPosts h' seats
-posts_stay h h' seats caps from out has = record {
-  slots = has.slots ∙ ap (λ (c : Caps). c.threads) (sym caps);
-  seated = λ r whom there named.
-      let was = from.each r there in
-      ap (λ (i : Ident). slice_get seats i.slot) (sym was.3) ∙ has.seated was.0 whom was.1 (was.2 ∙ named);
-  out = out;
-}
 
 -- ---- marks and last checkouts
 

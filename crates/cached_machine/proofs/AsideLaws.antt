@@ -1,11 +1,9 @@
 -- What stays where nothing changed but memory and what steps change of contents.
-use Rattle.std.proofs.Common.{◌≡◌, List, Option, Some, None, refl, sym, ◌∙◌, ap, subst}
+use Rattle.std.proofs.Common.{◌≡◌, List, Option, Some, None, refl, sym, ◌∙◌, ap}
 use Rattle.std.specs.List.{list_any}
 use Rattle.std.specs.Option.{option_map}
-use Rattle.cache_ident.specs.declared.names.Caps.{Caps}
 use Rattle.cache_ident.specs.declared.names.Name.{Name}
 use Rattle.cache_ident.specs.declared.names.Name.TheVariants as name
-use Rattle.cache_ident.specs.declared.names.ThreadNo.{ThreadNo}
 use Rattle.cache_ident.specs.Residents.{Resident}
 use Rattle.thread_sets.specs.kind_store.specs.Changes.{is_name}
 use Rattle.board_laws.specs.desc_stores.specs.declared.items.Item.{Item}
@@ -16,7 +14,7 @@ use Rattle.board_laws.specs.shown_state.specs.Shown.{HasSameNames}
 use Rattle.board_laws.specs.Moves.{KeepsLoaded}
 use Rattle.cached_machine.specs.Cached.{is_loaded, Cached}
 use Rattle.cached_machine.specs.Aside.{aside_of, but_for_steps, Aside}
-use Rattle.cached_machine.specs.Posts.{last_in, mark_in, AreSeated, HasPosts, HasSameMarks}
+use Rattle.cached_machine.specs.Posts.{last_in, mark_in, HasSameMarks, OnlyLoadedAreOut}
 use Rattle.cached_machine.specs.Moved.{KeepsBeside}
 use Rattle.cached_machine.proofs.AlikeLaws.{same_out}
 
@@ -92,13 +90,9 @@ module _ (old new : Cached) (same : aside_of new ≡ aside_of old) where
       (λ n. sym (marked_alike (content_of new.held.contents n)) ∙ ap mark_in (contents_stay n) ∙ marked_alike (content_of old.held.contents n))
       (λ n. sym (checked_alike (content_of new.held.contents n)) ∙ ap last_in (contents_stay n) ∙ checked_alike (content_of old.held.contents n))
 
-  -- and its slot
-  pub posts_stay : (seats : List ThreadNo) → HasPosts old.held seats → HasPosts new.held seats
-  posts_stay seats has = record {
-    slots = has.slots ∙ sym (ap (λ (c : Caps). c.threads) caps_stay);
-    seated = subst (λ (rs : List Resident). AreSeated rs seats) (sym residents_stay) has.seated;
-    out = same_out old.held.contents new.held.contents marks_stay (loaded_alike old.held.contents new.held.contents residents_stay) has.out;
-  }
+  -- and only loaded threads have one
+  pub out_stays : OnlyLoadedAreOut old.held.contents → OnlyLoadedAreOut new.held.contents
+  out_stays = same_out old.held.contents new.held.contents marks_stay (loaded_alike old.held.contents new.held.contents residents_stay)
 
   pub beside_stays : KeepsBeside old new
   beside_stays = record { machine = machine_stays; caps = caps_stay; gone = gone_stays; spare = spare_stays; loaded = loaded_stays; marks = marks_stay }

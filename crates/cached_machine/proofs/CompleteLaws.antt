@@ -40,10 +40,10 @@ use Rattle.board_laws.specs.desc_tables.specs.Tables.{Held}
 use Rattle.cached_machine.specs.Aside.{aside_of, Aside}
 use Rattle.cached_machine.specs.Cached.{state_of, Cached, IsSoundMachine}
 use Rattle.cached_machine.specs.Moved.{KeepsBeside, KeepsPost, OnlyRoom}
-use Rattle.cached_machine.specs.Posts.{last_in, mark_in, HasPosts}
+use Rattle.cached_machine.specs.Posts.{last_in, mark_in, OnlyLoadedAreOut}
 use Rattle.cached_machine.specs.Stepping.{IfThread}
 use Rattle.cached_machine.proofs.AsideLaws.{checked_alike, marked_alike}
-use Rattle.cached_machine.proofs.MadeLaws.{beside_held, held_with, held_without, posts_kept, room_held, sound_as, KeepsHeld}
+use Rattle.cached_machine.proofs.MadeLaws.{beside_held, held_with, held_without, out_kept, room_held, sound_as, KeepsHeld}
 
 -- ---- beside the state
 
@@ -98,12 +98,12 @@ module _ (machine : Machine) (memory : List ℕ) (h h' : Held) (sets : Sets) (sp
   pub row_went : state_of without_it ≡ record (state_of with_it) { rows = without space vpn.0 (state_of with_it).rows }
   row_went = retraction_shown (Some machine) memory h.contents h'.contents space vpn gone
 
-  pub row_went_sound : (granted : Caps) (seats : List ThreadNo) → residents_of h'.contents ≡ residents_of h.contents → IsSoundMachine with_it granted × HasPosts h seats → IsSoundMachine without_it granted × HasPosts h' seats
-  row_went_sound granted seats residents sound =
+  pub row_went_sound : (granted : Caps) → residents_of h'.contents ≡ residents_of h.contents → IsSoundMachine with_it granted × OnlyLoadedAreOut h.contents → IsSoundMachine without_it granted × OnlyLoadedAreOut h'.contents
+  row_went_sound granted residents sound =
       let s = state_of with_it in
       let kept = held_without h h' rest residents (ap (λ (c : Contents). c.issued) gone.only) space vpn gone.contents in
       let fits = without_sound s granted (record { formed = sound.0.formed; sums = sound.0.sums }) space vpn.0 in
-      (sound_as with_it without_it granted granted refl (ap (λ (x : Held). x.caps) rest) sound.0 (record s { rows = without space vpn.0 s.rows }) row_went fits sound.0.sets, posts_kept h h' seats kept sound.1)
+      (sound_as with_it without_it granted granted refl (ap (λ (x : Held). x.caps) rest) sound.0 (record s { rows = without space vpn.0 s.rows }) row_went fits sound.0.sets, out_kept h h' kept sound.1)
 
 -- ---- a thread's own part
 
@@ -173,10 +173,10 @@ module _ (machine : Machine) (memory : List ℕ) (h h' : Held) (sets sets' : Set
     carried_beside = beside_held before after refl held spare
 
     module _ {T E : Type 0} (r : Result T E) (ok : OnOk r (flat_thread left ≡ own_part (flat_thread was))) (err : OnErr r (left ≡ was)) where
-      pub carried_sound : (granted : Caps) (seats : List ThreadNo) → IsSoundMachine before granted × HasPosts h seats → IsSoundMachine after granted × HasPosts h' seats
-      carried_sound granted seats sound =
+      pub carried_sound : (granted : Caps) → IsSoundMachine before granted × OnlyLoadedAreOut h.contents → IsSoundMachine after granted × OnlyLoadedAreOut h'.contents
+      carried_sound granted sound =
           let fits = own_fits (state_of before) granted (record { formed = sound.0.formed; sums = sound.0.sums }) no.0 (flat_thread was) (flat_thread left) stood r ok (on_err_weaker r (ap flat_thread) err) in
-          (sound_left shows granted (ap (λ (x : Held). x.caps) rest) sets_are fits sound.0, posts_kept h h' seats held sound.1)
+          (sound_left shows granted (ap (λ (x : Held). x.caps) rest) sets_are fits sound.0, out_kept h h' held sound.1)
 
       pub carried_ok : OnOk r (OfThread (state_of before) no.0 (λ t. state_of after ≡ with_thread (state_of before) no.0 (own_part t)))
       carried_ok = on_ok_weaker r (λ done t here. now_stands shows ∙ ap (λ (u : FlatThread). with_thread (state_of before) no.0 u) (done ∙ ap own_part (same_Some (flat_thread was) t (sym stood ∙ here)))) ok

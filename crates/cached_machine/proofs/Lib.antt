@@ -1,8 +1,8 @@
 pub mod LoadedLaws
 pub mod AlikeLaws
 pub mod PostLaws
-pub mod CheckLaws
 pub mod BackLaws
+pub mod OutLaws
 pub mod MoveLaws
 pub mod RoomLaws
 pub mod AsideLaws

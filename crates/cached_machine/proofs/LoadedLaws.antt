@@ -5,7 +5,6 @@ use Rattle.std.specs.Prelude.{◌||◌}
 use Rattle.cache_ident.specs.declared.names.Name.{Name}
 use Rattle.cache_ident.specs.declared.names.Name.TheVariants as name
 use Rattle.cache_ident.specs.declared.names.ThreadNo.{ThreadNo}
-use Rattle.cache_ident.specs.Names.{kind_of}
 use Rattle.cache_ident.specs.Residents.{Resident}
 use Rattle.board_laws.specs.flat_laws.proofs.Members.{Contains-behind, Contains-cases, Contains-here, contains_nothing}
 use Rattle.thread_sets.specs.owner_shelf.proofs.NameLemmas.{eq_apart, eq_itself}
@@ -14,7 +13,6 @@ use Rattle.thread_sets.specs.kind_store.proofs.ContentLemmas.{cases_name}
 use Rattle.board_laws.specs.desc_stores.specs.Contents.{content_of, residents_of, Contents}
 use Rattle.board_laws.specs.desc_stores.specs.Sound.{IsExactlyOne}
 use Rattle.board_laws.specs.store_residents.proofs.ContentLemmas.{resident_content}
-use Rattle.board_laws.specs.store_residents.proofs.ResidentLemmas.{one_each, one_in_slot, resident_kind}
 use Rattle.cached_machine.specs.Cached.{is_loaded}
 
 -- what a test finds in a list is in it, and passes
@@ -62,9 +60,6 @@ not_loaded rs n none = by (list_any (λ (r : Resident). is_name n r.name) rs) re
 pub record ComesFrom (old new : List Resident) : Type 0 where
   pub each : (r : Resident) → Contains new r → (q : Resident) × Contains old q × (q.name ≡ r.name) × (q.ident ≡ r.ident)
 
-pub comes_from_itself : (rs : List Resident) → ComesFrom rs rs
-comes_from_itself rs = record { each = λ r there. (r, there, refl, refl) }
-
 -- so what is loaded was
 pub was_loaded : (old new : List Resident) → ComesFrom old new → (n : Name) → list_any (λ (r : Resident). is_name n r.name) new ≡ true → list_any (λ (r : Resident). is_name n r.name) old ≡ true
 was_loaded old new from n any =
@@ -86,15 +81,3 @@ module _ (c : Contents) (one : IsExactlyOne c) (whom : ThreadNo) where
   loaded_stands any =
       let r = loaded_by (residents_of c) (name.Thread whom) any in
       subst (λ (n : Name). IsSome (content_of c n)) r.2 (resident_content c one r.0 r.1)
-
-  -- no other thread is loaded in its slot
-  pub alone_in_slot : (r q : Resident) (other : ThreadNo) → Contains (residents_of c) r → Contains (residents_of c) q → r.name ≡ name.Thread whom → q.name ≡ name.Thread other → r.ident.slot ≡ q.ident.slot → whom ≡ other
-  alone_in_slot r q other first second named called slot =
-      let of_kind = resident_kind c one.sound r first ∙ ap kind_of named ∙ sym (ap kind_of called) ∙ sym (resident_kind c one.sound q second) in
-      let same : r ≡ q = one_in_slot c one.sound r q first second of_kind slot in
-      let names : name.Thread whom ≡ name.Thread other = sym named ∙ ap (λ (x : Resident). x.name) same ∙ called in
-      cc
-
-  -- and it is in no other slot
-  pub one_slot : (r q : Resident) → Contains (residents_of c) r → Contains (residents_of c) q → r.name ≡ name.Thread whom → q.name ≡ name.Thread whom → r ≡ q
-  one_slot r q first second named called = (one_each c one).names r q first second (named ∙ sym called)

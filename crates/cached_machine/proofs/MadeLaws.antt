@@ -49,7 +49,7 @@ use Rattle.board_laws.specs.desc_tables.specs.Tables.{Held}
 use Rattle.board_laws.specs.Moves.{Declares, KeepsLoaded}
 use Rattle.cached_machine.specs.Cached.{is_loaded, state_of, Cached, IsSoundMachine}
 use Rattle.cached_machine.specs.Moved.{IsMade, KeepsBeside, OnlyRoom}
-use Rattle.cached_machine.specs.Posts.{last_in, last_of, mark_in, AreSeated, HasPosts, HasSameMarks}
+use Rattle.cached_machine.specs.Posts.{last_in, last_of, mark_in, HasSameMarks, OnlyLoadedAreOut}
 use Rattle.cached_machine.proofs.AdmitLaws.{new_declared}
 use Rattle.cached_machine.proofs.AlikeLaws.{same_out}
 
@@ -68,12 +68,8 @@ loaded_same old new same n = ap (λ (rs : List Resident). list_any (λ (r : Resi
 pub marks_kept : (h h' : Held) → KeepsHeld h h' → HasSameMarks h.contents h'.contents
 marks_kept h h' kept = record { marks = kept.on_cpu; lasts = kept.last }
 
-pub posts_kept : (h h' : Held) (seats : List ThreadNo) → KeepsHeld h h' → HasPosts h seats → HasPosts h' seats
-posts_kept h h' seats kept has = record {
-  slots = has.slots ∙ ap (λ (x : Held). x.caps.threads) (sym kept.rest);
-  seated = subst (λ (rs : List Resident). AreSeated rs seats) (sym kept.loaded.residents) has.seated;
-  out = same_out h.contents h'.contents (marks_kept h h' kept) (loaded_same h.contents h'.contents kept.loaded.residents) has.out;
-}
+pub out_kept : (h h' : Held) → KeepsHeld h h' → OnlyLoadedAreOut h.contents → OnlyLoadedAreOut h'.contents
+out_kept h h' kept = same_out h.contents h'.contents (marks_kept h h' kept) (loaded_same h.contents h'.contents kept.loaded.residents)
 
 pub beside_held : (m m' : Cached) → m'.machine ≡ m.machine → KeepsHeld m.held m'.held → m'.held.contents.spare ≡ m.held.contents.spare → KeepsBeside m m'
 beside_held m m' machine kept spare = record {
@@ -271,10 +267,10 @@ module _ (machine : Machine) (memory : List ℕ) (h h' : Held) (sets sets' : Set
     pub room_state : state_of after ≡ state_of before
     room_state = shown_by_room h.contents h'.contents more (Some machine) memory
 
-    pub room_sound : (granted : Caps) (seats : List ThreadNo) → SameButRoom sets sets' → IsSoundMachine before granted × HasPosts h seats → IsSoundMachine after granted × HasPosts h' seats
-    room_sound granted seats same sound = (
+    pub room_sound : (granted : Caps) → SameButRoom sets sets' → IsSoundMachine before granted × OnlyLoadedAreOut h.contents → IsSoundMachine after granted × OnlyLoadedAreOut h'.contents
+    room_sound granted same sound = (
       sound_by_room before after granted refl same_caps room_state same sound.0,
-      posts_kept h h' seats (held_by_room h h' rest more) sound.1,
+      out_kept h h' (held_by_room h h' rest more) sound.1,
     )
 
     pub room_only : sets.room ≤ sets'.room → OnlyRoom before after
@@ -288,8 +284,8 @@ module _ (machine : Machine) (memory : List ℕ) (h h' : Held) (sets sets' : Set
     put_held : KeepsHeld h h'
     put_held = held_new h h' rest residents issued it has absent mark last
 
-    pub put_posts : (seats : List ThreadNo) → HasPosts h seats → HasPosts h' seats
-    put_posts seats was = posts_kept h h' seats put_held was
+    pub put_out : OnlyLoadedAreOut h.contents → OnlyLoadedAreOut h'.contents
+    put_out = out_kept h h' put_held
 
     pub put_made : h'.contents.spare ≡ h.contents.spare → state_of after ≡ declared (state_of before) d → IsMade d before after
     put_made spare state = record { state = state; beside = beside_held before after refl put_held spare }

@@ -1,12 +1,8 @@
 -- What holds of a machine that is declared, and in which nothing stands.
-use Rattle.std.proofs.Common.{◌≡◌, ℕ, ◌*◌, ◌≤◌, List, [], length, replicate, Option, Some, None, IsSome, refl, sym, ◌∙◌, ap, subst, arith}
+use Rattle.std.proofs.Common.{◌≡◌, ℕ, ◌*◌, ◌≤◌, List, [], replicate, Option, Some, None, IsSome, refl, sym, ◌∙◌, ap, subst, arith}
 use Rattle.std.specs.Option.{option_map}
-use Rattle.std.specs.Prelude.{filter_map}
 use Rattle.cache_ident.specs.declared.names.Caps.{Caps}
 use Rattle.cache_ident.specs.declared.names.Name.TheVariants as name
-use Rattle.cache_ident.specs.declared.names.ThreadNo.{ThreadNo}
-use Rattle.cache_ident.specs.declared.rolls.Issued.{Issued}
-use Rattle.cache_ident.specs.Residents.{Resident}
 use Rattle.flat_state.specs.declared.events.Decl.TheVariants as decls
 use Rattle.flat_state.specs.declared.events.Machine.{Machine}
 use Rattle.flat_state.specs.declared.records.FlatThread.{FlatThread}
@@ -15,20 +11,18 @@ use Rattle.flat_state.specs.State.{nothing_declared, FlatState}
 use Rattle.flat_state.specs.WellFormed.{IsWellFormed}
 use Rattle.flat_state.proofs.FormedParts.{nothing_formed}
 use Rattle.flat_machine.proofs.DeclareSound.{machine_rules, machine_sound}
-use Rattle.board_laws.specs.flat_laws.proofs.Members.{contains_nothing}
 use Rattle.thread_sets.specs.kind_store.specs.Kept as stored
 use Rattle.thread_cache.specs.declared.ThreadRec.{ThreadRec}
 use Rattle.thread_cache.specs.Threads as thread_rec
 use Rattle.board_laws.specs.desc_stores.specs.declared.items.Item.TheVariants as item
 use Rattle.board_laws.specs.desc_stores.specs.Changes.{IsNothing}
-use Rattle.board_laws.specs.desc_stores.specs.Contents.{residents_of, resident_as, Contents}
 use Rattle.board_laws.specs.desc_stores.proofs.RoomLemmas.{sound-nothing}
 use Rattle.board_laws.specs.shown_state.proofs.DeclareLemmas.{nothing_shown}
 use Rattle.thread_sets.specs.Sets.{Sets}
 use Rattle.thread_sets.specs.SetsOf.{AreSetsOf}
 use Rattle.board_laws.specs.desc_tables.specs.Tables.{Held}
 use Rattle.cached_machine.specs.Cached.{state_of, Cached, IsSoundMachine}
-use Rattle.cached_machine.specs.Posts.{mark_in, AreSeated, HasPosts}
+use Rattle.cached_machine.specs.Posts.{mark_in, OnlyLoadedAreOut}
 
 -- a declared machine, before all else
 abbrev pub only_machine : Machine → FlatState
@@ -45,11 +39,6 @@ groups_fit machine fits = machine_rules nothing_declared machine (fits_first mac
 first_formed : (machine : Machine) → rule_of_machine machine ≡ None → IsWellFormed (only_machine machine)
 unfolding declared
 first_formed machine fits = (machine_sound nothing_declared (locks_granted []) (record { formed = nothing_formed; sums = refl }) machine (fits_first machine fits)).formed
-
--- where no identifier was issued nothing is loaded
-none_resident : (c : Contents) → c.issued ≡ [] → residents_of c ≡ []
-unfolding residents_of
-none_resident c none = ap (λ (issued : List Issued). filter_map (λ (entry : Issued). resident_as c entry.ident) issued) none
 
 -- what doesn't stand is on no processor
 unmarked : (o : Option ThreadRec) → (IsSome o → ⊥) → mark_in (option_map item.Thread o) ≡ None
@@ -73,13 +62,9 @@ module _ (machine : Machine) (memory : List ℕ) (held : Held) (sets : Sets) (ze
     sums = none ∙ ap (λ (s : FlatState). locks_granted s.kernels) (sym shows_nothing);
   }
 
-  pub new_posts : (seats : List ThreadNo) → held.caps ≡ machine.caps → length seats ≡ machine.caps.threads → HasPosts held seats
-  new_posts seats caps long = record {
-    slots = long ∙ sym (ap (λ (c : Caps). c.threads) caps);
-    seated = subst (λ (rs : List Resident). AreSeated rs seats) (sym (none_resident held.contents nothing.issued)) (λ r no there named. absurd (contains_nothing r there));
-    out = λ no absent. unmarked (stored.content_of thread_rec.name_of held.contents.threads (name.Thread no)) (λ some.
-        let number = (sound-nothing machine.caps held.contents nothing).thread_names.only (name.Thread no) some in
-        let below = number.1 in
-        let none = nothing.thread_count in
-        omega arith);
-  }
+  pub none_out : OnlyLoadedAreOut held.contents
+  none_out whom absent = unmarked (stored.content_of thread_rec.name_of held.contents.threads (name.Thread whom)) (λ some.
+      let number = (sound-nothing machine.caps held.contents nothing).thread_names.only (name.Thread whom) some in
+      let below = number.1 in
+      let none = nothing.thread_count in
+      omega arith)

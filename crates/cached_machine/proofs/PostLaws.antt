@@ -13,7 +13,7 @@ use Rattle.thread_sets.specs.kind_store.proofs.ContentLemmas.{cases_name}
 use Rattle.board_laws.specs.desc_stores.specs.declared.items.Item.{Item}
 use Rattle.board_laws.specs.desc_stores.specs.declared.items.Item.TheVariants as item
 use Rattle.board_laws.specs.desc_stores.specs.Changes.{with_named, HasContent}
-use Rattle.board_laws.specs.desc_stores.specs.Contents.{content_of, residents_of, Contents}
+use Rattle.board_laws.specs.desc_stores.specs.Contents.{content_of, Contents}
 use Rattle.board_laws.specs.shown_state.specs.Shown.{flat_thread, kernel_of, row_of_item, space_of, thread_of}
 use Rattle.board_laws.specs.shown_state.proofs.AlikeLemmas.{shown_alike}
 use Rattle.board_laws.specs.shown_state.proofs.ChangeLemmas.{at_name, elsewhere}
@@ -26,9 +26,8 @@ use Rattle.board_laws.specs.Moves.{ShowsTheSame}
 use Rattle.cached_machine.specs.declared.posts.Post.{Post}
 use Rattle.cached_machine.specs.declared.posts.Post.TheVariants.{Out, In}
 use Rattle.cached_machine.specs.Cached.{is_loaded, IsSoundMachine}
-use Rattle.cached_machine.specs.Posts.{but_at, last_in, last_of, mark_in, mark_of, posted, HasPosts, IsPosted, OnlyLoadedAreOut}
-use Rattle.cached_machine.proofs.AlikeLaws.{alike_sound, itself_but_room, posts_stay, same_loaded}
-use Rattle.cached_machine.proofs.LoadedLaws.{comes_from_itself, ComesFrom}
+use Rattle.cached_machine.specs.Posts.{but_at, last_in, last_of, mark_in, mark_of, posted, IsPosted, OnlyLoadedAreOut, OnlyPosts}
+use Rattle.cached_machine.proofs.AlikeLaws.{alike_sound, itself_but_room, same_loaded}
 
 -- what a move leaves of the thread
 pub posted_no : (post : Post) (thread : ThreadRec) → (posted post thread).no ≡ thread.no
@@ -118,9 +117,6 @@ module _ (post : Post) (h h' : Held) (whom : ThreadNo) (is : IsPosted post h h' 
     pub post_sound : (granted : Caps) → IsSoundMachine (record { machine = machine; memory = memory; held = h; sets = sets }) granted → IsSoundMachine (record { machine = machine; memory = memory; held = h'; sets = sets }) granted
     post_sound = alike_sound machine memory h h' sets sets (is.only.shows (Some machine) memory) (ap (λ (x : Held). x.caps) is.only.rest) (itself_but_room sets)
 
-  pub post_posts : (seats : List ThreadNo) → OnlyLoadedAreOut new → HasPosts h seats → HasPosts h' seats
-  post_posts seats = posts_stay h h' seats (ap (λ (x : Held). x.caps) is.only.rest) (subst (ComesFrom (residents_of old)) (sym is.only.loaded.residents) (comes_from_itself (residents_of old)))
-
 pub out_marks : (cpu number : ℕ) (h h' : Held) (whom : ThreadNo) → IsPosted (Out cpu number) h h' whom → (other : ThreadNo) → mark_of h'.contents other ≡ but_at whom (Some cpu) (mark_of h.contents) other
 out_marks cpu number h h' whom is = at (Out cpu number) h h' whom is mark_in (Some cpu) refl
 
@@ -162,3 +158,23 @@ fewer_out h h' whom is out other absent = elim (cases_name (name.Thread whom) (n
   | inl same ↦ subst (λ (m : Name). mark_in (content_of h'.contents m) ≡ None) same (ap mark_in (here_after In h h' whom is))
   | inr apart ↦ ap mark_in (others_after In h h' whom is (name.Thread other) apart) ∙ out other (sym (loaded_after In h h' whom is (name.Thread other)) ∙ absent)
 ]
+
+-- ---- nothing else changed
+
+pub only_itself : (h : Held) → OnlyPosts h h
+only_itself h = record {
+  rest = refl;
+  shows = λ machine memory. refl;
+  loaded = record { residents = refl; issued = refl };
+  spare = refl;
+  room = refl;
+}
+
+pub only_onward : (a b c : Held) → OnlyPosts a b → OnlyPosts b c → OnlyPosts a c
+only_onward a b c first second = record {
+  rest = second.rest ∙ ap (λ (h : Held). let x : Held = record h { contents = c.contents } in x) first.rest;
+  shows = λ machine memory. second.shows machine memory ∙ first.shows machine memory;
+  loaded = record { residents = second.loaded.residents ∙ first.loaded.residents; issued = second.loaded.issued ∙ first.loaded.issued };
+  spare = second.spare ∙ first.spare;
+  room = second.room ∙ first.room;
+}

@@ -30,9 +30,8 @@ use Rattle.thread_sets.specs.Sets.{SameButRoom, Sets}
 use Rattle.thread_sets.specs.SetsOf.{AreSetsOf}
 use Rattle.cached_machine.specs.Cached.{Cached, IsSoundMachine}
 use Rattle.cached_machine.specs.Moved.{OnlyRoom}
-use Rattle.cached_machine.specs.Posts.{HasPosts}
-use Rattle.cached_machine.proofs.AlikeLaws.{alike_sound, posts_stay, same_loaded, same_marks, same_out}
-use Rattle.cached_machine.proofs.LoadedLaws.{comes_from_itself, ComesFrom}
+use Rattle.cached_machine.specs.Posts.{OnlyLoadedAreOut}
+use Rattle.cached_machine.proofs.AlikeLaws.{alike_sound, same_loaded, same_marks, same_out}
 
 -- ---- what only makes room
 
@@ -121,10 +120,8 @@ module _ (machine : Machine) (memory : List ℕ) (h h' : Held) (sets sets' : Set
   pub room_sound : (granted : Caps) → IsSoundMachine before granted → IsSoundMachine after granted
   room_sound = alike_sound machine memory h h' sets sets' (differs.shows (Some machine) memory) same_caps same
 
-  pub room_posts : (seats : List ThreadNo) → HasPosts h seats → HasPosts h' seats
-  room_posts seats has =
-      posts_stay h h' seats same_caps (subst (ComesFrom (residents_of h.contents)) (sym differs.residents) (comes_from_itself (residents_of h.contents)))
-      (same_out h.contents h'.contents (same_marks h.contents h'.contents differs.threads) (same_loaded h.contents h'.contents differs.residents) has.out) has
+  pub room_out : OnlyLoadedAreOut h.contents → OnlyLoadedAreOut h'.contents
+  room_out = same_out h.contents h'.contents (same_marks h.contents h'.contents differs.threads) (same_loaded h.contents h'.contents differs.residents)
 
   pub only_room : sets.room ≤ sets'.room → OnlyRoom before after
   only_room kept = record {

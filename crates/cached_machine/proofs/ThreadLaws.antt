@@ -28,9 +28,9 @@ use Rattle.board_laws.specs.desc_tables.specs.May.{MayBeDeclared}
 use Rattle.board_laws.specs.desc_tables.specs.Tables.{Held}
 use Rattle.cached_machine.specs.Cached.{state_of, Cached, IsSoundMachine}
 use Rattle.cached_machine.specs.Moved.{IsMade}
-use Rattle.cached_machine.specs.Posts.{HasPosts}
+use Rattle.cached_machine.specs.Posts.{OnlyLoadedAreOut}
 use Rattle.cached_machine.proofs.AdmitLaws.{next_thread, thread_may}
-use Rattle.cached_machine.proofs.MadeLaws.{beside_onward, put_made, put_posts, put_state, room_beside, room_sound, room_state, thread_made}
+use Rattle.cached_machine.proofs.MadeLaws.{beside_onward, put_made, put_out, put_state, room_beside, room_sound, room_state, thread_made}
 
 -- a new thread, and what is shown of it
 abbrev pub fresh : ThreadNo → SpaceNo → ℕ → Context → ArrayVec ℕ → List ℕ → ThreadRec
@@ -84,11 +84,11 @@ module _ (machine : Machine) (memory : List ℕ) (h h1 : Held) (sets sets1 : Set
         all_sets is of =
             subst₂ (λ (t : FlatThread) (ss : Sets). AreSetsOf ((state_of between).threads ++ t ∷ []) ss) its (sym is) (sets_pushed (state_of between).threads sets1 thread of)
 
-        pub thread_keeps : (granted : Caps) (seats : List ThreadNo) → sets2 ≡ pushed sets1 thread → IsSoundMachine before granted × HasPosts h seats → IsSoundMachine after granted × HasPosts h2 seats
-        thread_keeps granted seats is sound =
-            let mid = room_sound machine memory h h1 sets sets1 rest1 more granted seats same sound in (
+        pub thread_keeps : (granted : Caps) → sets2 ≡ pushed sets1 thread → IsSoundMachine before granted × OnlyLoadedAreOut h.contents → IsSoundMachine after granted × OnlyLoadedAreOut h2.contents
+        thread_keeps granted is sound =
+            let mid = room_sound machine memory h h1 sets sets1 rest1 more granted same sound in (
               thread_made between after granted refl (ap (λ (x : Held). x.caps) rest2) mid.0 no space pc priority a0 a1 fits_between state_after (all_sets is mid.0.sets),
-              put_posts machine memory h1 h2 sets1 sets2 rest2 d (item.Thread thread) residents issued has thread_declares.absent on_cpu last seats mid.1,
+              put_out machine memory h1 h2 sets1 sets2 rest2 d (item.Thread thread) residents issued has thread_declares.absent on_cpu last mid.1,
             )
 
         pub thread_is_made : h2.contents.spare ≡ h1.contents.spare → IsMade d before after

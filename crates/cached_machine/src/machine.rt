@@ -7,7 +7,7 @@ ghost use Rattle.board_laws.specs.desc_stores.specs.Changes.{IsNothing};
 ghost use Rattle.cached_machine.specs.Cached.{state_of};
 
 use board_laws::Tables;
-use cache_ident::{Caps, NoMemory, ThreadNo};
+use cache_ident::{Caps, NoMemory};
 use flat_state::Machine;
 use phys_groups::Memory;
 use std::alloc::Global;
@@ -27,19 +27,17 @@ pub struct CachedMachine {
     pub(crate) sets: ThreadSets,
     // The lock limits of all kernels, summed.
     pub(crate) granted: Caps,
-    // For each slot of the cache of threads the thread that was loaded there last, or the first thread where none was.
-    pub(crate) seats: Vec<ThreadNo>,
 }
 
 impl Model for CachedMachine {
     ghost use Rattle.cached_machine.specs.Cached.{Cached, IsSoundMachine};
-    ghost use Rattle.cached_machine.specs.Posts.{HasPosts};
+    ghost use Rattle.cached_machine.specs.Posts.{OnlyLoadedAreOut};
 
     ghost Value = { Cached };
 
     ghost view = { λ m. record { machine = m.machine; memory = m.memory; held = m.tables; sets = m.sets } };
 
-    ghost invariant = { λ m. IsSoundMachine (record { machine = m.machine; memory = m.memory; held = m.tables; sets = m.sets }) m.granted × HasPosts m.tables m.seats.items };
+    ghost invariant = { λ m. IsSoundMachine (record { machine = m.machine; memory = m.memory; held = m.tables; sets = m.sets }) m.granted × OnlyLoadedAreOut m.tables.contents };
 }
 
 impl CachedMachine {
@@ -51,7 +49,6 @@ impl CachedMachine {
     {
         let memory = Memory::new(alloc, machine.groups)?;
         let tables = Tables::new(alloc, machine.caps)?;
-        let seats = vec![in alloc; ThreadNo(0); machine.caps.threads as usize]?;
         Ok(CachedMachine {
             alloc,
             machine,
@@ -59,7 +56,6 @@ impl CachedMachine {
             tables,
             sets: ThreadSets::new(alloc),
             granted: Caps::default(),
-            seats,
         })
     }
 }

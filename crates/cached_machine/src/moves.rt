@@ -1,6 +1,6 @@
 //! What comes to the caches, leaves them, and is locked.
 
-ghost use Rattle.std.specs.Prelude.{◌≡◌, ◌+◌, ◌<◌, ◌≤◌, true, false};
+ghost use Rattle.std.specs.Prelude.{◌≡◌, ◌+◌, ◌<◌, true, false};
 ghost use Rattle.cache_ident.specs.declared.idents.Standing.TheVariants.{Live};
 ghost use Rattle.cache_ident.specs.Rolls.{standing_in};
 ghost use Rattle.board_laws.specs.desc_stores.specs.Changes.{room_of};
@@ -12,7 +12,7 @@ ghost use Rattle.cached_machine.specs.Cached.{state_of};
 ghost use Rattle.cached_machine.specs.Posts.{HasLoadedMarks, HasSameMarks};
 
 use crate::machine::CachedMachine;
-use crate::posts::{note_seat, take_back};
+use crate::posts::take_back;
 use crate::reading::known;
 use cache_ident::{Ident, Name};
 
@@ -32,8 +32,7 @@ impl CachedMachine {
     {
         known(&self.tables);
         let ident = self.tables.load(name, keep, at);
-        take_back(&mut self.tables, &self.seats);
-        note_seat(&mut self.seats, name, ident);
+        take_back(&mut self.tables);
         ident
     }
 
@@ -52,7 +51,7 @@ impl CachedMachine {
     {
         known(&self.tables);
         self.tables.unload(ident, at);
-        take_back(&mut self.tables, &self.seats);
+        take_back(&mut self.tables);
     }
 
     /// Locks a loaded descriptor, so that it is no victim. Nothing changes where it is locked already.

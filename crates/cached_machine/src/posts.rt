@@ -1,14 +1,17 @@
 //! Threads that go to processors and come back.
 
-ghost use Rattle.std.specs.Prelude.{◌≡◌, ◌<◌, ◌∷◌, [], Contains, IsSome, vec_len};
+ghost use Rattle.std.specs.Prelude.{◌≡◌, ◌≤◌, ◌∷◌, [], map, Contains, IsSome};
 ghost use Rattle.cache_ident.specs.declared.names.ThreadNo.{ThreadNo};
 ghost use Rattle.board_laws.specs.desc_stores.specs.Contents.{content_of};
-ghost use Rattle.board_laws.specs.desc_groups.specs.declared.departures.Gone.{Gone};
-ghost use Rattle.cached_machine.specs.Posts.{posted, seats_with, AreBackFrom, IsPosted, StandsAtSeat};
+ghost use Rattle.cached_machine.specs.Posts.{mark_of, posted, AreBackFrom, IsPosted, OnlyLoadedAreOut};
 
-use board_laws::{Gone, Tables};
-use cache_ident::{Ident, Kind, Name, ThreadNo};
+use arrayvec::ArrayVec;
+use board_laws::Tables;
+use cache_ident::{Ident, Name, ThreadNo};
 use thread_cache::ThreadRec;
+
+// As many threads as can be loaded.
+const MOST_LOADED: usize = 256;
 
 // Where a thread goes.
 #[derive(Clone, Copy)]
@@ -39,33 +42,50 @@ pub(crate) fn send(tables: &mut Tables, no: ThreadNo, near: Option<Ident>, post:
     tables.update_thread_named(Name::Thread(no), near, |thread| post_thread(thread, post));
 }
 
-// The threads that have just left are on no processor any more. `seats` has the thread that was loaded in each slot.
-pub(crate) fn take_back(tables: &mut Tables, seats: &[ThreadNo])
-    requires { (g : Gone) → Contains tables.old.gone g → StandsAtSeat tables.old.contents seats.now g.ident }
-    ensures { AreBackFrom seats.now tables.old.gone tables.old tables.new }
+// The threads that have just left are on no processor any more.
+pub(crate) fn take_back(tables: &mut Tables)
+    requires { (no : ThreadNo) → Contains tables.old.left (Name.Thread no) → IsSome (content_of tables.old.contents (Name.Thread no)) }
+    ensures { AreBackFrom tables.old.left tables.old tables.new }
 {
-    for i in 0..tables.gone().len() {
-        let left = tables.gone()[i];
-        take_back_one(tables, seats, left);
+    for i in 0..tables.left_names().len() {
+        let left = tables.left_names()[i];
+        take_back_one(tables, left);
     }
 }
 
 // What left is on no processor any more, if it is a thread.
-fn take_back_one(tables: &mut Tables, seats: &[ThreadNo], left: Gone)
-    requires { StandsAtSeat tables.old.contents seats.now left.ident }
-    ensures { AreBackFrom seats.now (left ∷ []) tables.old tables.new }
+fn take_back_one(tables: &mut Tables, left: Name)
+    requires { (no : ThreadNo) → left ≡ Name.Thread no → IsSome (content_of tables.old.contents (Name.Thread no)) }
+    ensures { AreBackFrom (left ∷ []) tables.old tables.new }
 {
-    if let Kind::Thread = left.ident.kind {
-        send(tables, seats[left.ident.slot as usize], None, Post::In);
+    if let Name::Thread(no) = left {
+        send(tables, no, None, Post::In);
     }
 }
 
-// Notes at its slot what was loaded, if it is a thread.
-pub(crate) fn note_seat(seats: &mut Vec<ThreadNo>, name: Name, ident: Ident)
-    requires { (no : ThreadNo) → name ≡ Name.Thread no → ident.slot < vec_len seats.old }
-    ensures { seats.new.items ≡ seats_with name ident seats.old.items }
+// These threads are on no processor any more.
+pub(crate) fn bring_back(tables: &mut Tables, nos: &[ThreadNo])
+    requires { (no : ThreadNo) → Contains nos.now no → IsSome (content_of tables.old.contents (Name.Thread no)) }
+    ensures { AreBackFrom (map Name.Thread nos.now) tables.old tables.new }
 {
-    if let Name::Thread(no) = name {
-        seats[ident.slot as usize] = no;
+    for i in 0..nos.len() {
+        send(tables, nos[i], None, Post::In);
     }
+}
+
+// The threads that are on a processor, found by those that are loaded.
+pub(crate) fn threads_out(tables: &Tables) -> ArrayVec<ThreadNo, MOST_LOADED>
+    requires few { tables.now.caps.threads ≤ 256 }
+    requires out { OnlyLoadedAreOut tables.now.contents }
+    ensures all { (no : ThreadNo) → IsSome (mark_of tables.now.contents no) → Contains result.items no }
+    ensures stand { (no : ThreadNo) → Contains result.items no → IsSome (content_of tables.now.contents (Name.Thread no)) }
+{
+    tables.are_sound();
+    let mut out = ArrayVec::new();
+    for loaded in tables.loaded_threads() {
+        if loaded.value.on_cpu.is_some() {
+            out.push(loaded.value.no);
+        }
+    }
+    out
 }

@@ -1,15 +1,13 @@
-//! Which processor has which thread, and which thread is in which slot.
+//! Which processor has which thread.
 
-ghost use Rattle.std.specs.Prelude.{◌≡◌, ◌≢◌, ◌<◌, true, None, Some, IfNone, IfSome, IsSome};
-ghost use Rattle.cache_ident.specs.declared.idents.Ident.{Ident};
+ghost use Rattle.std.specs.Prelude.{◌≡◌, true, None, Some, IsSome};
 ghost use Rattle.cache_ident.specs.declared.names.ThreadNo.{ThreadNo};
-ghost use Rattle.cache_ident.specs.Residents.{IsResident};
-ghost use Rattle.board_laws.specs.desc_stores.specs.Contents.{content_of, residents_of};
+ghost use Rattle.board_laws.specs.desc_stores.specs.Contents.{content_of};
 ghost use Rattle.cached_machine.specs.Cached.{is_loaded};
-ghost use Rattle.cached_machine.specs.Posts.{but_at, last_of, mark_of, IsCheckedInAt, OnlyPosts};
+ghost use Rattle.cached_machine.specs.Posts.{but_at, last_of, mark_of, OnlyPosts};
 
 use crate::machine::CachedMachine;
-use crate::posts::{Post, send};
+use crate::posts::{Post, bring_back, send, threads_out};
 use crate::reading::known;
 use board_laws::ItemRef;
 use cache_ident::{Ident, Name, ThreadNo};
@@ -41,28 +39,16 @@ impl CachedMachine {
         send(&mut self.tables, no, near, Post::In);
     }
 
-    /// No thread is on a processor any more. It takes a time for each slot of the cache of threads.
+    /// No thread is on a processor any more. It takes a time for each slot of the cache of threads, and a search for each thread
+    /// that was on one.
     pub fn check_in_all(&mut self)
         ensures rest { self.new ≡ record self.old { held = self.new.held } }
         ensures only { OnlyPosts self.old.held self.new.held }
         ensures marks { (no : ThreadNo) → mark_of self.new.held.contents no ≡ None }
         ensures lasts { (no : ThreadNo) → last_of self.new.held.contents no ≡ last_of self.old.held.contents no }
     {
-        for slot in 0..self.machine.caps.threads {
-            self.check_in_at(slot);
-        }
-    }
-
-    // The thread that is loaded in a slot, if one is, comes away from its processor.
-    fn check_in_at(&mut self, slot: u32)
-        requires { slot < self.old.machine.caps.threads }
-        ensures rest { self.new ≡ record self.old { held = self.new.held } }
-        ensures checked { IsCheckedInAt slot self.old.held self.new.held }
-    {
-        known(&self.tables);
-        if let Some(no) = self.thread_at(slot) {
-            self.check_in(no, None);
-        }
+        let out = threads_out(&self.tables);
+        bring_back(&mut self.tables, &out);
     }
 
     /// The processor that has a thread: only a loaded one is on any. Where it is loaded with the identifier `near`, that takes
@@ -73,21 +59,6 @@ impl CachedMachine {
     {
         match self.tables.item_near(Name::Thread(no), near) {
             Some(ItemRef::Thread(thread)) => thread.on_cpu,
-            _ => None,
-        }
-    }
-
-    /// The thread that is loaded in a slot of the cache of threads.
-    pub fn thread_at(&self, slot: u32) -> Option<ThreadNo>
-        requires { slot < self.now.machine.caps.threads }
-        ensures found { IfSome result (λ no. (ident : Ident) × IsResident (residents_of self.now.held.contents) ident (Name.Thread no) × (ident.slot ≡ slot)) }
-        ensures absent { IfNone result ((ident : Ident) (no : ThreadNo) → IsResident (residents_of self.now.held.contents) ident (Name.Thread no) → ident.slot ≢ slot) }
-    {
-        known(&self.tables);
-        let no = self.seats[slot as usize];
-        // Another may have been loaded elsewhere since, and this one may have left.
-        match self.tables.resident(Name::Thread(no)) {
-            Some(ident) if ident.slot == slot => Some(no),
             _ => None,
         }
     }

@@ -26,7 +26,7 @@ invariant_of-self c =
     let here = stood i.machine i.memory i.tables call.new.self i.sets c.note.new.sets no c.known.ensures.one was left updated.was updated.has_name post in
     let completable = c.requires.completable (flat_thread was) (subst (λ (m : Cached). slice_get (state_of m).threads no.0 ≡ Some (flat_thread was)) c.self.view_is here) in
     let ok = on_ok_weaker call.result (λ goes. goes completable) told in
-    carried_sound i.machine i.memory i.tables call.new.self i.sets c.note.new.sets no c.known.ensures.one was left updated.was updated.has_name post updated.contents e.rest e.residents e.issued e.spare updated.shows c.note.ensures call.result ok err i.granted i.seats.items c.self.invariant
+    carried_sound i.machine i.memory i.tables call.new.self i.sets c.note.new.sets no c.known.ensures.one was left updated.was updated.has_name post updated.contents e.rest e.residents e.issued e.spare updated.shows c.note.ensures call.result ok err i.granted c.self.invariant
 
 pub returns-clause-ok : goal.returns-clause-ok
 returns-clause-ok c =

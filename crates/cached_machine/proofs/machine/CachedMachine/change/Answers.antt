@@ -5,7 +5,7 @@ use Rattle.board_laws.specs.shown_state.specs.Shown.{flat_thread}
 use Rattle.cached_machine.specs.Aside.{aside_of}
 use Rattle.cached_machine.specs.Cached.{state_of, Cached}
 use Rattle.cached_machine.specs.Stepping.{shows_left_by}
-use Rattle.cached_machine.proofs.AsideLaws.{posts_stay}
+use Rattle.cached_machine.proofs.AsideLaws.{out_stays}
 use Rattle.cached_machine.proofs.StepLaws.{aside_stays, shows, sound_stays, stood, thread_there}
 use Rattle.cached_machine.proofs.machine.CachedMachine.change.Goals as goal
 
@@ -29,7 +29,7 @@ invariant_of-self c =
     let sound = sound_stays i.machine i.memory c.args.change i.tables c.update.new.tables i.sets c.update.new.sets no c.known.ensures.one c.update.ensures t here may i.granted c.self.invariant.0 in
     let was : Cached = record { machine = i.machine; memory = i.memory; held = i.tables; sets = i.sets } in
     let now : Cached = record { machine = i.machine; memory = i.memory; held = c.update.new.tables; sets = c.update.new.sets } in
-    (sound, posts_stay was now (aside_stays i.machine i.memory c.args.change i.tables c.update.new.tables i.sets c.update.new.sets no c.known.ensures.one c.update.ensures) i.seats.items c.self.invariant.1)
+    (sound, out_stays was now (aside_stays i.machine i.memory c.args.change i.tables c.update.new.tables i.sets c.update.new.sets no c.known.ensures.one c.update.ensures) c.self.invariant.1)
 
 pub returns-clause-state : goal.returns-clause-state
 returns-clause-state c = λ t here.

@@ -4,7 +4,7 @@ use Rattle.board_laws.specs.desc_stores.specs.Contents.{content_of}
 use Rattle.cached_machine.specs.declared.posts.Post.TheVariants.{In}
 use Rattle.cached_machine.specs.Cached.{Cached}
 use Rattle.cached_machine.specs.Posts.{but_at, last_of, mark_of, OnlyPosts}
-use Rattle.cached_machine.proofs.PostLaws.{fewer_out, in_lasts, in_marks, post_posts, post_sound}
+use Rattle.cached_machine.proofs.PostLaws.{fewer_out, in_lasts, in_marks, post_sound}
 use Rattle.cached_machine.proofs.machine.CachedMachine.check_in.Goals as goal
 
 pub send-requires : goal.send-requires
@@ -14,7 +14,7 @@ pub invariant_of-self : goal.invariant_of-self
 invariant_of-self c =
     let i = c.self.inside in (
       post_sound In i.tables c.send.new.tables c.args.no c.send.ensures i.machine i.memory i.sets i.granted c.self.invariant.0,
-      post_posts In i.tables c.send.new.tables c.args.no c.send.ensures i.seats.items (fewer_out i.tables c.send.new.tables c.args.no c.send.ensures c.self.invariant.1.out) c.self.invariant.1,
+      fewer_out i.tables c.send.new.tables c.args.no c.send.ensures c.self.invariant.1,
     )
 
 pub returns-clause-only : goal.returns-clause-only

@@ -1,22 +1,19 @@
-use Rattle.std.proofs.Common.{◌≤◌, ap, subst, ◌∙◌, arith}
+use Rattle.std.proofs.Common.{◌≤◌, List, Contains, IsSome, sym, subst}
 use Rattle.cache_ident.specs.declared.names.Caps.{Caps}
-use Rattle.cached_machine.specs.Cached.{Cached}
-use Rattle.cached_machine.specs.Posts.{HasPosts}
-use Rattle.cached_machine.proofs.CheckLaws.{all_checked, one_more_checked}
+use Rattle.cache_ident.specs.declared.names.ThreadNo.{ThreadNo}
+use Rattle.cached_machine.specs.Posts.{mark_of}
+use Rattle.cached_machine.proofs.OutLaws.{few_slots, nobody_out}
+use Rattle.cached_machine.specs.contracts.machine.CachedMachine.{the_view}
 use Rattle.cached_machine.proofs.machine.CachedMachine.check_in_all.Goals as goal
 
-pub loop-slot-preserved : goal.loop-slot-preserved
-loop-slot-preserved c = (
-  c.check_in_at.ensures.rest ∙ ap (λ (m : Cached). let x : Cached = record m { held = c.check_in_at.new.self.held } in x) c.loop-slot.invariant.0,
-  one_more_checked c.loop-slot.slot c.args.self.now.held c.loop-slot.self.held c.check_in_at.new.self.held c.loop-slot.invariant.1 c.check_in_at.ensures.checked,
-)
+pub threads_out-out-requires-clause-few : goal.threads_out-out-requires-clause-few
+threads_out-out-requires-clause-few c =
+    let i = c.self.inside in
+    let sound = c.self.invariant.0 in
+    subst (λ (x : Caps). x.threads ≤ 256) (sym sound.caps) (few_slots (the_view i) sound.formed)
 
 pub returns-clause-marks : goal.returns-clause-marks
 returns-clause-marks c =
     let i = c.self.inside in
-    let first = c.args.self.now.held in
-    let seats = subst (λ (m : Cached). HasPosts m.held i.seats.items) c.self.view_is c.self.invariant.1 in
-    let caps = ap (λ (x : Caps). x.threads) c.self.invariant.0.caps in
-    let same = ap (λ (m : Cached). m.held.caps.threads) c.self.view_is in
-    let all : first.caps.threads ≤ c.loop-slot.slot = omega arith in
-    all_checked c.loop-slot.slot first c.loop-slot.self.held i.seats.items seats all c.loop-slot.invariant.1
+    let all = subst (λ (nos : List ThreadNo). (no : ThreadNo) → IsSome (mark_of i.tables.contents no) → Contains nos no) (sym c.deref.ensures.0) c.threads_out-out.ensures.all in
+    nobody_out c.deref.result.now i.tables c.bring_back.new.tables all c.bring_back.ensures

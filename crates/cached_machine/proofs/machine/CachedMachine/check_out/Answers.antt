@@ -4,7 +4,7 @@ use Rattle.cached_machine.specs.declared.posts.Post.TheVariants.{Out}
 use Rattle.cached_machine.specs.Cached.{is_loaded, Cached}
 use Rattle.cached_machine.specs.Posts.{but_at, last_of, mark_of, OnlyPosts}
 use Rattle.cached_machine.proofs.LoadedLaws.{loaded_stands}
-use Rattle.cached_machine.proofs.PostLaws.{out_lasts, out_marks, post_posts, post_sound, still_out}
+use Rattle.cached_machine.proofs.PostLaws.{out_lasts, out_marks, post_sound, still_out}
 use Rattle.cached_machine.proofs.machine.CachedMachine.check_out.Goals as goal
 
 pub send-requires : goal.send-requires
@@ -18,7 +18,7 @@ invariant_of-self c =
     let post = Out c.args.cpu c.args.number in
     let loaded = subst (λ (m : Cached). is_loaded m.held.contents (name.Thread c.args.no) ≡ true) (sym c.self.view_is) c.requires.loaded in (
       post_sound post i.tables c.send.new.tables c.args.no c.send.ensures i.machine i.memory i.sets i.granted c.self.invariant.0,
-      post_posts post i.tables c.send.new.tables c.args.no c.send.ensures i.seats.items (still_out c.args.cpu c.args.number i.tables c.send.new.tables c.args.no loaded c.send.ensures c.self.invariant.1.out) c.self.invariant.1,
+      still_out c.args.cpu c.args.number i.tables c.send.new.tables c.args.no loaded c.send.ensures c.self.invariant.1,
     )
 
 pub returns-clause-only : goal.returns-clause-only

@@ -8,7 +8,7 @@ use Rattle.cached_machine.specs.Cached.{state_of, Cached}
 use Rattle.cached_machine.specs.Moved.{IsMade, MayBeMade, OnlyRoom}
 use Rattle.cached_machine.specs.contracts.machine.CachedMachine.{the_view}
 use Rattle.cached_machine.proofs.AdmitLaws.{kernel_may, no_locks_are}
-use Rattle.cached_machine.proofs.MadeLaws.{on_err, put_made, put_posts, put_state, room_only, room_sound, kernel_made}
+use Rattle.cached_machine.proofs.MadeLaws.{on_err, put_made, put_out, put_state, room_only, room_sound, kernel_made}
 use Rattle.cached_machine.proofs.machine.CachedMachine.declare_kernel.Goals as goal
 
 pub declare-requires : goal.declare-requires
@@ -21,7 +21,7 @@ declare-requires c =
 pub invariant_of-self : goal.invariant_of-self
 invariant_of-self c =
     let i = c.self.inside in
-    room_sound i.machine i.memory i.tables c.declare.new.self i.sets i.sets c.declare.ensures.rest c.in_err-declare.ensures.err i.granted i.seats.items (record { completable = refl; ready = refl }) c.self.invariant
+    room_sound i.machine i.memory i.tables c.declare.new.self i.sets i.sets c.declare.ensures.rest c.in_err-declare.ensures.err i.granted (record { completable = refl; ready = refl }) c.self.invariant
 
 pub returns-in_err-declare-clause-err : goal.returns-in_err-declare-clause-err
 returns-in_err-declare-clause-err c =
@@ -41,7 +41,7 @@ invariant_of-self-2 c =
     let absent = (kernel_may i.machine i.memory i.tables.contents c.known.ensures.one i.tables.caps c.self.invariant.0.caps a.no a.limits (record { no = a.no; rights = c.none.result; limits = a.limits; locked = c.default.result }) may.fits (refl, ap (λ (rights : Rights). record { limits = a.limits; rights = rights }) c.none.ensures, no_locks_are c.default.result c.default.ensures.0 c.default.ensures.1.0 c.default.ensures.1.1.0 c.default.ensures.1.1.1)).absent in
     let state = put_state i.machine i.memory i.tables h i.sets i.sets c.declare.ensures.rest d it (refl, ap (λ (rights : Rights). record { limits = a.limits; rights = rights }) c.none.ensures, no_locks_are c.default.result c.default.ensures.0 c.default.ensures.1.0 c.default.ensures.1.1.0 c.default.ensures.1.1.1) c.in_ok-declare.ensures.shows in (
       kernel_made (the_view i) (record { machine = i.machine; memory = i.memory; held = h; sets = i.sets }) i.granted refl (ap (λ (x : Held). x.caps) c.declare.ensures.rest) c.self.invariant.0 a.no a.limits may.fits state c.self.invariant.0.sets,
-      put_posts i.machine i.memory i.tables h i.sets i.sets c.declare.ensures.rest d it c.declare.ensures.residents c.declare.ensures.issued c.in_ok-declare.ensures.contents absent refl refl i.seats.items c.self.invariant.1,
+      put_out i.machine i.memory i.tables h i.sets i.sets c.declare.ensures.rest d it c.declare.ensures.residents c.declare.ensures.issued c.in_ok-declare.ensures.contents absent refl refl c.self.invariant.1,
     )
 
 pub returns-clause-ok : goal.returns-clause-ok

@@ -7,7 +7,7 @@ use Rattle.cached_machine.specs.Cached.{Cached}
 use Rattle.cached_machine.specs.Moved.{IsMade, MayBeMade, OnlyRoom}
 use Rattle.cached_machine.specs.contracts.machine.CachedMachine.{the_view}
 use Rattle.cached_machine.proofs.AdmitLaws.{row_may}
-use Rattle.cached_machine.proofs.MadeLaws.{on_err, put_made, put_posts, put_state, room_only, room_sound, row_made}
+use Rattle.cached_machine.proofs.MadeLaws.{on_err, put_made, put_out, put_state, room_only, room_sound, row_made}
 use Rattle.cached_machine.proofs.machine.CachedMachine.declare_row.Goals as goal
 
 pub declare-requires : goal.declare-requires
@@ -20,7 +20,7 @@ declare-requires c =
 pub invariant_of-self : goal.invariant_of-self
 invariant_of-self c =
     let i = c.self.inside in
-    room_sound i.machine i.memory i.tables c.declare.new.self i.sets i.sets c.declare.ensures.rest c.in_err-declare.ensures.err i.granted i.seats.items (record { completable = refl; ready = refl }) c.self.invariant
+    room_sound i.machine i.memory i.tables c.declare.new.self i.sets i.sets c.declare.ensures.rest c.in_err-declare.ensures.err i.granted (record { completable = refl; ready = refl }) c.self.invariant
 
 pub returns-in_err-declare-clause-err : goal.returns-in_err-declare-clause-err
 returns-in_err-declare-clause-err c =
@@ -40,7 +40,7 @@ invariant_of-self-2 c =
     let absent = (row_may i.machine i.memory i.tables.contents c.known.ensures.one i.tables.caps c.self.invariant.0.caps c.self.invariant.0.formed a.space a.vpn a.frame a.flags a.receiver may.good may.fits).absent in
     let state = put_state i.machine i.memory i.tables h i.sets i.sets c.declare.ensures.rest d it refl c.in_ok-declare.ensures.shows in (
       row_made (the_view i) (record { machine = i.machine; memory = i.memory; held = h; sets = i.sets }) i.granted refl (ap (λ (x : Held). x.caps) c.declare.ensures.rest) c.self.invariant.0 a.space a.vpn a.frame a.flags a.receiver may.fits state c.self.invariant.0.sets,
-      put_posts i.machine i.memory i.tables h i.sets i.sets c.declare.ensures.rest d it c.declare.ensures.residents c.declare.ensures.issued c.in_ok-declare.ensures.contents absent refl refl i.seats.items c.self.invariant.1,
+      put_out i.machine i.memory i.tables h i.sets i.sets c.declare.ensures.rest d it c.declare.ensures.residents c.declare.ensures.issued c.in_ok-declare.ensures.contents absent refl refl c.self.invariant.1,
     )
 
 pub returns-clause-ok : goal.returns-clause-ok

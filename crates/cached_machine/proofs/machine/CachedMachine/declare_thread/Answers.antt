@@ -38,7 +38,7 @@ returns-clause-ok c =
 pub invariant_of-self-in_err-make_room-2 : goal.invariant_of-self-in_err-make_room-2
 invariant_of-self-in_err-make_room-2 c =
     let i = c.self.inside in
-    room_sound i.machine i.memory i.tables c.make_room-2.new.self i.sets c.make_room.new.self c.make_room-2.ensures.rest c.make_room-2.ensures.only i.granted i.seats.items c.make_room.ensures.same c.self.invariant
+    room_sound i.machine i.memory i.tables c.make_room-2.new.self i.sets c.make_room.new.self c.make_room-2.ensures.rest c.make_room-2.ensures.only i.granted c.make_room.ensures.same c.self.invariant
 
 pub returns-in_err-make_room-2-clause-err : goal.returns-in_err-make_room-2-clause-err
 returns-in_err-make_room-2-clause-err c =
@@ -55,4 +55,4 @@ invariant_of-self-2 c =
     let may = subst (MayBeMade d) (sym c.self.view_is) c.requires in
     let thread = fresh a.no a.space a.priority c.new_context.result c.new.result c.new-2.result in
     let its = shows_fresh a.no a.space a.pc a.priority a.a0 a.a1 c.new_context.result c.new.result c.new-2.result c.new_context.ensures c.new.ensures c.new-2.ensures in
-    thread_keeps i.machine i.memory i.tables c.make_room-2.new.self i.sets c.make_room.new.self c.make_room-2.ensures.rest c.make_room-2.ensures.only c.make_room.ensures.same a.no a.space a.pc a.priority a.a0 a.a1 may.fits thread its c.known.ensures.one c.self.invariant.0.caps c.declare.new.self c.push.new.self c.declare.ensures.rest c.declare.ensures.residents c.declare.ensures.issued c.in_ok-declare.ensures.contents refl refl c.in_ok-declare.ensures.shows i.granted i.seats.items c.push.ensures.sets c.self.invariant
+    thread_keeps i.machine i.memory i.tables c.make_room-2.new.self i.sets c.make_room.new.self c.make_room-2.ensures.rest c.make_room-2.ensures.only c.make_room.ensures.same a.no a.space a.pc a.priority a.a0 a.a1 may.fits thread its c.known.ensures.one c.self.invariant.0.caps c.declare.new.self c.push.new.self c.declare.ensures.rest c.declare.ensures.residents c.declare.ensures.issued c.in_ok-declare.ensures.contents refl refl c.in_ok-declare.ensures.shows i.granted c.push.ensures.sets c.self.invariant

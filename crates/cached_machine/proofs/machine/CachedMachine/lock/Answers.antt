@@ -8,7 +8,7 @@ use Rattle.board_laws.specs.Moves.{IsLock}
 use Rattle.cached_machine.specs.Cached.{state_of, Cached}
 use Rattle.cached_machine.specs.Posts.{HasSameMarks}
 use Rattle.cached_machine.proofs.AlikeLaws.{alike_sound, itself_but_room}
-use Rattle.cached_machine.proofs.MoveLaws.{locked_marks, locked_posts}
+use Rattle.cached_machine.proofs.MoveLaws.{locked_marks, locked_out}
 use Rattle.cached_machine.proofs.machine.CachedMachine.lock.Goals as goal
 
 pub lock-requires-clause-live : goal.lock-requires-clause-live
@@ -23,7 +23,7 @@ invariant_of-self c =
     let h = c.lock.new.self in
     let caps = ap (λ (x : Held). x.caps) c.lock.ensures.rest in (
       alike_sound i.machine i.memory i.tables h i.sets i.sets (c.lock.ensures.contents.shows (Some i.machine) i.memory) caps (itself_but_room i.sets) i.granted c.self.invariant.0,
-      locked_posts i.tables h c.args.ident true c.lock.ensures.residents c.lock.ensures.contents i.seats.items caps c.self.invariant.1,
+      locked_out i.tables h c.args.ident true c.lock.ensures.residents c.lock.ensures.contents c.self.invariant.1,
     )
 
 pub returns-clause-lock : goal.returns-clause-lock

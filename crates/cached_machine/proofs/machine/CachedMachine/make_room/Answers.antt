@@ -1,7 +1,7 @@
 use Rattle.std.proofs.Common.{subst}
 use Rattle.cached_machine.specs.Cached.{Cached}
 use Rattle.cached_machine.specs.Moved.{OnlyRoom}
-use Rattle.cached_machine.proofs.RoomLaws.{by_room, only_room, room_posts, room_sound}
+use Rattle.cached_machine.proofs.RoomLaws.{by_room, only_room, room_out, room_sound}
 use Rattle.cached_machine.proofs.machine.CachedMachine.make_room.Goals as goal
 
 pub invariant_of-self-2 : goal.invariant_of-self-2
@@ -10,7 +10,7 @@ invariant_of-self-2 c =
     let h = c.make_room-2.new.self in
     let differs = by_room i.tables.contents h.contents c.make_room-2.ensures.only in (
       room_sound i.machine i.memory i.tables h i.sets c.make_room.new.self c.make_room-2.ensures.rest differs c.make_room.ensures.same i.granted c.self.invariant.0,
-      room_posts i.machine i.memory i.tables h i.sets c.make_room.new.self c.make_room-2.ensures.rest differs c.make_room.ensures.same i.seats.items c.self.invariant.1,
+      room_out i.machine i.memory i.tables h i.sets c.make_room.new.self c.make_room-2.ensures.rest differs c.make_room.ensures.same c.self.invariant.1,
     )
 
 pub returns-clause-only : goal.returns-clause-only

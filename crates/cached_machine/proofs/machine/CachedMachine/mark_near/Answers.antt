@@ -2,7 +2,7 @@ use Rattle.std.proofs.Common.{map, ap, ◌∙◌}
 use Rattle.phys_groups.specs.Rows.{marked}
 use Rattle.cached_machine.specs.Aside.{aside_of}
 use Rattle.cached_machine.specs.Cached.{state_of, Cached}
-use Rattle.cached_machine.proofs.AsideLaws.{posts_stay}
+use Rattle.cached_machine.proofs.AsideLaws.{out_stays}
 use Rattle.cached_machine.proofs.StepLaws.{mark_left}
 use Rattle.cached_machine.proofs.machine.CachedMachine.mark_near.Goals as goal
 
@@ -12,7 +12,7 @@ invariant_of-self c =
     let left = mark_left i.machine i.memory i.tables c.mark_named.new.tables i.sets c.args.space c.args.vpn c.args.written c.mark_named.ensures in
     let was : Cached = record { machine = i.machine; memory = i.memory; held = i.tables; sets = i.sets } in
     let now : Cached = record { machine = i.machine; memory = i.memory; held = c.mark_named.new.tables; sets = i.sets } in
-    (left.sound i.granted c.self.invariant.0, posts_stay was now left.aside i.seats.items c.self.invariant.1)
+    (left.sound i.granted c.self.invariant.0, out_stays was now left.aside c.self.invariant.1)
 
 pub returns-clause-state : goal.returns-clause-state
 returns-clause-state c =

@@ -23,7 +23,7 @@ invariant_of-self c =
     let i = c.self.inside in
     let a = c.args in
     let e = c.retract.ensures in
-    row_went_sound i.machine i.memory i.tables c.retract.new.self i.sets a.space a.vpn e.rest (record { contents = e.contents; names = e.names; only = e.only }) i.granted i.seats.items e.residents c.self.invariant
+    row_went_sound i.machine i.memory i.tables c.retract.new.self i.sets a.space a.vpn e.rest (record { contents = e.contents; names = e.names; only = e.only }) i.granted e.residents c.self.invariant
 
 pub returns-clause-rows : goal.returns-clause-rows
 returns-clause-rows c =

@@ -8,7 +8,7 @@ use Rattle.cached_machine.specs.Moved.{IsMade, MayBeMade}
 use Rattle.cached_machine.specs.contracts.machine.CachedMachine.{the_view}
 use Rattle.cached_machine.proofs.AdmitLaws.{kernel_there}
 use Rattle.cached_machine.proofs.GoodLaws.{good_seen}
-use Rattle.cached_machine.proofs.MadeLaws.{beside_held, held_right, right_made, posts_kept}
+use Rattle.cached_machine.proofs.MadeLaws.{beside_held, held_right, out_kept, right_made}
 use Rattle.cached_machine.proofs.machine.CachedMachine.set_right.Goals as goal
 
 pub set_rights-requires-clause-there : goal.set_rights-requires-clause-there
@@ -43,7 +43,7 @@ invariant_of-self c =
     let there = kernel_there i.machine i.memory i.tables.contents c.known.ensures.one a.kernel rules.0 in
     let kept = held_right i.tables h a.kernel a.group (a.read, a.write) c.set_rights.ensures.rest c.set_rights.ensures.residents c.set_rights.ensures.issued there c.set_rights.ensures.contents in (
       right_made (the_view i) (record { machine = i.machine; memory = i.memory; held = h; sets = i.sets }) i.granted refl (ap (λ (x : Held). x.caps) c.set_rights.ensures.rest) c.self.invariant.0 a.kernel a.group a.read a.write may.fits (c.set_rights.ensures.shows (Some i.machine) i.memory) c.self.invariant.0.sets,
-      posts_kept i.tables h i.seats.items kept c.self.invariant.1,
+      out_kept i.tables h kept c.self.invariant.1,
     )
 
 pub returns : goal.returns

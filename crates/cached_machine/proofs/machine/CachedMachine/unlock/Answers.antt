@@ -7,7 +7,7 @@ use Rattle.board_laws.specs.Moves.{IsLock}
 use Rattle.cached_machine.specs.Cached.{state_of, Cached}
 use Rattle.cached_machine.specs.Posts.{HasSameMarks}
 use Rattle.cached_machine.proofs.AlikeLaws.{alike_sound, itself_but_room}
-use Rattle.cached_machine.proofs.MoveLaws.{locked_marks, locked_posts}
+use Rattle.cached_machine.proofs.MoveLaws.{locked_marks, locked_out}
 use Rattle.cached_machine.proofs.machine.CachedMachine.unlock.Goals as goal
 
 pub unlock-requires : goal.unlock-requires
@@ -19,7 +19,7 @@ invariant_of-self c =
     let h = c.unlock.new.self in
     let caps = ap (λ (x : Held). x.caps) c.unlock.ensures.rest in (
       alike_sound i.machine i.memory i.tables h i.sets i.sets (c.unlock.ensures.contents.shows (Some i.machine) i.memory) caps (itself_but_room i.sets) i.granted c.self.invariant.0,
-      locked_posts i.tables h c.args.ident false c.unlock.ensures.residents c.unlock.ensures.contents i.seats.items caps c.self.invariant.1,
+      locked_out i.tables h c.args.ident false c.unlock.ensures.residents c.unlock.ensures.contents c.self.invariant.1,
     )
 
 pub returns-clause-lock : goal.returns-clause-lock
