@@ -30,6 +30,7 @@ use Rattle.quantum.specs.flat_state.specs.Declaration.{agree, broken_rule, caps_
 use Rattle.quantum.specs.flat_state.specs.Dependence.{owner, parents}
 use Rattle.quantum.specs.flat_state.specs.Names.{is_fit_name, stands}
 use Rattle.quantum.specs.flat_state.specs.State.{groups_of, FlatState}
+use Rattle.quantum.specs.flat_state.specs.Translation.{is_fit_row}
 use Rattle.quantum.specs.flat_state.specs.WellFormed.{IsWellFormed}
 use Rattle.quantum.specs.flat_state.proofs.FormedParts.{breaks_none, other_rule}
 use Rattle.quantum.specs.flat_laws.proofs.Members.{Contains-cases, contains_nothing}
@@ -54,7 +55,7 @@ use Rattle.desc_tables.specs.desc_parents.specs.Seen.{seen}
 use Rattle.desc_tables.specs.desc_groups.specs.declared.departures.Gone.{Gone}
 use Rattle.desc_tables.specs.desc_groups.specs.Moves.{idents_of, MayBeLocked}
 use Rattle.desc_tables.specs.desc_groups.specs.Whole.{AreWhole}
-use Rattle.desc_tables.specs.May.{wanted_of, MayBeDeclared, MayBeLoaded}
+use Rattle.desc_tables.specs.May.{wanted_of, HasNoMessages, MayBeDeclared, MayBeLoaded}
 use Rattle.board_laws.specs.Moves.{Declares, IsLoad}
 use Rattle.board_laws.proofs.First.{first}
 use Rattle.board_laws.proofs.Shown.{limit_shown}
@@ -124,10 +125,10 @@ module _ (m : Machine) (memory : List ℕ) (c : Contents) (one : IsExactlyOne c)
   no_content : (n : Name) → stands s n ≡ false → content_of c n ≡ None
   no_content n e = none_from (content_of c n) (sym (found.stands n) ∙ e)
 
-  some_content : (n : Name) → stands s n ≡ true → IsSome (content_of c n)
+  pub some_content : (n : Name) → stands s n ≡ true → IsSome (content_of c n)
   some_content n e = sym (found.stands n) ∙ e
 
-  kernel_stands : (kernel : KernelNo) → kernel.0 < length s.kernels → stands s (name.Kernel kernel) ≡ true
+  pub kernel_stands : (kernel : KernelNo) → kernel.0 < length s.kernels → stands s (name.Kernel kernel) ≡ true
   unfolding stands
   kernel_stands kernel within = some_within s.kernels kernel.0 within
 
@@ -152,7 +153,7 @@ module _ (m : Machine) (memory : List ℕ) (c : Contents) (one : IsExactlyOne c)
   new_row_name space vpn is = is
 
   module _ (caps : Caps) (machine : caps ≡ m.caps) where
-    kernel_may : (number : KernelNo) (limits : Caps) (kernel : KernelRec) → broken_rule s (decls.Kernel number limits) ≡ None → Declares (decls.Kernel number limits) (item.Kernel kernel) → MayBeDeclared caps c (item.Kernel kernel)
+    pub kernel_may : (number : KernelNo) (limits : Caps) (kernel : KernelRec) → broken_rule s (decls.Kernel number limits) ≡ None → Declares (decls.Kernel number limits) (item.Kernel kernel) → MayBeDeclared caps c (item.Kernel kernel)
     unfolding broken_rule
     kernel_may number limits kernel e is =
         let rule = other_rule s.machine s (decls.Kernel number limits) refl e in
@@ -178,7 +179,7 @@ module _ (m : Machine) (memory : List ℕ) (c : Contents) (one : IsExactlyOne c)
           };
         }
 
-    space_may : (number : SpaceNo) (kernel : KernelNo) (space : SpaceRec) → broken_rule s (decls.Space number kernel) ≡ None → Declares (decls.Space number kernel) (item.Space space) → MayBeDeclared caps c (item.Space space)
+    pub space_may : (number : SpaceNo) (kernel : KernelNo) (space : SpaceRec) → broken_rule s (decls.Space number kernel) ≡ None → Declares (decls.Space number kernel) (item.Space space) → MayBeDeclared caps c (item.Space space)
     unfolding broken_rule
     space_may number kernel space e is =
         let rule = other_rule s.machine s (decls.Space number kernel) refl e in
@@ -195,7 +196,7 @@ module _ (m : Machine) (memory : List ℕ) (c : Contents) (one : IsExactlyOne c)
           its = subst (λ (k : KernelNo). IsSome (content_of c (name.Kernel k))) (sym is.1) (some_content (name.Kernel kernel) (kernel_stands kernel (leb-false (length s.kernels) kernel.0 owned.0)));
         }
 
-    thread_may : (number : ThreadNo) (space : SpaceNo) (pc priority a0 a1 : ℕ) (thread : ThreadRec) → broken_rule s (decls.Thread number space pc priority a0 a1) ≡ None → Declares (decls.Thread number space pc priority a0 a1) (item.Thread thread) → MayBeDeclared caps c (item.Thread thread)
+    pub thread_may : (number : ThreadNo) (space : SpaceNo) (pc priority a0 a1 : ℕ) (thread : ThreadRec) → broken_rule s (decls.Thread number space pc priority a0 a1) ≡ None → Declares (decls.Thread number space pc priority a0 a1) (item.Thread thread) → MayBeDeclared caps c (item.Thread thread)
     unfolding broken_rule
     thread_may number space pc priority a0 a1 thread e is =
         let rule = other_rule s.machine s (decls.Thread number space pc priority a0 a1) refl e in
@@ -213,10 +214,13 @@ module _ (m : Machine) (memory : List ℕ) (c : Contents) (one : IsExactlyOne c)
           its = subst (λ (k : SpaceNo). IsSome (content_of c (name.Space k))) (sym own_space) (some_content (name.Space space) (space_stands space (leb-false (length s.spaces) space.0 owned.0)));
         }
 
-    module _ (formed : IsWellFormed s) (none : residents_of c ≡ []) where
-      row_may : (space : SpaceNo) (vpn : Vpn) (frame : Frame) (flags : Flags) (receiver : Option ThreadNo) → broken_rule s (decls.Map space vpn frame flags receiver) ≡ None → MayBeDeclared caps c (item.Mapping (new_row space vpn frame flags receiver))
+    module _ (formed : IsWellFormed s) where
+      -- a new row, where it is no signal row that a loaded message row would depend on
+      pub row_may : (space : SpaceNo) (vpn : Vpn) (frame : Frame) (flags : Flags) (receiver : Option ThreadNo)
+          → (content_of c (name.Mapping space vpn) ≡ None → is_some receiver ≡ true → is_fit_row (seen c) (new_row space vpn frame flags receiver) ≡ true → HasNoMessages c (new_row space vpn frame flags receiver))
+          → broken_rule s (decls.Map space vpn frame flags receiver) ≡ None → MayBeDeclared caps c (item.Mapping (new_row space vpn frame flags receiver))
       unfolding broken_rule
-      row_may space vpn frame flags receiver e =
+      row_may space vpn frame flags receiver alone e =
           let rule = other_rule s.machine s (decls.Map space vpn frame flags receiver) refl e in
           let flagged = breaks_none (has_no_flag flags) 4 _ rule in
           let few = breaks_none (nat_le 262144 (length s.rows)) 9 _ flagged.1 in
@@ -229,8 +233,9 @@ module _ (m : Machine) (memory : List ℕ) (c : Contents) (one : IsExactlyOne c)
           let in_space = leb-false (length s.spaces) space.0 (or_parts _ _ there.0).0 in
           let in_memory = ltb-true frame.0 (128 * groups_of s.machine) (not-false _ (or_parts (not (has_frame s frame)) (nat_lt 1048575 vpn.0) placed.0).0) in
           let groups = formed.memory.groups in
+          let absent = no_content (name.Mapping space vpn) (new_row_name space vpn fresh.0) in
           record {
-            absent = no_content (name.Mapping space vpn) (new_row_name space vpn fresh.0);
+            absent = absent;
             next = tt;
             its = record {
               space = some_content (name.Space space) (space_stands space in_space);
@@ -238,16 +243,17 @@ module _ (m : Machine) (memory : List ℕ) (c : Contents) (one : IsExactlyOne c)
               flags = not-false _ agreed.0;
               receiver = subst (λ (ts : List FlatThread). is_receiver_in space ts receiver ≡ true) seen_threads (not-false _ received.0);
               few = λ some. subst (λ (rs : List Row). count_by (is_signal_row_of frame) rs < 4) seen_rows (leb-false 4 _ (and_second (is_some receiver) (has_four s.rows frame) some four.0));
-              alone = λ some fit r other r_there content flag same. contains_nothing r (subst (λ (rs : List Resident). Contains rs r) none r_there);
+              alone = alone absent;
             };
           }
 
-      pub may_declare : (d : Decl) (it : Item) → broken_rule s d ≡ None → Declares d it → MayBeDeclared caps c it
-      may_declare (decls.Kernel number limits) (item.Kernel kernel) e is = kernel_may number limits kernel e is
-      may_declare (decls.Space number kernel) (item.Space space) e is = space_may number kernel space e is
-      may_declare (decls.Thread number space pc priority a0 a1) (item.Thread thread) e is = thread_may number space pc priority a0 a1 thread e is
-      may_declare (decls.Map space vpn frame flags receiver) (item.Mapping row) e is = subst (λ (r : Row). MayBeDeclared caps c (item.Mapping r)) (sym is) (row_may space vpn frame flags receiver e)
-      may_declare d it e is = absurd is
+      pub may_declare : residents_of c ≡ [] → (d : Decl) (it : Item) → broken_rule s d ≡ None → Declares d it → MayBeDeclared caps c it
+      may_declare none (decls.Kernel number limits) (item.Kernel kernel) e is = kernel_may number limits kernel e is
+      may_declare none (decls.Space number kernel) (item.Space space) e is = space_may number kernel space e is
+      may_declare none (decls.Thread number space pc priority a0 a1) (item.Thread thread) e is = thread_may number space pc priority a0 a1 thread e is
+      may_declare none (decls.Map space vpn frame flags receiver) (item.Mapping row) e is = subst (λ (r : Row). MayBeDeclared caps c (item.Mapping r)) (sym is)
+          (row_may space vpn frame flags receiver (λ absent some fit r other there content flag same. contains_nothing r (subst (λ (rs : List Resident). Contains rs r) none there)) e)
+      may_declare none d it e is = absurd is
 
 -- ---- the first kernel
 

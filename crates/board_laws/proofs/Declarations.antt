@@ -34,7 +34,7 @@ fits : (s : FlatState) (d : Decl) → broken_rule s d ≡ None → applied s (De
 fits s d none = ap (λ (o : Option ℕ). unwrap_or (declared_unless o s d) s) none
 
 -- what it declares comes behind the others of its kind
-new_declared : (s : FlatState) (d : Decl) (it : Item) → Declares d it → with_new s it ≡ declared s d
+pub new_declared : (s : FlatState) (d : Decl) (it : Item) → Declares d it → with_new s it ≡ declared s d
 unfolding declared
 new_declared s (decls.Kernel number limits) (item.Kernel kernel) is = ap (λ (k : FlatKernel). record s { kernels = s.kernels ++ k ∷ [] }) is.1
 new_declared s (decls.Space number kernel) (item.Space space) is = ap (λ (k : KernelNo). record s { spaces = s.spaces ++ k ∷ [] }) is.1

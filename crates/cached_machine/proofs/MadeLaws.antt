@@ -50,7 +50,7 @@ use Rattle.board_laws.specs.Moves.{Declares, KeepsLoaded}
 use Rattle.cached_machine.specs.Cached.{is_loaded, state_of, Cached, IsSoundMachine}
 use Rattle.cached_machine.specs.Moved.{IsMade, KeepsBeside, OnlyRoom}
 use Rattle.cached_machine.specs.Posts.{last_in, last_of, mark_in, HasSameMarks, OnlyLoadedAreOut}
-use Rattle.cached_machine.proofs.AdmitLaws.{new_declared}
+use Rattle.board_laws.proofs.Declarations.{new_declared}
 use Rattle.cached_machine.proofs.AlikeLaws.{same_out}
 
 -- ---- beside the state

@@ -29,7 +29,8 @@ use Rattle.board_laws.specs.desc_tables.specs.Tables.{Held}
 use Rattle.cached_machine.specs.Cached.{state_of, Cached, IsSoundMachine}
 use Rattle.cached_machine.specs.Moved.{IsMade}
 use Rattle.cached_machine.specs.Posts.{OnlyLoadedAreOut}
-use Rattle.cached_machine.proofs.AdmitLaws.{next_thread, thread_may}
+use Rattle.board_laws.proofs.Admitted.{thread_may}
+use Rattle.cached_machine.proofs.AdmitLaws.{next_thread}
 use Rattle.cached_machine.proofs.MadeLaws.{beside_onward, put_made, put_out, put_state, room_beside, room_sound, room_state, thread_made}
 
 -- a new thread, and what is shown of it

@@ -7,7 +7,8 @@ use Rattle.board_laws.specs.desc_tables.specs.Tables.{Held}
 use Rattle.cached_machine.specs.Cached.{state_of, Cached}
 use Rattle.cached_machine.specs.Moved.{IsMade, MayBeMade, OnlyRoom}
 use Rattle.cached_machine.specs.contracts.machine.CachedMachine.{the_view}
-use Rattle.cached_machine.proofs.AdmitLaws.{kernel_may, no_locks_are}
+use Rattle.board_laws.proofs.Admitted.{kernel_may}
+use Rattle.cached_machine.proofs.AdmitLaws.{no_locks_are}
 use Rattle.cached_machine.proofs.MadeLaws.{on_err, put_made, put_out, put_state, room_only, room_sound, kernel_made}
 use Rattle.cached_machine.proofs.machine.CachedMachine.declare_kernel.Goals as goal
 

@@ -6,7 +6,7 @@ use Rattle.board_laws.specs.desc_tables.specs.Tables.{Held}
 use Rattle.cached_machine.specs.Cached.{Cached}
 use Rattle.cached_machine.specs.Moved.{IsMade, MayBeMade, OnlyRoom}
 use Rattle.cached_machine.specs.contracts.machine.CachedMachine.{the_view}
-use Rattle.cached_machine.proofs.AdmitLaws.{row_may}
+use Rattle.cached_machine.proofs.AdmitLaws.{good_row_may}
 use Rattle.cached_machine.proofs.MadeLaws.{on_err, put_made, put_out, put_state, room_only, room_sound, row_made}
 use Rattle.cached_machine.proofs.machine.CachedMachine.declare_row.Goals as goal
 
@@ -15,7 +15,7 @@ declare-requires c =
     let i = c.self.inside in
     let a = c.args in
     let may = subst (MayBeMade (decls.Map a.space a.vpn a.frame a.flags a.receiver)) (sym c.self.view_is) c.requires in
-    row_may i.machine i.memory i.tables.contents c.known.ensures.one i.tables.caps c.self.invariant.0.caps c.self.invariant.0.formed a.space a.vpn a.frame a.flags a.receiver may.good may.fits
+    good_row_may i.machine i.memory i.tables.contents c.known.ensures.one a.space a.vpn a.frame a.flags a.receiver may.good i.tables.caps c.self.invariant.0.caps c.self.invariant.0.formed may.fits
 
 pub invariant_of-self : goal.invariant_of-self
 invariant_of-self c =
@@ -37,7 +37,7 @@ invariant_of-self-2 c =
     let it = item.Mapping (new_row a.space a.vpn a.frame a.flags a.receiver) in
     let h = c.declare.new.self in
     let may = subst (MayBeMade d) (sym c.self.view_is) c.requires in
-    let absent = (row_may i.machine i.memory i.tables.contents c.known.ensures.one i.tables.caps c.self.invariant.0.caps c.self.invariant.0.formed a.space a.vpn a.frame a.flags a.receiver may.good may.fits).absent in
+    let absent = (good_row_may i.machine i.memory i.tables.contents c.known.ensures.one a.space a.vpn a.frame a.flags a.receiver may.good i.tables.caps c.self.invariant.0.caps c.self.invariant.0.formed may.fits).absent in
     let state = put_state i.machine i.memory i.tables h i.sets i.sets c.declare.ensures.rest d it refl c.in_ok-declare.ensures.shows in (
       row_made (the_view i) (record { machine = i.machine; memory = i.memory; held = h; sets = i.sets }) i.granted refl (ap (λ (x : Held). x.caps) c.declare.ensures.rest) c.self.invariant.0 a.space a.vpn a.frame a.flags a.receiver may.fits state c.self.invariant.0.sets,
       put_out i.machine i.memory i.tables h i.sets i.sets c.declare.ensures.rest d it c.declare.ensures.residents c.declare.ensures.issued c.in_ok-declare.ensures.contents absent refl refl c.self.invariant.1,
@@ -51,7 +51,7 @@ returns-clause-ok c =
     let it = item.Mapping (new_row a.space a.vpn a.frame a.flags a.receiver) in
     let h = c.declare.new.self in
     let may = subst (MayBeMade d) (sym c.self.view_is) c.requires in
-    let absent = (row_may i.machine i.memory i.tables.contents c.known.ensures.one i.tables.caps c.self.invariant.0.caps c.self.invariant.0.formed a.space a.vpn a.frame a.flags a.receiver may.good may.fits).absent in
+    let absent = (good_row_may i.machine i.memory i.tables.contents c.known.ensures.one a.space a.vpn a.frame a.flags a.receiver may.good i.tables.caps c.self.invariant.0.caps c.self.invariant.0.formed may.fits).absent in
     let state = put_state i.machine i.memory i.tables h i.sets i.sets c.declare.ensures.rest d it refl c.in_ok-declare.ensures.shows in
     subst (λ (m : Cached). IsMade d m (record { machine = i.machine; memory = i.memory; held = h; sets = i.sets })) c.self.view_is
     (put_made i.machine i.memory i.tables h i.sets i.sets c.declare.ensures.rest d it c.declare.ensures.residents c.declare.ensures.issued c.in_ok-declare.ensures.contents absent refl refl c.declare.ensures.spare state)

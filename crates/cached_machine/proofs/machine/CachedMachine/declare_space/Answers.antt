@@ -5,7 +5,7 @@ use Rattle.board_laws.specs.desc_tables.specs.Tables.{Held}
 use Rattle.cached_machine.specs.Cached.{Cached}
 use Rattle.cached_machine.specs.Moved.{IsMade, MayBeMade, OnlyRoom}
 use Rattle.cached_machine.specs.contracts.machine.CachedMachine.{the_view}
-use Rattle.cached_machine.proofs.AdmitLaws.{space_may}
+use Rattle.board_laws.proofs.Admitted.{space_may}
 use Rattle.cached_machine.proofs.MadeLaws.{on_err, put_made, put_out, put_state, room_only, room_sound, space_made}
 use Rattle.cached_machine.proofs.machine.CachedMachine.declare_space.Goals as goal
 
