@@ -10,5 +10,6 @@ pub use Rattle.desc_tables.specs.store_residents
 pub use Rattle.desc_tables.specs.run_journal
 pub use Rattle.quantum.specs.flat_laws
 pub use Rattle.quantum.specs.depend_lists
+pub use Rattle.quantum.specs.page_views
 pub mod Telling
 pub mod Moves

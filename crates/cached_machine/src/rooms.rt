@@ -5,7 +5,7 @@ ghost use Rattle.cache_ident.specs.declared.idents.Ident.{Ident};
 ghost use Rattle.board_laws.specs.depend_lists.specs.declared.nodes.Node.{Node};
 ghost use Rattle.board_laws.specs.depend_lists.specs.Pairs.{count_of};
 ghost use Rattle.phys_groups.specs.Memory.{page_at, with_page, HasFrame};
-ghost use Rattle.board_laws.specs.quantum.specs.page_views.specs.Parts.{AreAlikeBut, IsWithinPage};
+ghost use Rattle.board_laws.specs.page_views.specs.Parts.{AreAlikeBut, IsWithinPage};
 ghost use Rattle.board_laws.specs.desc_groups.specs.Moves.{HasPlaces};
 ghost use Rattle.board_laws.specs.desc_stores.specs.Changes.{room_of};
 ghost use Rattle.board_laws.specs.desc_stores.specs.Contents.{residents_of};
