@@ -1,21 +1,16 @@
 -- Who waits for a processor, slot by slot, and who of these is chosen.
-use Rattle.std.proofs.Common.{◌≡◌, ◌↔◌, ℕ, ◌+◌, ◌<◌, ◌≤◌, Bool, true, false, not, ◌&&◌, List, [], ◌∷◌, ◌++◌, length, map, get_or, Contains, Option, Some, None, IfSome, IfNone, Bor, refl, sym, ap, ap₂, ◌∙◌, subst, inl, inr, arith, below_more, slice_get, ◌⊎◌}
+use Rattle.std.proofs.Common.{◌≡◌, ◌↔◌, ℕ, ◌+◌, ◌<◌, ◌≤◌, Bool, true, false, not, ◌&&◌, List, [], ◌∷◌, ◌++◌, length, get_or, Contains, Option, Some, None, IfSome, IfNone, refl, sym, ap, ap₂, ◌∙◌, subst, inl, inr, arith, below_more, slice_get, ◌⊎◌}
 use Rattle.std.specs.Option.{is_some, option_map}
 use Rattle.std.specs.Cmp.{IsStrictWeakOrder}
 use Rattle.std.specs.List.Sorted.{IsPermutation, IsSortedBy}
-use Rattle.std.specs.Iterator.{Yields, YieldsFirstRef}
 use Rattle.std.proofs.lemmas.Bool.{cases_lt}
 use Rattle.std.proofs.lemmas.Bool.Decides.{nat_tests}
-use Rattle.std.proofs.lemmas.Iterator.Consumers.{YieldsList-end, YieldsList-from_first, YieldsList-turn}
 use Rattle.std.proofs.lemmas.List.{get_or_default}
 use Rattle.std.proofs.lemmas.List.Elements.{Contains-append_left, Contains-push, Contains-push_cases}
 use Rattle.std.proofs.lemmas.List.Sorted.{sorted_far, Contains-permutation, IsPermutation-sym}
-use Rattle.cache_ident.specs.declared.idents.Ident.{Ident}
-use Rattle.cache_ident.specs.declared.idents.Kind.{Kind}
 use Rattle.cache_ident.specs.declared.idents.Kind.TheVariants as kind
 use Rattle.cache_ident.specs.declared.names.Name.TheVariants as name
 use Rattle.cache_ident.specs.declared.names.ThreadNo.{ThreadNo}
-use Rattle.cache_ident.specs.Names.{kind_of}
 use Rattle.cache_ident.specs.Residents.{Resident, IsNameResident}
 use Rattle.cache_ident.proofs.Numbers.{same_thread}
 use Rattle.number_set.specs.First.{IsFirst}
@@ -23,25 +18,23 @@ use Rattle.rv32_exec.specs.declared.statuses.Status.TheVariants.{Ready}
 use Rattle.flat_state.specs.declared.records.FlatThread.{FlatThread}
 use Rattle.flat_state.specs.Signals.{full_receiver, is_runnable}
 use Rattle.flat_state.specs.State.{is_ready}
-use Rattle.flat_state.specs.WellFormed.{IsWellFormed}
 use Rattle.slot_cache.specs.declared.loaded.Loaded.{Loaded}
-use Rattle.slot_cache.specs.Cells.{cell_at, loaded_in, HasExactlyLoaded}
+use Rattle.slot_cache.specs.Cells.{cell_at, HasExactlyLoaded}
 use Rattle.thread_cache.specs.Threads as thread_rec
 use Rattle.thread_cache.specs.declared.ThreadRec.{ThreadRec}
 use Rattle.board_checks.specs.desc_stores.specs.declared.items.Item.TheVariants as item
 use Rattle.board_checks.specs.desc_stores.specs.Contents.{content_of, resident_of, residents_of}
 use Rattle.board_checks.specs.desc_stores.specs.Sound.{IsExactlyOne}
-use Rattle.board_checks.specs.desc_stores.proofs.PutLemmas.{loaded_content}
 use Rattle.board_checks.specs.shown_state.proofs.ContentLemmas.{item_has_name}
 use Rattle.board_checks.specs.shown_state.specs.Found.{AreFound}
-use Rattle.board_checks.specs.shown_state.specs.Shown.{flat_thread, shown, thread_of}
-use Rattle.board_core.specs.store_residents.specs.Slots.{resident_at}
-use Rattle.board_core.specs.store_residents.proofs.ResidentLemmas.{resident_kind, resident_seat, seat_resident}
+use Rattle.board_checks.specs.shown_state.specs.Shown.{flat_thread, thread_of}
+use Rattle.board_core.specs.store_residents.proofs.ResidentLemmas.{seat_resident}
 use Rattle.board_core.specs.thread_sets.specs.SetsOf.{takes_steps}
 use Rattle.ready_queue.specs.declared.Candidate.{Candidate}
 use Rattle.ready_queue.specs.Choice.{is_before}
-use Rattle.board_core.specs.cached_machine.specs.Cached.{state_of, Cached}
+use Rattle.board_core.specs.cached_machine.specs.Cached.{state_of}
 use Rattle.board_core.specs.cached_machine.specs.Posts.{last_in, last_of, mark_in}
+use Rattle.board_core.specs.cached_machine.proofs.OutLaws.{resident_slot, slot_content}
 use Rattle.board_core.specs.Core.{contents_of, Recorded}
 use Rattle.board_core.proofs.CheckLaws.{ready_is}
 use Rattle.board_threads.specs.Tests.{goes_on, is_ready_at, passes}
@@ -165,31 +158,18 @@ module _ (b : Recorded) (one : IsExactlyOne (contents_of b)) (found : AreFound (
     unfolding its
     is_resident = seat_resident (contents_of b) one.sound kind.Thread l.ident.slot its (ap (option_map (resident_of thread_rec.name_of)) there)
 
-    its_content : content_of (contents_of b) (name.Thread l.value.no) ≡ Some (item.Thread l.value)
-    its_content = ap (option_map item.Thread) (loaded_content thread_rec.name_of kind.Thread (contents_of b).threads one.threads l.ident.slot l there (name.Thread l.value.no) refl)
-
     -- if a loaded one is free, it is so on the board
     pub free_there : is_free l.value ≡ true → IsFree takes_steps b (candidate_of l.value)
     unfolding its
-    free_there = free_if_loaded l.value.no l.value its_content (its, is_resident, refl)
+    free_there = free_if_loaded l.value.no l.value (slot_content (contents_of b) one l there) (its, is_resident, refl)
 
   -- a free one on the board is one of the loaded threads
   pub free_here : (c : Candidate) → IsFree takes_steps b c → (l : Loaded ThreadRec) × (cell_at (contents_of b).threads.cells l.ident.slot ≡ Some l) × (is_free l.value ≡ true) × (candidate_of l.value ≡ c)
   free_here c free =
-      let r = free.loaded.0 in
-      let of_thread : r.ident.kind ≡ kind.Thread = resident_kind (contents_of b) one.sound r free.loaded.1 ∙ ap kind_of free.loaded.2 in
-      let seat = subst (λ (k : Kind). resident_at (contents_of b) k r.ident.slot ≡ Some r) of_thread (resident_seat (contents_of b) r free.loaded.1) in
-      let cell = mapped_back (cell_at (contents_of b).threads.cells r.ident.slot) r seat in
-      let l = cell.0 in
-      let there : cell_at (contents_of b).threads.cells l.ident.slot ≡ Some l = ap (λ (i : Ident). cell_at (contents_of b).threads.cells i.slot) (ap (λ (x : Resident). x.ident) cell.2) ∙ cell.1 in
-      let named : name.Thread l.value.no ≡ name.Thread c.no = ap (λ (x : Resident). x.name) cell.2 ∙ free.loaded.2 in
-      let number : c.no ≡ l.value.no = cc in
-      let is = free_is_this l.value.no l.value (its_content l there) c number free in
-      (l, there, is.0, is.1)
-    where
-      mapped_back : (o : Option (Loaded ThreadRec)) (r : Resident) → option_map (resident_of thread_rec.name_of) o ≡ Some r → (l : Loaded ThreadRec) × (o ≡ Some l) × (resident_of thread_rec.name_of l ≡ r)
-      mapped_back None r is = absurd (cc)
-      mapped_back (Some l) r is = (l, refl, (cc))
+      let at = resident_slot (contents_of b) one c.no free.loaded in
+      let l = at.0 in
+      let is = free_is_this l.value.no l.value (slot_content (contents_of b) one l at.1) c (sym at.2) free in
+      (l, at.1, is.0, is.1)
 
   -- those among all that is loaded are those on the board
   pub free_iff : (list : List (Loaded ThreadRec)) → HasExactlyLoaded (contents_of b).threads.cells list → (c : Candidate) → IsFreeAmong list c ↔ IsFree takes_steps b c
@@ -256,17 +236,6 @@ module _ (list : List (Loaded ThreadRec)) (l : Loaded ThreadRec) where
     | inr last ↦ inr last.1
   ]) first now is
 
--- ---- the loaded threads, one after another
-
-module _ (all start : List (Loaded ThreadRec)) (are : start ≡ all) (gone : List (Bor (Loaded ThreadRec))) (left : List (Loaded ThreadRec)) (yielded : Yields (YieldsFirstRef (λ (left : List (Loaded ThreadRec)). left)) start gone left) (item : Option (Bor (Loaded ThreadRec))) (rest : List (Loaded ThreadRec)) (next : YieldsFirstRef (λ (left : List (Loaded ThreadRec)). left) left item rest) where
-  -- as long as one comes not all are gone
-  pub fewer_gone : (l : Bor (Loaded ThreadRec)) → item ≡ Some l → length gone < length all
-  fewer_gone l is = (YieldsList-turn (YieldsList-from_first (λ (x : Bor (Loaded ThreadRec)). x.now) (λ left. left) all are) gone left yielded item rest l is next).0
-
-  -- and in the end all are
-  pub all_gone : item ≡ None → map (λ (x : Bor (Loaded ThreadRec)). x.now) gone ≡ all
-  all_gone none = (YieldsList-end (YieldsList-from_first (λ (x : Bor (Loaded ThreadRec)). x.now) (λ left. left) all are) gone left yielded item rest none next).0
-
 -- ---- the ready threads, one after another
 
 -- the candidate is a free one whose number is below
@@ -311,17 +280,6 @@ module _ (b : Recorded) (from : ℕ) where
           | inl was ↦ inl was
           | inr same ↦ inr (free_alone b this c (named ∙ sym same) free is.1)
         ])
-
--- no more are loaded than there are slots
-pub few_loaded : (cells : List (Option (Loaded ThreadRec))) → length (loaded_in cells) ≤ length cells
-few_loaded [] = omega arith
-few_loaded (None ∷ cells) = let few = few_loaded cells in omega arith
-few_loaded (Some l ∷ cells) = let few = few_loaded cells in omega arith
-
--- of which there are 256 at most
-pub few_slots : (m : Cached) → IsWellFormed (state_of m) → m.machine.caps.threads ≤ 256
-unfolding shown
-few_slots m formed = formed.memory.caps.threads
 
 -- ---- who is chosen
 

@@ -10,7 +10,7 @@ use Rattle.cache_ident.specs.declared.idents.Kind.TheVariants as kind
 use Rattle.cache_ident.specs.declared.names.Name.TheVariants as name
 use Rattle.cache_ident.specs.declared.names.ThreadNo.{ThreadNo}
 use Rattle.cache_ident.specs.Names.{kind_of}
-use Rattle.cache_ident.specs.Residents.{Resident}
+use Rattle.cache_ident.specs.Residents.{IsNameResident, Resident}
 use Rattle.flat_state.specs.WellFormed.{IsWellFormed}
 use Rattle.thread_cache.specs.slot_cache.specs.declared.loaded.Loaded.{Loaded}
 use Rattle.thread_cache.specs.slot_cache.specs.Cells.{cell_at, loaded_in, HasExactlyLoaded}
@@ -25,7 +25,7 @@ use Rattle.board_laws.specs.shown_state.specs.Shown.{shown}
 use Rattle.board_laws.specs.desc_tables.specs.Tables.{Held}
 use Rattle.board_laws.specs.store_residents.specs.Slots.{resident_at}
 use Rattle.board_laws.specs.store_residents.proofs.ResidentLemmas.{resident_kind, resident_seat}
-use Rattle.cached_machine.specs.Cached.{is_loaded, state_of, Cached}
+use Rattle.cached_machine.specs.Cached.{state_of, Cached}
 use Rattle.cached_machine.specs.Posts.{mark_in, mark_of, AreBackFrom, OnlyLoadedAreOut}
 use Rattle.cached_machine.proofs.LoadedLaws.{loaded_by}
 use Rattle.cached_machine.proofs.PostLaws.{loaded_if_out}
@@ -62,40 +62,45 @@ module _ (list : List (Loaded ThreadRec)) (l : Loaded ThreadRec) (out : List Thr
     only = λ no there. let was = are.only no there in (was.0, Contains-append_left list (l ∷ []) was.0 was.1, was.2);
   }
 
-module _ (c : Contents) (one : IsExactlyOne c) (list : List (Loaded ThreadRec)) (exact : HasExactlyLoaded c.threads.cells list) (out : List ThreadNo) (are : AreOut list out) where
-  -- what stands in a slot has the content of its name
-  its_content : (l : Loaded ThreadRec) → Contains list l → content_of c (name.Thread l.value.no) ≡ Some (item.Thread l.value)
-  its_content l there = ap (option_map item.Thread) (loaded_content thread_rec.name_of kind.Thread c.threads one.threads l.ident.slot l ((exact l).0 there) (name.Thread l.value.no) refl)
+-- ---- slots
 
-  -- a loaded thread is one of them
-  its_load : (whom : ThreadNo) → is_loaded c (name.Thread whom) ≡ true → (l : Loaded ThreadRec) × Contains list l × (l.value.no ≡ whom)
-  its_load whom loaded =
-      let r = loaded_by (residents_of c) (name.Thread whom) loaded in
-      let of_thread : r.0.ident.kind ≡ kind.Thread = resident_kind c one.sound r.0 r.1 ∙ ap kind_of r.2 in
-      let seat = subst (λ (k : Kind). resident_at c k r.0.ident.slot ≡ Some r.0) of_thread (resident_seat c r.0 r.1) in
-      let cell = mapped_back (cell_at c.threads.cells r.0.ident.slot) r.0 seat in
+module _ (c : Contents) (one : IsExactlyOne c) where
+  -- what stands in a slot has the content of its name
+  pub slot_content : (l : Loaded ThreadRec) → cell_at c.threads.cells l.ident.slot ≡ Some l → content_of c (name.Thread l.value.no) ≡ Some (item.Thread l.value)
+  slot_content l there = ap (option_map item.Thread) (loaded_content thread_rec.name_of kind.Thread c.threads one.threads l.ident.slot l there (name.Thread l.value.no) refl)
+
+  -- a loaded thread stands in one
+  pub resident_slot : (whom : ThreadNo) → IsNameResident (residents_of c) (name.Thread whom) → (l : Loaded ThreadRec) × (cell_at c.threads.cells l.ident.slot ≡ Some l) × (l.value.no ≡ whom)
+  resident_slot whom loaded =
+      let r = loaded.0 in
+      let of_thread : r.ident.kind ≡ kind.Thread = resident_kind c one.sound r loaded.1 ∙ ap kind_of loaded.2 in
+      let seat = subst (λ (k : Kind). resident_at c k r.ident.slot ≡ Some r) of_thread (resident_seat c r loaded.1) in
+      let cell = mapped_back (cell_at c.threads.cells r.ident.slot) r seat in
       let l = cell.0 in
       let there : cell_at c.threads.cells l.ident.slot ≡ Some l = ap (λ (i : Ident). cell_at c.threads.cells i.slot) (ap (λ (x : Resident). x.ident) cell.2) ∙ cell.1 in
-      let named : name.Thread l.value.no ≡ name.Thread whom = ap (λ (x : Resident). x.name) cell.2 ∙ r.2 in
+      let named : name.Thread l.value.no ≡ name.Thread whom = ap (λ (x : Resident). x.name) cell.2 ∙ loaded.2 in
       let number : l.value.no ≡ whom = cc in
-      (l, (exact l).1 there, number)
+      (l, there, number)
     where
       mapped_back : (o : Option (Loaded ThreadRec)) (r : Resident) → option_map (resident_of thread_rec.name_of) o ≡ Some r → (l : Loaded ThreadRec) × (o ≡ Some l) × (resident_of thread_rec.name_of l ≡ r)
       mapped_back None r is = absurd (cc)
       mapped_back (Some l) r is = (l, refl, (cc))
 
-  -- so where only loaded threads are on processors the list has each that is
+-- ---- the list of all that are on a processor
+
+module _ (c : Contents) (one : IsExactlyOne c) (list : List (Loaded ThreadRec)) (exact : HasExactlyLoaded c.threads.cells list) (out : List ThreadNo) (are : AreOut list out) where
+  -- where only loaded threads are on processors the list has each that is
   pub all_out : OnlyLoadedAreOut c → (whom : ThreadNo) → IsSome (mark_of c whom) → Contains out whom
   all_out only whom some =
-      let its = its_load whom (loaded_if_out c whom only some) in
-      let content = subst (λ (n : ThreadNo). content_of c (name.Thread n) ≡ Some (item.Thread its.0.value)) its.2 (its_content its.0 its.1) in
-      subst (Contains out) its.2 (are.all its.0 its.1 (subst (λ (o : Option ℕ). IsSome o) (ap mark_in content) some))
+      let its = resident_slot c one whom (loaded_by (residents_of c) (name.Thread whom) (loaded_if_out c whom only some)) in
+      let content = subst (λ (n : ThreadNo). content_of c (name.Thread n) ≡ Some (item.Thread its.0.value)) its.2 (slot_content c one its.0 its.1) in
+      subst (Contains out) its.2 (are.all its.0 ((exact its.0).1 its.1) (subst (λ (o : Option ℕ). IsSome o) (ap mark_in content) some))
 
   -- and each in the list stands
   pub out_stand : (whom : ThreadNo) → Contains out whom → IsSome (content_of c (name.Thread whom))
   out_stand whom there =
       let its = are.only whom there in
-      subst (λ (n : ThreadNo). IsSome (content_of c (name.Thread n))) its.2 (ap is_some (its_content its.0 its.1))
+      subst (λ (n : ThreadNo). IsSome (content_of c (name.Thread n))) its.2 (ap is_some (slot_content c one its.0 ((exact its.0).0 its.1)))
 
 -- ---- the loaded threads, one after another
 

@@ -6,8 +6,9 @@ use Rattle.slot_cache.specs.Cells.{HasExactlyLoaded}
 use Rattle.thread_cache.specs.declared.ThreadRec.{ThreadRec}
 use Rattle.board_checks.specs.desc_tables.specs.Tables.{Held}
 use Rattle.board_core.specs.cached_machine.specs.Cached.{Cached}
+use Rattle.board_core.specs.cached_machine.proofs.OutLaws.{all_gone, fewer_gone, few_loaded, few_slots}
 use Rattle.board_threads.specs.Waiting.{candidate_of}
-use Rattle.board_threads.proofs.CandidateLemmas.{all_gone, fewer_gone, few_loaded, few_slots, free_among_all, none_more, one_more, AreThose}
+use Rattle.board_threads.proofs.CandidateLemmas.{free_among_all, none_more, one_more, AreThose}
 use Rattle.board_threads.proofs.checkouts.candidates.Goals as goal
 
 pub loop-loaded-init : goal.loop-loaded-init

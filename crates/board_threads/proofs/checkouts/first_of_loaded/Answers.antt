@@ -6,8 +6,9 @@ use Rattle.thread_cache.specs.declared.ThreadRec.{ThreadRec}
 use Rattle.ready_queue.specs.declared.Candidate.{Candidate}
 use Rattle.board_checks.specs.desc_tables.specs.Tables.{Held}
 use Rattle.board_core.specs.cached_machine.specs.Cached.{Cached}
+use Rattle.board_core.specs.cached_machine.proofs.OutLaws.{all_gone}
 use Rattle.board_threads.specs.Waiting.{IsEarlier, IsFirstAmong}
-use Rattle.board_threads.proofs.CandidateLemmas.{all_gone, first_of_all, first_or_this, first_stays}
+use Rattle.board_threads.proofs.CandidateLemmas.{first_of_all, first_or_this, first_stays}
 use Rattle.board_threads.proofs.checkouts.first_of_loaded.Goals as goal
 
 pub loop-loaded-init : goal.loop-loaded-init
