@@ -1,5 +1,5 @@
 -- What is left where threads come away from their processors, one after another.
-use Rattle.std.proofs.Common.{◌≡◌, ◌≢◌, ℕ, ◌+◌, ◌<◌, List, [], ◌∷◌, ◌++◌, Contains, None, IsSome, length, map, get_or, take, refl, sym, ◌∙◌, ap, subst, inl, inr}
+use Rattle.std.proofs.Common.{◌≡◌, ℕ, ◌+◌, ◌<◌, List, [], ◌∷◌, ◌++◌, Contains, None, IsSome, length, map, get_or, take, sym, ◌∙◌, ap, subst, inl, inr}
 use Rattle.std.proofs.lemmas.List.Elements.{Contains-append_left, Contains-append_right, Contains-push_cases}
 use Rattle.std.proofs.lemmas.List.{map-append, take_more}
 use Rattle.std.proofs.lemmas.Option.{slice_get-get_or}
@@ -13,30 +13,10 @@ use Rattle.board_laws.specs.desc_stores.specs.Contents.{content_of}
 use Rattle.board_laws.specs.desc_tables.specs.Tables.{Held}
 use Rattle.cached_machine.specs.declared.posts.Post.TheVariants.{In}
 use Rattle.cached_machine.specs.Posts.{mark_in, AreBackFrom, IsPosted}
-use Rattle.cached_machine.proofs.PostLaws.{here_after, in_lasts, only_itself, only_onward, others_after, stand_after}
-
--- nothing left
-pub none_back : (h : Held) → AreBackFrom [] h h
-none_back h = record {
-  only = only_itself h;
-  back = λ whom among. absurd (contains_nothing (name.Thread whom) among);
-  others = λ whom. inr refl;
-  lasts = λ whom. refl;
-  stand = λ whom stood. stood;
-}
+use Rattle.cached_machine.proofs.PostLaws.{here_after, in_lasts, only_onward, others_after, stand_after}
 
 only_one : (a b : Name) → Contains (a ∷ []) b → a ≡ b
 only_one a b among = elim (Contains-cases a [] b among) [ inl same ↦ same | inr behind ↦ absurd (contains_nothing b behind) ]
-
--- no thread left
-pub no_thread : (n : Name) (h : Held) → ((whom : ThreadNo) → n ≢ name.Thread whom) → AreBackFrom (n ∷ []) h h
-no_thread n h other = record {
-  only = only_itself h;
-  back = λ whom among. absurd (other whom (only_one n (name.Thread whom) among));
-  others = λ whom. inr refl;
-  lasts = λ whom. refl;
-  stand = λ whom stood. stood;
-}
 
 -- a thread left
 pub one_back : (h h' : Held) (whom : ThreadNo) → IsPosted In h h' whom → AreBackFrom (name.Thread whom ∷ []) h h'
@@ -91,12 +71,9 @@ module _ (left xs : List Name) (i : ℕ) (d : Name) (a b : Held) (same : xs ≡ 
 
 -- ---- by numbers
 
-module _ (nos : List ThreadNo) (i : ℕ) (d : ThreadNo) (a b : Held) (low : i < length nos) (before : AreBackFrom (map name.Thread (take i nos)) a b) where
-  pub next_no_stands : ((whom : ThreadNo) → Contains nos whom → IsSome (content_of a.contents (name.Thread whom))) → IsSome (content_of b.contents (name.Thread (get_or nos i d)))
-  next_no_stands stands = before.stand (get_or nos i d) (stands (get_or nos i d) (Contains-from_get nos i (get_or nos i d) (slice_get-get_or nos i d low)))
-
-  pub next_no_back : (c : Held) → IsPosted In b c (get_or nos i d) → AreBackFrom (map name.Thread (take (i + 1) nos)) a c
-  next_no_back c now =
-      let split = ap (map name.Thread) (take_more nos i d low) ∙ map-append name.Thread (take i nos) (get_or nos i d ∷ []) in
-      subst (λ (all : List Name). AreBackFrom all a c) (sym split)
-      (more_back (map name.Thread (take i nos)) (name.Thread (get_or nos i d)) a b c before (one_back b c (get_or nos i d) now))
+-- the next one comes away
+pub next_no_back : (nos : List ThreadNo) (i : ℕ) (d : ThreadNo) (a b c : Held) → i < length nos → AreBackFrom (map name.Thread (take i nos)) a b → IsPosted In b c (get_or nos i d) → AreBackFrom (map name.Thread (take (i + 1) nos)) a c
+next_no_back nos i d a b c low before now =
+    let split = ap (map name.Thread) (take_more nos i d low) ∙ map-append name.Thread (take i nos) (get_or nos i d ∷ []) in
+    subst (λ (all : List Name). AreBackFrom all a c) (sym split)
+    (more_back (map name.Thread (take i nos)) (name.Thread (get_or nos i d)) a b c before (one_back b c (get_or nos i d) now))

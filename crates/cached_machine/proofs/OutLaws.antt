@@ -16,7 +16,7 @@ use Rattle.thread_cache.specs.slot_cache.specs.declared.loaded.Loaded.{Loaded}
 use Rattle.thread_cache.specs.slot_cache.specs.Cells.{cell_at, loaded_in, HasExactlyLoaded}
 use Rattle.thread_cache.specs.Threads as thread_rec
 use Rattle.thread_cache.specs.declared.ThreadRec.{ThreadRec}
-use Rattle.board_laws.specs.flat_laws.proofs.Members.{contains_nothing, Contains-map}
+use Rattle.board_laws.specs.flat_laws.proofs.Members.{Contains-map}
 use Rattle.board_laws.specs.desc_stores.specs.declared.items.Item.TheVariants as item
 use Rattle.board_laws.specs.desc_stores.specs.Contents.{content_of, resident_of, residents_of, Contents}
 use Rattle.board_laws.specs.desc_stores.specs.Sound.{IsExactlyOne}
@@ -34,9 +34,6 @@ use Rattle.cached_machine.proofs.PostLaws.{loaded_if_out}
 pub record AreOut (list : List (Loaded ThreadRec)) (out : List ThreadNo) : Type 0 where
   pub all : (l : Loaded ThreadRec) → Contains list l → IsSome l.value.on_cpu → Contains out l.value.no
   pub only : (no : ThreadNo) → Contains out no → (l : Loaded ThreadRec) × Contains list l × (l.value.no ≡ no)
-
-pub none_out : AreOut [] []
-none_out = record { all = λ l there some. absurd (contains_nothing l there); only = λ no there. absurd (contains_nothing no there) }
 
 module _ (list : List (Loaded ThreadRec)) (l : Loaded ThreadRec) (out : List ThreadNo) (are : AreOut list out) where
   -- the next one is on a processor

@@ -68,8 +68,8 @@ pub(crate) fn bring_back(tables: &mut Tables, nos: &[ThreadNo])
     requires { (no : ThreadNo) → Contains nos.now no → IsSome (content_of tables.old.contents (Name.Thread no)) }
     ensures { AreBackFrom (map Name.Thread nos.now) tables.old tables.new }
 {
-    for i in 0..nos.len() {
-        send(tables, nos[i], None, Post::In);
+    for no in nos {
+        send(tables, *no, None, Post::In);
     }
 }
 
