@@ -159,17 +159,7 @@ fewer_out h h' whom is out other absent = elim (cases_name (name.Thread whom) (n
   | inr apart ↦ ap mark_in (others_after In h h' whom is (name.Thread other) apart) ∙ out other (sym (loaded_after In h h' whom is (name.Thread other)) ∙ absent)
 ]
 
--- ---- nothing else changed
-
-pub only_itself : (h : Held) → OnlyPosts h h
-only_itself h = record {
-  rest = refl;
-  shows = λ machine memory. refl;
-  loaded = record { residents = refl; issued = refl };
-  spare = refl;
-  room = refl;
-}
-
+-- nothing else changed, move after move
 pub only_onward : (a b c : Held) → OnlyPosts a b → OnlyPosts b c → OnlyPosts a c
 only_onward a b c first second = record {
   rest = second.rest ∙ ap (λ (h : Held). let x : Held = record h { contents = c.contents } in x) first.rest;
