@@ -1,4 +1,4 @@
-//! The cache of kernels.
+//! The record of a kernel.
 #![tactic(auto)]
 
 ghost use Rattle.std.specs.Prelude.{◌≡◌};

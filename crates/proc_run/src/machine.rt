@@ -316,7 +316,8 @@ fn due<R: Threads + Wait + Sync, S: Source, G: Gate + Sync>(
 /// that aren't taken the usage line. All text is made before the first write.
 ///
 /// It costs the steps, each of them the logarithm of the rows, a pass over the threads for each entry of the journal,
-/// and memory for the scenario, the machine, one entry for every 256 steps and each thread call, and the text.
+/// and memory for the scenario, the machine, the journal and the text. A quantum is one entry of the journal, and so is a completed call.
+/// At worst each step is healed: then there are some 43 entries for each, with those for what is loaded and what leaves.
 /// Where there are several processors each of them tells the gate where it stands. They wait for the board, and no clause says that
 /// they end. One alone takes no lock, and starts no thread.
 pub fn run_machine<R: Threads + Wait + Sync, S: Source, W: Sink, G: Gate + Sync>(

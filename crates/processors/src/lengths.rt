@@ -100,7 +100,7 @@ pub(crate) struct Lengths {
 }
 
 impl Lengths {
-    /// All are the shortest.
+    /// All are as long as to begin with.
     pub(crate) fn new() -> Lengths
         ensures { result.of_threads ≡ replicate 16 first_length }
     {

@@ -1,4 +1,4 @@
-//! The cache of spaces.
+//! The record of a space.
 #![tactic(auto)]
 
 ghost use Rattle.std.specs.Prelude.{◌≡◌};

@@ -1,4 +1,4 @@
-//! The cache of threads.
+//! The record of a thread.
 #![tactic(auto)]
 
 ghost use Rattle.std.specs.Prelude.{◌≡◌};
@@ -23,8 +23,7 @@ pub struct ThreadRec {
     pub queue: ArrayVec<u32, 64>,
     /// What the thread has put out.
     pub output: Output,
-    /// The processor that has checked the thread out. It counts only while the thread is loaded: once it has left, no processor
-    /// has it, whatever stands here.
+    /// The processor that has checked the thread out. A thread that isn't loaded has none.
     pub on_cpu: Option<u32>,
     /// The number of the thread's last checkout, 0 before the first.
     pub last: u64,
