@@ -6,7 +6,7 @@ ghost use Rattle.signal_pages.specs.Signals.{address_of, is_signal_row_of, is_si
 
 use arrayvec::ArrayVec;
 use cache_ident::{Frame, ThreadNo, Vpn};
-use phys_groups::Row;
+use phys_groups::{PAGE_BYTES, Row};
 
 /// How many addresses a thread's queue holds.
 pub const QUEUE_ADDRESSES: usize = 64;
@@ -27,7 +27,7 @@ pub fn address(vpn: Vpn, offset: u32) -> u32
     requires signalling { is_signalling offset ≡ true }
     ensures { result ≡ address_of vpn offset }
 {
-    vpn.0 * 4_096 + (offset - 60)
+    vpn.0 * PAGE_BYTES + (offset - 60)
 }
 
 /// Who receives the signals of a frame, each with the page of its row: the frame's fit rows that have
