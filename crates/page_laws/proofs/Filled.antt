@@ -17,7 +17,7 @@ use Rattle.reach_laws.specs.flat_state.specs.declared.records.FlatThread.{FlatTh
 use Rattle.reach_laws.specs.flat_state.specs.NextSteps.{fetch_row}
 use Rattle.reach_laws.specs.flat_state.specs.State.{FlatState}
 use Rattle.reach_laws.specs.flat_state.specs.Translation.{is_fit_row, rights_of}
-use Rattle.reach_laws.specs.board_calls.specs.flat_laws.proofs.ShortChains.{goes_through, own_row, IsThrough}
+use Rattle.reach_laws.specs.flat_laws.proofs.ShortChains.{goes_through, own_row, IsThrough}
 use Rattle.reach_laws.specs.desc_stores.specs.Contents.{residents_of, Contents}
 use Rattle.reach_laws.specs.desc_parents.specs.Idents as idents
 use Rattle.reach_laws.specs.desc_parents.specs.Seen.{seen}

@@ -10,6 +10,7 @@ pub use Rattle.board_calls.specs.board_checks
 pub use Rattle.board_calls.specs.desc_parents
 pub use Rattle.board_calls.specs.shown_state
 pub use Rattle.board_calls.specs.board_ops
+pub use Rattle.board_calls.specs.flat_laws
 pub use Rattle.board_calls.specs.flat_state
 pub use Rattle.board_calls.specs.desc_stores
 pub mod Reaching

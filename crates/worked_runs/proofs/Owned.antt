@@ -4,9 +4,9 @@ use Rattle.run_journal.specs.declared.entries.Entry.{Entry}
 use Rattle.run_journal.specs.Legal.{IsLegal}
 use Rattle.alone_run.specs.board_core.specs.Core.{Recorded}
 use Rattle.alone_run.specs.board_core.specs.Going.{IsOneEvent}
-use Rattle.alone_run.specs.board_turns.specs.owners.specs.Known.{Known}
-use Rattle.alone_run.specs.board_turns.specs.owners.specs.Owning.{AreOwnersOf}
-use Rattle.alone_run.specs.board_turns.specs.owners.proofs.Learning.{still_owners}
+use Rattle.alone_run.specs.owners.specs.Known.{Known}
+use Rattle.alone_run.specs.owners.specs.Owning.{AreOwnersOf}
+use Rattle.alone_run.specs.owners.proofs.Learning.{still_owners}
 use Rattle.worked_runs.specs.Owned.{HasOwners}
 
 pub owned_on : (cpu : ℕ) (old new : Recorded) (known : Known) → IsOneEvent cpu old new → HasOwners old known → HasOwners new known

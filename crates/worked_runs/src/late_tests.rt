@@ -1,7 +1,7 @@
 //! Steps are committed too late: their thread was unloaded meanwhile. The run goes on behind that.
 
 ghost use Rattle.alone_run.specs.board_commits.specs.Tickets.{AreOfTicket};
-ghost use Rattle.alone_run.specs.board_turns.specs.owners.specs.Known.{Known};
+ghost use Rattle.alone_run.specs.owners.specs.Known.{Known};
 ghost use Rattle.worked_runs.specs.Owned.{HasOwners};
 
 use crate::scenes::{CODE, FIRST, REPORT, Scene, THREAD, load_thread, opened, report_of};

@@ -6,7 +6,7 @@ ghost use Rattle.flat_state.specs.declared.events.Decl.TheVariants as declaratio
 ghost use Rattle.flat_state.specs.declared.events.Machine.{Machine};
 ghost use Rattle.flat_state.specs.Events.{AllFit};
 ghost use Rattle.flat_state.specs.State.{nothing_declared};
-ghost use Rattle.alone_run.specs.board_turns.specs.owners.specs.Known.{Known};
+ghost use Rattle.alone_run.specs.owners.specs.Known.{Known};
 ghost use Rattle.worked_runs.specs.Owned.{HasOwners};
 
 use board_opening::board_of;

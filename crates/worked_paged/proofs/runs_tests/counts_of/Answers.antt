@@ -1,6 +1,6 @@
 use Rattle.std.proofs.Common.{drop, sym, subst}
-use Rattle.paged_run.specs.flat_machine.specs.flat_state.specs.State.{nothing_declared}
-use Rattle.paged_run.specs.flat_machine.specs.flat_state.specs.Events.{AllFit}
+use Rattle.flat_rules.specs.flat_state.specs.State.{nothing_declared}
+use Rattle.flat_rules.specs.flat_state.specs.Events.{AllFit}
 use Rattle.paged_run.specs.flat_machine.proofs.DeclareSound.{machine_rules}
 use Rattle.paged_run.proofs.Opened.{machine_alone, machine_fits}
 use Rattle.worked_paged.proofs.runs_tests.counts_of.Goals as goal
