@@ -122,9 +122,9 @@ fn load(core: &mut Core, cpu: u32, checked: Result<Loadable, Refused>) -> Result
     ensures loaded { IfOk result (λ ident. IfOk checked (λ found. IsLoadedAs cpu found.name ident core.old core.new)) }
     ensures enough { HasCallRoom core.old → IfErr result (λ why. why ≢ NoMemory) }
 {
-    let _ = core.tables();
+    core.holds();
     core.make_room(1, 0)?;
-    let _ = core.tables();
+    core.holds();
     let found = checked?;
     Ok(core.load(cpu, found.name, found.keep.as_slice()))
 }

@@ -31,8 +31,7 @@ pub(crate) fn known(core: &Core)
 {
     core.holds();
     core.machine().holds();
-    let _ = core.machine().tables();
-    core.machine().tables_are_sound();
+    core.machine().tables().are_sound();
 }
 
 // Whether there is such a thread and its next step can be taken. `near` may be the identifier that it is loaded with.
@@ -83,6 +82,7 @@ pub(crate) fn next_ready(core: &Core, from: u32) -> Option<ThreadNo>
     ensures small { IfSome result (λ no. no.0 < 2 ^ 32 - 1) }
 {
     let sets = core.machine().sets();
+    // There are fewer than 2 ^ 32 threads.
     let _ = sets.len();
     let number = sets.next_ready(from)?;
     Some(ThreadNo(number))
