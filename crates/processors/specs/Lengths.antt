@@ -1,5 +1,5 @@
 -- How long quanta are where several processors share a board.
-use Rattle.std.specs.Prelude.{ℕ, ◌*◌, ◌%◌, ◌&&◌, Bool, false, not, List, Option, Some, None, min, nat_le, if◌then◌else◌, slice_index_or, slice_set}
+use Rattle.std.specs.Prelude.{ℕ, ◌*◌, ◌%◌, ◌&&◌, ◌||◌, ◌==◌, Bool, false, not, List, Option, Some, None, min, nat_le, if◌then◌else◌, slice_index_or, slice_set}
 use Rattle.cache_ident.specs.declared.names.ThreadNo.{ThreadNo}
 use Rattle.alone_run.specs.board_turns.specs.Paces.{must_bring, Beat}
 use Rattle.alone_run.specs.board_turns.specs.declared.found.Found.{Found}
@@ -36,6 +36,6 @@ abbrev pub lengths_after : List Length → Option ThreadNo → Ran → Bool → 
 lengths_after lengths (Some whom) ran committed = slice_set lengths (whom.0 % 16) (length_after (slice_index_or lengths (whom.0 % 16) first_length) ran committed)
 lengths_after lengths None ran committed = lengths
 
--- of which thread a turn ran a quantum: one that had to bring something ran none
-abbrev pub ran_by : Beat → Option ThreadNo → Option ThreadNo
-ran_by beat runner = if must_bring beat then None else runner
+-- of which thread a turn ran a quantum that took a step: one that had to bring something ran none
+abbrev pub ran_by : Beat → Option ThreadNo → Ran → Option ThreadNo
+ran_by beat runner ran = if must_bring beat || ran.steps == 0 then None else runner

@@ -39,13 +39,17 @@ impl Course {
     /// A turn was taken for this thread, or for none, that left the processor at `pace`. Where it ran a quantum, that came to `ran`; and it
     /// brought something, or nothing. Behind one whose thread waits, time passes.
     pub(crate) fn go_on(&mut self, runner: Option<ThreadNo>, pace: Pace, ran: Ran, brought: bool)
-        ensures lengths { self.new.lengths.of_threads ≡ lengths_after self.old.lengths.of_threads (ran_by (beat_of self.old.pace) runner) ran brought }
+        ensures lengths { self.new.lengths.of_threads ≡ lengths_after self.old.lengths.of_threads (ran_by (beat_of self.old.pace) runner ran) ran brought }
         ensures pace { (beat_of self.new.pace ≡ beat_of pace) ⊎ (beat_of self.new.pace ≡ paced true (beat_of self.old.pace)) }
     {
-        // A turn that has to bring something runs no quantum.
-        let runner = if self.pace.must_bring() { None } else { runner };
+        // A turn that has to bring something runs no quantum, and one of no steps says nothing of its thread: its first page wasn't there.
+        let runner = if self.pace.must_bring() || ran.steps == 0 {
+            None
+        } else {
+            runner
+        };
         self.lengths.note(runner, ran, brought);
-        let refused = runner.is_some() && ran.steps > 0 && !brought;
+        let refused = runner.is_some() && !brought;
         self.refusals = if refused {
             self.refusals.saturating_add(1)
         } else {
