@@ -36,7 +36,7 @@ pub fn unload(core: &mut Core, cpu: u32, caller: Ident, ident: Ident) -> Result<
 ///
 /// It is refused where `caller` isn't the identifier of a loaded kernel (`Unknown`, `Stale`, `WrongKind`), where nothing is loaded
 /// with `ident` (`Unknown`, `Stale`), where another kernel owns that (`NotOwner`), and where it isn't locked and its owner has as
-/// many locked of the kind as it may have (`LimitReached`). It costs some searches.
+/// many locked of the kind as it may have (`LimitReached`). It costs a logarithm of what is loaded.
 pub fn lock(core: &mut Core, cpu: u32, caller: Ident, ident: Ident) -> Result<(), Refused>
     requires processor { cpu < 8 }
     ensures refused { IfErr result (IsRefused (refusal_of_lock (contents_of core.old) caller ident) core.old core.new) }

@@ -248,7 +248,7 @@ impl Board {
     }
 
     /// Locks what is loaded with an identifier, so that it doesn't leave for a load but as a dependent, unless its owner has
-    /// locked as many as it may (`LimitReached`). What is locked stays so, without an entry.
+    /// locked as many as it may (`LimitReached`). What is locked stays so, without an entry. It costs a logarithm of what is loaded.
     pub fn lock(&mut self, cpu: u32, caller: Ident, ident: Ident) -> Result<(), Refused>
         requires processor { cpu < 8 }
         ensures refused { IfErr result (IsRefused (refusal_of_lock (contents_of self.old) caller ident) self.old self.new) }
